@@ -1,0 +1,40 @@
+-- A name in lower case is a name still.
+use Rattle.std.proofs.Common.{◌≡◌, ℕ, List, [], ◌∷◌, refl, ap, arith, bytes_eq}
+use Rattle.std.specs.List.{list_any, list_all}
+use Rattle.std.specs.Char.{is_ascii_alphabetic, to_ascii_lowercase}
+use Rattle.std.proofs.lemmas.List.{length-map}
+use Rattle.std.proofs.lemmas.Bool.Decides.{nat_tests}
+use Rattle.std.proofs.lemmas.Str.Ascii.{lowercase-lowercase}
+use Rattle.hippo_values.specs.Names.{keywords, unsupported_words, folded, is_among, is_word_byte, begins_with_letter, is_name}
+
+is_ascii_alphabetic-lowercase : (b : ℕ) → is_ascii_alphabetic (to_ascii_lowercase b) ≡ is_ascii_alphabetic b
+is_ascii_alphabetic-lowercase b = grind (arith, nat_tests)
+
+is_word_byte-lowercase : (b : ℕ) → is_word_byte (to_ascii_lowercase b) ≡ is_word_byte b
+is_word_byte-lowercase b = grind (arith, nat_tests)
+
+pub folded-folded : (word : List ℕ) → folded (folded word) ≡ folded word
+folded-folded [] = refl
+folded-folded (b ∷ bs) = rw (lowercase-lowercase b, folded-folded bs)
+
+all_word_bytes-folded : (word : List ℕ) → list_all is_word_byte (folded word) ≡ list_all is_word_byte word
+all_word_bytes-folded [] = refl
+all_word_bytes-folded (b ∷ bs) = rw (is_word_byte-lowercase b, all_word_bytes-folded bs)
+
+begins_with_letter-folded : (word : List ℕ) → begins_with_letter (folded word) ≡ begins_with_letter word
+begins_with_letter-folded [] = refl
+begins_with_letter-folded (b ∷ bs) = is_ascii_alphabetic-lowercase b
+
+is_among-folded : (words : List (List ℕ)) (word : List ℕ) → is_among words (folded word) ≡ is_among words word
+is_among-folded words word = ap (λ w. list_any (λ known. bytes_eq (folded known) w) words) (folded-folded word)
+
+-- A word in lower case is a name just where the word is.
+pub is_name-folded : (word : List ℕ) → is_name (folded word) ≡ is_name word
+is_name-folded word =
+    cc (
+      begins_with_letter-folded word,
+      all_word_bytes-folded word,
+      length-map word to_ascii_lowercase,
+      is_among-folded keywords word,
+      is_among-folded unsupported_words word,
+    )

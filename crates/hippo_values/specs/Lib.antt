@@ -1,0 +1,4 @@
+pub mod Moments
+pub mod Names
+pub mod Truths
+pub mod formers

@@ -1,0 +1,53 @@
+-- SQL's three truth values, and what a comparison of two values says.
+use Rattle.std.specs.Prelude.{Bool, true, false}
+use Rattle.std.specs.Ordering.{is_eq, is_ne, is_lt, is_le, is_gt, is_ge, int_cmp, nat_cmp}
+use Rattle.std.specs.declared.cmp.Ordering.{Ordering}
+use Rattle.std.specs.Cmp.Lexicographic.{slice_cmp}
+use Rattle.hippo_values.specs.declared.truths.Truth.{Truth}
+use Rattle.hippo_values.specs.declared.truths.Truth.TheVariants.{False, Unknown, True}
+use Rattle.hippo_values.specs.declared.truths.CompareOp.{CompareOp}
+use Rattle.hippo_values.specs.declared.truths.CompareOp.TheVariants.{Eq, Ne, Lt, Le, Gt, Ge}
+use Rattle.hippo_values.specs.declared.values.Value.{Value}
+use Rattle.hippo_values.specs.declared.values.Value.TheVariants.{Int, Text, Day}
+
+-- AND is the least in the order false, unknown, true
+abbrev pub truth_and : Truth → Truth → Truth
+truth_and False b = False
+truth_and Unknown False = False
+truth_and Unknown Unknown = Unknown
+truth_and Unknown True = Unknown
+truth_and True b = b
+
+-- OR is the greatest
+abbrev pub truth_or : Truth → Truth → Truth
+truth_or False b = b
+truth_or Unknown False = Unknown
+truth_or Unknown Unknown = Unknown
+truth_or Unknown True = True
+truth_or True b = True
+
+-- NOT unknown is unknown
+abbrev pub truth_not : Truth → Truth
+truth_not False = True
+truth_not Unknown = Unknown
+truth_not True = False
+
+abbrev pub truth_of : Bool → Truth
+truth_of false = False
+truth_of true = True
+
+-- whether a comparison holds of two values that stand in this order
+abbrev pub is_allowed : CompareOp → Ordering → Bool
+is_allowed Eq order = is_eq order
+is_allowed Ne order = is_ne order
+is_allowed Lt order = is_lt order
+is_allowed Le order = is_le order
+is_allowed Gt order = is_gt order
+is_allowed Ge order = is_ge order
+
+-- what a comparison of two values says: unknown where one is null or their kinds differ
+abbrev pub comparison : CompareOp → Value → Value → Truth
+comparison op (Int a) (Int b) = truth_of (is_allowed op (int_cmp a b))
+comparison op (Text a) (Text b) = truth_of (is_allowed op (slice_cmp nat_cmp a b))
+comparison op (Day a) (Day b) = truth_of (is_allowed op (int_cmp a b))
+comparison op a b = Unknown

@@ -1,0 +1,18 @@
+//! Values, names, texts and moments, and the lists that hold them.
+#![tactic(auto)]
+
+mod memory;
+mod moments;
+mod names;
+mod sequence;
+mod texts;
+mod truths;
+mod values;
+
+pub use memory::{Duplicate, Memory};
+pub use moments::{DayNumber, Moment};
+pub use names::{Name, is_keyword, is_name, is_unsupported_word};
+pub use sequence::Sequence;
+pub use texts::Txt;
+pub use truths::{CompareOp, Truth, compare, truth_and, truth_not, truth_or};
+pub use values::Value;

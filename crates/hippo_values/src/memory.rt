@@ -1,0 +1,40 @@
+ghost use Rattle.std.specs.Prelude.{◌≡◌, IfOk};
+
+use std::alloc::{AllocError, AllocFailed, Global};
+
+/// Want of memory: the allocator refused.
+#[derive(Clone, Copy, Debug, PartialEq, Eq)]
+pub struct Memory;
+
+impl From<AllocError> for Memory {
+    fn from(_refused: AllocError) -> Memory {
+        Memory
+    }
+}
+
+impl<T: Drop> From<AllocFailed<T>> for Memory {
+    fn from(_refused: AllocFailed<T>) -> Memory {
+        Memory
+    }
+}
+
+/// A value that can be copied where memory allows.
+pub trait Duplicate {
+    /// An equal value with memory of its own.
+    fn copy(&self, alloc: Global) -> Result<Self, Memory>
+    where
+        Self: Sized,
+        ensures { IfOk result (λ made. made ≡ self.now) };
+}
+
+impl Duplicate for u64 {
+    fn copy(&self, _alloc: Global) -> Result<u64, Memory> {
+        Ok(*self)
+    }
+}
+
+impl Duplicate for usize {
+    fn copy(&self, _alloc: Global) -> Result<usize, Memory> {
+        Ok(*self)
+    }
+}

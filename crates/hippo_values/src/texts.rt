@@ -1,0 +1,122 @@
+ghost use Rattle.std.specs.Prelude.{◌≡◌, [], ◌++◌, length, nat_eq, refl, string_bytes, Some, IfOk, OnOk, OnErr};
+ghost use Rattle.std.specs.Ordering.{nat_cmp};
+ghost use Rattle.std.specs.Cmp.{partial_equiv_from_equiv};
+ghost use Rattle.std.specs.Cmp.Lexicographic.{pointwise, slice_cmp, nat_list_eq_equiv, nat_list_cmp_total, texts_ties, texts_po};
+
+use crate::memory::{Duplicate, Memory};
+use std::alloc::Global;
+use std::cmp::Ordering;
+use std::marker::Model;
+
+/// A text that contracts see as the list of its bytes.
+#[derive(Debug, Drop)]
+pub struct Txt {
+    text: String,
+}
+
+impl Model for Txt {
+    ghost use Rattle.std.specs.Prelude.{List, ℕ, string_bytes};
+
+    ghost Value = { List ℕ };
+
+    ghost view = { λ txt. string_bytes txt.text };
+}
+
+impl Txt {
+    /// The empty text, which takes no memory.
+    pub fn new(alloc: Global) -> Txt
+        ensures { result ≡ [] }
+    {
+        Txt {
+            text: String::new(alloc),
+        }
+    }
+
+    /// A text with the same bytes.
+    pub fn from_str(alloc: Global, text: &str) -> Result<Txt, Memory>
+        ensures { IfOk result (λ txt. txt ≡ text.now) }
+    {
+        Ok(Txt {
+            text: String::from_str(alloc, text)?,
+        })
+    }
+
+    /// The text of a `String`, in its own memory.
+    pub fn from_string(text: String) -> Txt
+        ensures { result ≡ string_bytes text }
+    {
+        Txt { text }
+    }
+
+    pub fn as_str(&self) -> &str
+        ensures { result.now ≡ self.now }
+    {
+        self.text.as_str()
+    }
+
+    pub fn len(&self) -> usize
+        ensures { result ≡ length self.now }
+    {
+        self.text.len()
+    }
+
+    /// Adds the bytes of `text` at the end.
+    pub fn append(&mut self, text: &str) -> Result<(), Memory>
+        ensures ok { OnOk result (self.new ≡ self.old ++ text.now) }
+        ensures err { OnErr result (self.new ≡ self.old) }
+    {
+        self.text.push_str(text)?;
+        Ok(())
+    }
+
+    /// Takes all bytes out; the room stays.
+    pub fn clear(&mut self)
+        ensures { self.new ≡ [] }
+    {
+        self.text.clear();
+    }
+}
+
+impl Duplicate for Txt {
+    fn copy(&self, alloc: Global) -> Result<Txt, Memory> {
+        Txt::from_str(alloc, self.as_str())
+    }
+}
+
+impl PartialEq for Txt {
+    ghost eq = { pointwise nat_eq };
+
+    ghost laws = { partial_equiv_from_equiv nat_list_eq_equiv };
+
+    fn eq(&self, other: &Txt) -> bool {
+        self.as_str() == other.as_str()
+    }
+}
+
+impl Eq for Txt {
+    ghost laws = { nat_list_eq_equiv };
+}
+
+impl PartialOrd for Txt {
+    ghost partial_cmp = { λ x y. Some (slice_cmp nat_cmp x y) };
+
+    ghost laws = { texts_po };
+
+    fn partial_cmp(&self, other: &Txt) -> Option<Ordering> {
+        Some(self.cmp(other))
+    }
+}
+
+impl Ord for Txt {
+    ghost cmp = { slice_cmp nat_cmp };
+
+    ghost total = { nat_list_cmp_total };
+
+    ghost matches_partial_cmp = { λ x y. refl };
+
+    ghost matches_eq = { texts_ties };
+
+    fn cmp(&self, other: &Txt) -> Ordering {
+        self.as_str().cmp(other.as_str())
+    }
+}
