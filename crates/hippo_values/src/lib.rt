@@ -1,6 +1,7 @@
 //! Values, names, texts and moments, and the lists that hold them.
 #![tactic(auto)]
 
+mod boxed;
 mod memory;
 mod moments;
 mod names;
@@ -9,6 +10,7 @@ mod texts;
 mod truths;
 mod values;
 
+pub use boxed::Boxed;
 pub use memory::{Duplicate, Memory};
 pub use moments::{DayNumber, Moment};
 pub use names::{Name, is_keyword, is_name, is_unsupported_word};

@@ -1,0 +1,21 @@
+//! The types of the database and, in `specs/`, what a history of it means.
+#![tactic(auto)]
+
+mod audit;
+mod cells;
+mod entry;
+mod policy;
+mod query;
+mod schema;
+mod statement;
+
+pub use audit::{Audit, Flag, Flags, Pair, Pairs, SharedRow, SharedTuple};
+pub use cells::{Answer, Cell, CellRow, Cells};
+pub use entry::{Act, Entry, History, ItemKind};
+pub use policy::{Authorization, Gate, Gates, RuleAt, RulesInForce, TableRules, Verdict};
+pub use query::{CondOf, Expr, Exprs, Guard, Guards, Masked, Operand, Operands, Query, Ref, Refs};
+pub use schema::{Column, ColumnKind, Columns, Names, Places, Schema, Schemas};
+pub use statement::{
+    RawAudit, RawColumn, RawColumns, RawCond, RawItem, RawItems, RawOperand, RawSelect, Stmt,
+    Wanted,
+};

@@ -1,0 +1,56 @@
+use crate::schema::Places;
+use hippo_values::{Name, Sequence};
+
+/// The last rule on a cell for a purpose and recipient, as of some entry number.
+#[derive(Clone, Copy, Debug, PartialEq, Eq)]
+pub enum RuleAt<'a> {
+    /// No rule ever named the cell.
+    Unnamed,
+    /// Allowed by this entry.
+    Always(u64),
+    /// Allowed by this entry, as the patient's choice on an item says.
+    With {
+        rule: u64,
+        item: &'a Name,
+        opt_in: bool,
+    },
+    /// Revoked by this entry.
+    Revoked(u64),
+}
+
+/// Whether a user may ask for a purpose and recipient.
+#[derive(Clone, Copy, Debug, PartialEq, Eq)]
+pub enum Authorization {
+    Yes,
+    /// Not authorized, by the last entry that says so, or 0 where none speaks of the user.
+    No(u64),
+}
+
+/// Whether a cell is shown, or which rule denies it (0 where no rule names the cell).
+#[derive(Clone, Copy, Debug, PartialEq, Eq)]
+pub enum Verdict {
+    Shown,
+    Denied(u64),
+}
+
+/// What decides whether the cells of a column are shown.
+#[derive(Debug, Drop, PartialEq, Eq)]
+pub enum Gate {
+    Always,
+    Never(u64),
+    With { rule: u64, item: Name, opt_in: bool },
+}
+
+pub type Gates = Sequence<Gate>;
+
+/// The rules of one table for a purpose and recipient, at some entry number.
+#[derive(Debug, Drop, PartialEq, Eq)]
+pub struct TableRules {
+    /// One for each column.
+    pub gates: Gates,
+    pub key: Places,
+    pub subject: Option<usize>,
+}
+
+/// One for each table of the list that was asked.
+pub type RulesInForce = Sequence<TableRules>;

@@ -1,0 +1,150 @@
+use crate::audit::Pairs;
+use crate::cells::Cells;
+use crate::entry::{Act, ItemKind};
+use crate::query::CondOf;
+use crate::schema::{Columns, Names, Places};
+use hippo_values::{Name, Sequence, Txt, Value};
+
+/// A column as it is written, with its table or without.
+#[derive(Debug, Drop, PartialEq, Eq)]
+pub struct RawColumn {
+    pub table: Option<Name>,
+    pub column: Name,
+}
+
+pub type RawColumns = Sequence<RawColumn>;
+
+#[derive(Debug, Drop, PartialEq, Eq)]
+pub enum RawOperand {
+    Column(RawColumn),
+    Literal(Value),
+}
+
+pub type RawCond = CondOf<RawOperand>;
+
+/// An item of a select list, as it is written.
+#[derive(Debug, Drop, PartialEq, Eq)]
+pub enum RawItem {
+    All,
+    AllOf(Name),
+    One(RawColumn),
+}
+
+pub type RawItems = Sequence<RawItem>;
+
+/// A select as it is written.
+#[derive(Debug, Drop, PartialEq, Eq)]
+pub struct RawSelect {
+    pub items: RawItems,
+    pub tables: Names,
+    pub cond: RawCond,
+}
+
+/// An audit expression as it is written.
+#[derive(Debug, Drop, PartialEq, Eq)]
+pub struct RawAudit {
+    pub from: Txt,
+    pub to: Txt,
+    pub exempt: Pairs,
+    pub shown: bool,
+    pub columns: RawColumns,
+    pub tables: Names,
+    pub cond: RawCond,
+}
+
+/// A statement as it is written; its lists are in the text's order.
+#[derive(Debug, Drop, PartialEq, Eq)]
+pub enum Stmt {
+    CreateTable {
+        table: Name,
+        columns: Columns,
+        key: Names,
+        subject: Option<Name>,
+    },
+    CreatePurpose(Name),
+    CreateRecipient(Name),
+    CreateItem {
+        item: Name,
+        kind: ItemKind,
+    },
+    Authorize {
+        user: Name,
+        purpose: Name,
+        recipient: Name,
+    },
+    Deauthorize {
+        user: Name,
+        purpose: Name,
+        recipient: Name,
+    },
+    Allow {
+        purpose: Name,
+        recipient: Name,
+        table: Name,
+        columns: Names,
+        item: Option<Name>,
+    },
+    Revoke {
+        purpose: Name,
+        recipient: Name,
+        table: Name,
+        columns: Names,
+    },
+    Choice {
+        subject: i64,
+        item: Name,
+        yes: bool,
+    },
+    Insert {
+        table: Name,
+        values: Cells,
+    },
+    Update {
+        table: Name,
+        columns: Names,
+        values: Cells,
+        key_columns: Names,
+        key_values: Cells,
+    },
+    Delete {
+        table: Name,
+        key_columns: Names,
+        key_values: Cells,
+    },
+    Explain(i64),
+    Audit(RawAudit),
+    BeginAudit(RawAudit),
+    /// A select, and where its text begins and ends.
+    Select {
+        select: RawSelect,
+        start: usize,
+        end: usize,
+    },
+    /// OPEN: a select whose answer is handed out by and by.
+    Ask {
+        select: RawSelect,
+        start: usize,
+        end: usize,
+    },
+}
+
+/// A change that is right by names and types; what it does may still wait for the rows that are there.
+#[derive(Debug, Drop, PartialEq, Eq)]
+pub enum Wanted {
+    Ready(Act),
+    Add {
+        table: Name,
+        row: Cells,
+        key: Cells,
+    },
+    Set {
+        table: Name,
+        key: Cells,
+        places: Places,
+        values: Cells,
+    },
+    Remove {
+        table: Name,
+        key: Cells,
+    },
+}
