@@ -48,7 +48,7 @@ answer_of items condition combinations = map (selected items) (filter (passes co
 -- the view of a table by its name; it is empty where the table is not created
 abbrev pub view_at : List Entry → ℤ → List ℕ → List ℕ → List ℕ → List (List Cell)
 view_at history moment purpose recipient table =
-    option_map_or (view history moment purpose recipient) [] (schema_at history table)
+    option_map_or (view history moment purpose recipient) (schema_at history table) []
 
 -- a query's answer for a purpose and recipient, over the views of its tables
 abbrev pub answer : List Entry → ℤ → List ℕ → List ℕ → Query → List (List Cell)
@@ -58,7 +58,7 @@ answer history moment purpose recipient query =
 -- the rows of a table by its name, with every cell shown
 abbrev pub unmasked_at : List Entry → List ℕ → List (List Cell)
 unmasked_at history table =
-    option_map_or (λ schema. map (map Shown) (table_rows schema history)) [] (schema_at history table)
+    option_map_or (λ schema. map (map Shown) (table_rows schema history)) (schema_at history table) []
 
 -- an audit expression's answer, over unmasked rows
 abbrev pub plain_answer : List Entry → Audit → List (List Cell)

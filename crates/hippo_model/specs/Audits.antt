@@ -31,10 +31,10 @@ common query audit = filter (λ table. list_any (bytes_eq table) query.tables) a
 
 -- the places of a table's key
 abbrev pub key_places : List Entry → List ℕ → List ℕ
-key_places history table = option_map_or (λ schema. schema.key) [] (schema_at history table)
+key_places history table = option_map_or (λ schema. schema.key) (schema_at history table) []
 
 abbrev pub keys_at : List Entry → List ℕ → List (List Value)
-keys_at history table = option_map_or (λ schema. map (key_of schema.key) (table_rows schema history)) [] (schema_at history table)
+keys_at history table = option_map_or (λ schema. map (key_of schema.key) (table_rows schema history)) (schema_at history table) []
 
 -- a virtual tuple is the key of one row of each common table; they stand in the order of the product
 abbrev pub virtual_tuples : List Entry → List (List ℕ) → List (List (List Value))
