@@ -1,0 +1,3 @@
+pub mod Truths
+
+mod Examples
