@@ -1,0 +1,5 @@
+pub mod Cuts
+pub mod World
+pub mod Pushes
+pub mod Forms
+pub mod Requests

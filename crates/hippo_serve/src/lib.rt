@@ -1,0 +1,6 @@
+//! The database as a service of lines: each line of the input is answered before the next is read.
+#![tactic(auto)]
+
+mod columns;
+mod cuts;
+mod requests;
