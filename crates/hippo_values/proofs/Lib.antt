@@ -1,1 +1,4 @@
+mod DateTextLemmas
+mod DatesLemmas
 mod NamesLemmas
+mod OptionLemmas
