@@ -21,7 +21,7 @@ IsDayText-of_date text day y m d has e =
     let same = HasDate-unique day y m d h has in
     (h, rw (same.0, same.1, same.2) e)
 
-two_digits_injective : (m n : ℕ) → m < 100 → n < 100 → two_digits m ≡ two_digits n → m ≡ n
+pub two_digits_injective : (m n : ℕ) → m < 100 → n < 100 → two_digits m ≡ two_digits n → m ≡ n
 two_digits_injective m n hm hn e =
     let tens : 48 + m / 10 ≡ 48 + n / 10 = cc in
     let ones : 48 + m % 10 ≡ 48 + n % 10 = cc in
@@ -75,3 +75,7 @@ no_day-without_date text none day h =
 -- nor is the text of a date that no day has
 pub no_day-of_date : (text : List ℕ) (y m d : ℕ) → AreShort y m d → text ≡ date_text y m d → ((day : ℤ) → ¬ (HasDate day y m d)) → (day : ℤ) → ¬ (IsDayText text day)
 no_day-of_date text y m d short e none day h = none day (HasDate-of_text text day y m d short e h)
+
+-- the digits of a date's parts make its text
+pub date_text-joined : (c y m d : List ℕ) (year month day : ℕ) → c ≡ two_digits (year / 100) → y ≡ two_digits (year % 100) → m ≡ two_digits month → d ≡ two_digits day → get_or c 0 0 ∷ get_or c 1 0 ∷ get_or y 0 0 ∷ get_or y 1 0 ∷ 45 ∷ get_or m 0 0 ∷ get_or m 1 0 ∷ 45 ∷ get_or d 0 0 ∷ get_or d 1 0 ∷ [] ≡ date_text year month day
+date_text-joined c y m d year month day ec ey em ed = rw (ec, ey, em, ed) refl

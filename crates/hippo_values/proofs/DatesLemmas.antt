@@ -3,6 +3,7 @@ use Rattle.std.proofs.Common.{◌≡◌, ℕ, zero, suc, ◌+◌, ◌-◌, ◌<�
 use Rattle.std.proofs.lemmas.Bool.{cases_Bool, cases_order}
 use Rattle.std.proofs.lemmas.Int.{ints}
 use Rattle.jiff_core.specs.declared.civil.date.Date.{Date}
+use Rattle.jiff_core.specs.Date.{epoch_day}
 use Rattle.jiff_core.specs.Calendar.{days_from_civil, days_in_month, day_count, IsCivilDate, IsDate}
 use Rattle.jiff_core.proofs.SignedLemmas.{signed_arith, one_part}
 use Rattle.jiff_core.proofs.MarchLemmas.{day_count-early}
@@ -150,3 +151,12 @@ HasDate-of_civil date y m d low year month day =
       civil = (rw year at date.year_in, rw month at date.month_in, omega (arith, date.day_in));
       number = rw (year, month, day) refl;
     }
+
+-- a date of the calendar with the number of a day has its parts
+pub HasDate-of_number : (date : Date) (day : ℤ) (y : ℕ) → IsDayNumber day → epoch_day date ≡ day → y ≡ unsigned_abs date.year → HasDate day y date.month date.day × (date.year ≡ pos y)
+unfolding as_date
+HasDate-of_number date day y h e same =
+    let own = HasDate-of_day day h in
+    let parts = epoch_day_injective (as_date day _ _ _ own) date (own.number ∙ sym e) in
+    let year : date.year ≡ pos y = omega (arith, signed_arith, one_part date.year) in
+    (rw (← e) (HasDate-of_civil date y _ _ (omega (arith, signed_arith, own.after_zero)) year refl refl), year)

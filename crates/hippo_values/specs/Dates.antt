@@ -43,11 +43,14 @@ four_digits n = two_digits (n / 100) ++ two_digits (n % 100)
 abbrev pub date_text : ℕ → ℕ → ℕ → List ℕ
 date_text year month day = four_digits year ++ codes "-" ++ two_digits month ++ codes "-" ++ two_digits day
 
--- a second of the day as Thh:mm:ssZ
+-- a time of the day as Thh:mm:ssZ
+abbrev pub clock_text : ℕ → ℕ → ℕ → List ℕ
+clock_text hour minute second =
+    codes "T" ++ two_digits hour ++ codes ":" ++ two_digits minute ++ codes ":" ++ two_digits second ++ codes "Z"
+
+-- a second of the day in this form
 unfoldable pub time_text : ℕ → List ℕ
-time_text second =
-    codes "T" ++ two_digits (second / 3600) ++ codes ":" ++ two_digits (second / 60 % 60) ++ codes ":"
-    ++ two_digits (second % 60) ++ codes "Z"
+time_text second = clock_text (second / 3600) (second / 60 % 60) (second % 60)
 
 -- a day as YYYY-MM-DD
 unfoldable pub day_text : ℤ → List ℕ
