@@ -16,11 +16,11 @@ returns-then-hour-gt23-clause-none c =
     let parts = c.in_ok-hour.ensures.some in
     let short : AreShort h m s = record { hour = parts.0; minute = parts.1; second = parts.2 } in
     let none : ¬ (IsTime h m s) = λ t.
-        elim c.then-hour-gt23.branch [
-          | then-hour-gt23-via-then-hour-gt23 w ↦ omega (arith, t.hour)
-          | then-hour-gt23-via-else-hour-gt23+then-minute-gt59 w ↦ omega (arith, t.minute)
-          | then-hour-gt23-via-else-hour-gt23+else-minute-gt59+then-second-gt59 w ↦ omega (arith, t.second)
-        ] in
+    elim c.then-hour-gt23.branch [
+      | then-hour-gt23-via-then-hour-gt23 w ↦ omega (arith, t.hour)
+      | then-hour-gt23-via-else-hour-gt23+then-minute-gt59 w ↦ omega (arith, t.minute)
+      | then-hour-gt23-via-else-hour-gt23+else-minute-gt59+then-second-gt59 w ↦ omega (arith, t.second)
+    ] in
     no_time-of_clock c.args.bytes.now h m s short parts.3 none
 
 pub returns-clause-some : goal.returns-clause-some
