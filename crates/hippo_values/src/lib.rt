@@ -22,3 +22,9 @@ pub use sequence::Sequence;
 pub use texts::Txt;
 pub use truths::{CompareOp, Truth, compare, truth_and, truth_not, truth_or};
 pub use values::Value;
+
+/// Bytes of any kind.
+pub type Bytes = Sequence<u8>;
+
+/// Numbers of calls, counted from 1.
+pub type Calls = Sequence<u64>;

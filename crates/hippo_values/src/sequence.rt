@@ -76,6 +76,17 @@ impl<T> Sequence<T> {
     }
 }
 
+impl<T: Copy> Sequence<T> {
+    /// A list with the same members.
+    pub fn from_slice(alloc: Global, members: &[T]) -> Result<Sequence<T>, Memory>
+        ensures { IfOk result (λ made. made ≡ members.now) }
+    {
+        Ok(Sequence {
+            members: Vec::from_slice(alloc, members)?,
+        })
+    }
+}
+
 impl<T: Drop> Sequence<T> {
     /// Adds a member at the end.
     pub fn push(&mut self, member: T) -> Result<(), Memory>

@@ -1,0 +1,4 @@
+pub mod Adapters
+pub mod Faults
+pub mod Playback
+pub mod Told
