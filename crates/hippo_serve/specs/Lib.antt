@@ -3,3 +3,4 @@ pub mod World
 pub mod Pushes
 pub mod Forms
 pub mod Requests
+pub mod Replies
