@@ -1,32 +1,29 @@
 -- The definitions, computed on small histories. Each example is named by what it shows.
-use Rattle.std.proofs.Common.{◌≡◌, ℕ, ℤ, pos, negsuc, List, [], ◌∷◌, Some, None, true, false, refl, codes, map}
-use Rattle.hippo_values.specs.declared.values.Value.{Value}
+use Rattle.std.proofs.Common.{◌≡◌, ℕ, pos, List, [], ◌∷◌, Some, None, true, false, codes}
 use Rattle.hippo_values.specs.declared.values.Value.TheVariants.{Null, Int, Text}
-use Rattle.hippo_values.specs.declared.truths.CompareOp.TheVariants.{Eq}
 use Rattle.hippo_model.specs.declared.cells.Cell.{Cell}
 use Rattle.hippo_model.specs.declared.cells.Cell.TheVariants.{Shown, Denied}
 use Rattle.hippo_model.specs.declared.schema.Schema.{Schema}
 use Rattle.hippo_model.specs.declared.schema.ColumnKind.TheVariants.{Integer, Text as TextColumn}
 use Rattle.hippo_model.specs.declared.entry.Entry.{Entry}
 use Rattle.hippo_model.specs.declared.entry.Act.{Act}
-use Rattle.hippo_model.specs.declared.entry.Act.TheVariants.{Create, Insert, Allow, Revoke, Asked}
+use Rattle.hippo_model.specs.declared.entry.Act.TheVariants.{Create, Insert, Allow}
 use Rattle.hippo_model.specs.declared.query.Ref.{Ref}
 use Rattle.hippo_model.specs.declared.query.Query.{Query}
-use Rattle.hippo_model.specs.declared.query.Operand.TheVariants.{Column, Literal}
-use Rattle.hippo_model.specs.declared.query.CondOf.TheVariants.{All, Compare, Not}
+use Rattle.hippo_model.specs.declared.query.CondOf.TheVariants.{All}
 use Rattle.hippo_model.specs.Answers.{answer}
 use Rattle.hippo_model.proofs.Truths.{truths}
 
 abbrev patient : Schema
 patient = record {
-    name = codes "patient";
-    columns = record { name = codes "pid"; kind = Integer; not_null = true }
-        ∷ record { name = codes "name"; kind = TextColumn; not_null = false }
-        ∷ record { name = codes "phone"; kind = TextColumn; not_null = false }
-        ∷ record { name = codes "zip"; kind = Integer; not_null = false } ∷ [];
-    key = 0 ∷ [];
-    subject = Some 0;
-  }
+  name = codes "patient";
+  columns = record { name = codes "pid"; kind = Integer; not_null = true }
+      ∷ record { name = codes "name"; kind = TextColumn; not_null = false }
+      ∷ record { name = codes "phone"; kind = TextColumn; not_null = false }
+      ∷ record { name = codes "zip"; kind = Integer; not_null = false } ∷ [];
+  key = 0 ∷ [];
+  subject = Some 0;
+}
 
 abbrev entry : ℕ → Act → Entry
 entry number act = record { seq = number; moment = pos 0; act = act }

@@ -1,3 +1,5 @@
 pub mod Truths
-
+pub mod KeptRows
+pub mod KeyOrder
+pub mod Orders
 mod Examples

@@ -1,11 +1,11 @@
 -- The truth of each kind of condition, by the truths of its parts.
-use Rattle.std.proofs.Common.{◌≡◌, List, map, sym, ap, ◌∙◌, refl}
+use Rattle.std.proofs.Common.{◌≡◌, List, map, sym, ap, ◌∙◌}
 use Rattle.hippo_values.specs.declared.values.Value.{Value}
 use Rattle.hippo_values.specs.declared.truths.Truth.{Truth}
 use Rattle.hippo_values.specs.declared.truths.CompareOp.{CompareOp}
 use Rattle.hippo_values.specs.declared.truths.CompareOp.TheVariants.{Eq, Le, Ge}
 use Rattle.hippo_values.specs.Truths.{truth_and, truth_not, truth_of, comparison}
-use Rattle.hippo_model.specs.declared.query.CondOf.{CondOf, CondOf-F, fold-CondOf, fold-roll-CondOf, roll-CondOf, map-CondOf}
+use Rattle.hippo_model.specs.declared.query.CondOf.{CondOf, CondOf-F, fold-roll-CondOf, roll-CondOf, map-CondOf}
 use Rattle.hippo_model.specs.declared.query.CondOf.TheVariants.{All, Any, Not, Compare, Between, Among, Missing, rolls-All, rolls-Any, rolls-Not, rolls-Compare, rolls-Between, rolls-Among, rolls-Missing}
 use Rattle.hippo_model.specs.declared.query.CondOf.TheOpen as open_
 use Rattle.hippo_model.specs.Conditions.{least, greatest, is_null, truth_step, truth}

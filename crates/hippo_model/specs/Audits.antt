@@ -1,13 +1,12 @@
 -- Which queries an audit flags, and by which shared tuple (after the indispensable tuples of Agrawal and others, Auditing
 -- Compliance with a Hippocratic Database, VLDB 2004; that answers are compared as bags, and that the audit looks at
 -- unmasked rows, is this project's own).
-use Rattle.std.specs.Prelude.{ℕ, ℤ, Bool, true, false, not, ◌&&◌, List, [], ◌∷◌, map, filter, filter_map, find, slice_index_or, nat_eq, Option, Some, None, is_some, option_map, option_and_then, bytes_eq}
-use Rattle.std.specs.List.{list_any, list_all, position_or_len, enumerate_from, zip}
+use Rattle.std.specs.Prelude.{ℕ, ℤ, Bool, not, ◌&&◌, List, [], map, filter, find, slice_index_or, Option, None, is_some, option_map, option_and_then, bytes_eq}
+use Rattle.std.specs.List.{list_any, list_all, position_or_len, zip}
 use Rattle.std.specs.Prelude.{int_le}
 use Rattle.std.specs.Option.{option_map_or}
 use Rattle.hippo_values.specs.declared.values.Value.{Value}
 use Rattle.hippo_model.specs.declared.cells.Cell.{Cell}
-use Rattle.hippo_model.specs.declared.schema.Schema.{Schema}
 use Rattle.hippo_model.specs.declared.entry.Act.{Act}
 use Rattle.hippo_model.specs.declared.entry.Act.TheVariants.{Asked}
 use Rattle.hippo_model.specs.declared.entry.Entry.{Entry}
@@ -16,11 +15,10 @@ use Rattle.hippo_model.specs.declared.query.Operand.{Operand}
 use Rattle.hippo_model.specs.declared.query.Query.{Query}
 use Rattle.hippo_model.specs.declared.query.Ref.{Ref}
 use Rattle.hippo_model.specs.declared.audit.Audit.{Audit}
-use Rattle.hippo_model.specs.declared.audit.Pair.{Pair}
 use Rattle.hippo_model.specs.declared.audit.SharedRow.{SharedRow}
 use Rattle.hippo_model.specs.Values.{same_cells}
 use Rattle.hippo_model.specs.Histories.{said, before_entry, schema_at}
-use Rattle.hippo_model.specs.Rows.{cell_at, key_of, table_rows}
+use Rattle.hippo_model.specs.Rows.{key_of, table_rows}
 use Rattle.hippo_model.specs.Answers.{product, value_in, answer_of, view_at, unmasked_at}
 use Rattle.hippo_model.specs.Bags.{same_bag}
 use Rattle.hippo_model.specs.Columns.{names_all}

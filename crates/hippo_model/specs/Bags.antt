@@ -1,5 +1,5 @@
 -- Answers compared as bags: the same rows, each as often.
-use Rattle.std.specs.Prelude.{ℕ, Bool, false, ◌&&◌, ◌==◌, List, ◌++◌, count_by, nat_eq}
+use Rattle.std.specs.Prelude.{ℕ, Bool, false, ◌==◌, List, ◌++◌, count_by}
 use Rattle.std.specs.List.{list_all}
 use Rattle.std.specs.Ordering.{is_eq}
 use Rattle.std.specs.Cmp.Lexicographic.{pointwise}

@@ -1,5 +1,5 @@
 -- Rules, choices and authorizations: the last word of the history on each.
-use Rattle.std.specs.Prelude.{ℕ, ℤ, Bool, true, false, ◌&&◌, List, Option, Some, None, nat_eq, unwrap_or, bytes_eq}
+use Rattle.std.specs.Prelude.{ℕ, ℤ, Bool, ◌&&◌, List, Option, None, nat_eq, unwrap_or, bytes_eq}
 use Rattle.std.specs.List.{list_any}
 use Rattle.std.specs.Ordering.{int_eq}
 use Rattle.hippo_model.specs.declared.entry.Act.{Act}

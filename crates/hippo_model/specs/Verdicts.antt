@@ -1,6 +1,6 @@
 -- Whether a cell is shown, or which rule denies it (LeFevre and others, Limiting Disclosure in Hippocratic Databases,
 -- VLDB 2004).
-use Rattle.std.specs.Prelude.{ℕ, ℤ, Bool, true, false, List, Option, Some, None, if◌then◌else◌, not, unwrap_or, option_map, option_and_then}
+use Rattle.std.specs.Prelude.{ℕ, ℤ, Bool, true, false, List, Option, Some, None, if◌then◌else◌, unwrap_or, option_map, option_and_then}
 use Rattle.hippo_values.specs.declared.values.Value.{Value}
 use Rattle.hippo_values.specs.declared.values.Value.TheVariants.{Int}
 use Rattle.hippo_model.specs.declared.schema.Schema.{Schema}
