@@ -1,2 +1,3 @@
 mod CutLemmas
 mod ColumnLemmas
+pub mod ListLemmas

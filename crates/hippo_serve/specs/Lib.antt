@@ -4,3 +4,4 @@ pub mod Pushes
 pub mod Forms
 pub mod Requests
 pub mod Replies
+pub mod Clinics

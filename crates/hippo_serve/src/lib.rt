@@ -3,4 +3,5 @@
 
 mod columns;
 mod cuts;
+mod printing;
 mod requests;
