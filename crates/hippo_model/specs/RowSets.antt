@@ -1,5 +1,5 @@
 -- A table's rows as they are kept: in the order of their keys, each with the moment at which it was born.
-use Rattle.std.specs.Prelude.{◌≡◌, ℕ, suc, ℤ, List, [], ◌∷◌, Option, Some, None, option_map, if◌then◌else◌}
+use Rattle.std.specs.Prelude.{◌≡◌, ℕ, suc, ℤ, List, [], ◌∷◌, Option, Some, None, option_map, if◌then◌else◌, find}
 use Rattle.std.specs.Ordering.{match_ordering}
 use Rattle.std.specs.declared.cmp.Ordering.TheVariants.{Less}
 use Rattle.hippo_values.specs.declared.values.Value.{Value}
@@ -57,3 +57,7 @@ without_row key set = record { key = set.key; rows = take_row set.key key set.ro
 abbrev pub find_row : List ℕ → List Value → List (List Value) → Option ℕ
 find_row places key [] = None
 find_row places key (first ∷ rest) = if same_cells (key_of places first) key then Some 0 else option_map suc (find_row places key rest)
+
+-- the row that has a key
+abbrev pub row_with : List ℕ → List Value → List (List Value) → Option (List Value)
+row_with places key rows = find (λ row. same_cells (key_of places row) key) rows
