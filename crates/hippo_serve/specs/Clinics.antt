@@ -11,7 +11,8 @@ use Rattle.hippo_model.specs.Rows.{table_rows}
 use Rattle.hippo_model.specs.Rules.{Rule, allowed, rule_at}
 use Rattle.hippo_model.specs.Views.{cell_by}
 use Rattle.hippo_model.specs.RowSets.{KeyedRows}
-use Rattle.hippo_serve.specs.World.{patient, patient_name, treatment, nurse}
+use Rattle.hippo_serve.specs.declared.world.World.{World}
+use Rattle.hippo_serve.specs.World.{patient, patient_name, treatment, nurse, user_name}
 
 -- the rule of the entry that allows a column; 0 stands for none
 abbrev pub rule_of : ℕ → Option Rule
@@ -46,3 +47,15 @@ all_shown allowing places rows = map (λ row. map (cell_shown allowing row) plac
 abbrev pub rows_shown : List ℕ → List ℕ → List (List Value) → List (List Cell)
 rows_shown allowing places rows =
     if slice_index allowing 0 == 0 then [] else all_shown allowing places rows
+
+-- the names are those of the opening world
+pub record IsWorld (world : World) : Type 0 where
+  pub table : world.table ≡ patient_name
+  pub purpose : world.purpose ≡ treatment
+  pub recipient : world.recipient ≡ nurse
+  pub user : world.user ≡ user_name
+
+-- what a clinic keeps belongs to its history
+pub record IsClinic (world : World) (history : List Entry) (kept : KeyedRows) (allowing : List ℕ) : Type 0 where
+  pub names : IsWorld world
+  pub state : IsKept history kept allowing

@@ -3,5 +3,7 @@
 
 mod columns;
 mod cuts;
+mod entries;
 mod printing;
 mod requests;
+mod world;
