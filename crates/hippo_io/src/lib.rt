@@ -2,6 +2,7 @@
 #![tactic(auto)]
 
 mod counts;
+mod lines;
 mod memory_sink;
 mod memory_source;
 mod sink;
@@ -9,6 +10,7 @@ mod source;
 mod std_sink;
 mod std_source;
 
+pub use lines::{Line, LineFault, LineReader};
 pub use memory_sink::MemorySink;
 pub use memory_source::MemorySource;
 pub use sink::{Sink, write_whole};
