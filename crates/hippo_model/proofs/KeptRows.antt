@@ -1,17 +1,18 @@
 -- Rows that are kept in the order of their keys: what a search finds, and what a put and a take leave.
-use Rattle.std.proofs.Common.{◌≡◌, ℕ, ℤ, zero, suc, ◌+◌, ◌<◌, ◌≤◌, List, [], ◌∷◌, map, length, get_or, set, Some, None, Result, Ok, Err, sym, ap, ◌∙◌, refl, subst, arith}
+use Rattle.std.proofs.Common.{◌≡◌, ℕ, ℤ, zero, suc, ◌+◌, ◌<◌, ◌≤◌, List, [], ◌∷◌, map, length, get_or, set, Option, Some, None, option_map, true, false, if◌then◌else◌, slice_get, IfSome, Result, Ok, Err, sym, ap, ◌∙◌, refl, subst, arith}
+use Rattle.std.specs.Prelude.{option_and_then}
 use Rattle.std.specs.Ordering.{is_lt, ordering_index, ordering_reverse, match_ordering}
 use Rattle.std.specs.declared.cmp.Ordering.{Ordering}
 use Rattle.std.specs.declared.cmp.Ordering.TheVariants.{Less, Equal, Greater}
-use Rattle.std.specs.List.{HoldsAt, insert}
+use Rattle.std.specs.List.{HoldsAt, insert, remove}
 use Rattle.std.specs.List.Sorted.{IsNonDecreasingBy, IsPartitionPoint, IsSearchInRange, IsBinarySearchResult}
 use Rattle.std.specs.Result.{result_ok}
 use Rattle.std.proofs.lemmas.List.Sorted.{searchable_from_sorted}
 use Rattle.hippo_values.specs.declared.values.Value.{Value}
 use Rattle.hippo_model.specs.declared.row_set.BornRow.{BornRow}
-use Rattle.hippo_model.specs.Values.{cells_cmp}
+use Rattle.hippo_model.specs.Values.{cells_cmp, same_cells}
 use Rattle.hippo_model.specs.Rows.{key_of}
-use Rattle.hippo_model.specs.RowSets.{KeyedRows, with_row, IsBelowAll, IsAscending, put_row, find_row}
+use Rattle.hippo_model.specs.RowSets.{KeyedRows, with_row, without_row, IsBelowAll, IsAscending, put_row, take_row, find_row, row_with}
 use Rattle.hippo_model.proofs.Orders.{cells_total, cells_exact}
 
 pub flipped : (a b : List Value) (o : Ordering) → cells_cmp a b ≡ o → cells_cmp b a ≡ ordering_reverse o
@@ -91,6 +92,70 @@ module _ (places : List ℕ) (key : List Value) where
   find_row-missing [] i parted = refl
   find_row-missing (member ∷ kept) zero parted = rw (parted.1 0 member (omega arith) (omega arith), find_row-missing kept zero (λ k d low high. absurd (omega arith), λ k d low high. parted.1 (suc k) d (omega arith) (omega arith)))
   find_row-missing (member ∷ kept) (suc i) parted = rw (parted.0 0 member (omega arith) (omega arith), find_row-missing kept i (λ k d low high. parted.0 (suc k) d (omega arith) (omega arith), λ k d low high. parted.1 (suc k) d (omega arith) (omega arith)))
+
+  pub find_row-range : (rows : List (List Value)) → IfSome (find_row places key rows) (λ place. place < length rows)
+  find_row-range [] = tt
+  find_row-range (first ∷ rest) =
+      elim (same_cells (key_of places first) key) as (λ same. IfSome (if same then Some 0 else option_map suc (find_row places key rest)) (λ place. place < length (first ∷ rest))) [
+        | true ↦ omega arith
+        | false ↦ later (find_row places key rest) (find_row-range rest)
+      ]
+    where
+      later : (found : Option ℕ) → IfSome found (λ place. place < length rest) → IfSome (option_map suc found) (λ place. place < suc (length rest))
+      later None within = tt
+      later (Some place) within = omega arith
+
+  -- the row at the place that is found
+  pub slice_get-find_row : (rows : List (List Value)) → option_and_then (slice_get rows) (find_row places key rows) ≡ row_with places key rows
+  slice_get-find_row [] = refl
+  slice_get-find_row (first ∷ rest) =
+      elim (same_cells (key_of places first) key) as (λ same. option_and_then (slice_get (first ∷ rest)) (if same then Some 0 else option_map suc (find_row places key rest)) ≡ (if same then Some first else row_with places key rest)) [
+        | true ↦ refl
+        | false ↦ later (find_row places key rest) ∙ slice_get-find_row rest
+      ]
+    where
+      later : (found : Option ℕ) → option_and_then (slice_get (first ∷ rest)) (option_map suc found) ≡ option_and_then (slice_get rest) found
+      later None = refl
+      later (Some place) = refl
+
+  IsBelowAll-take : (low : List Value) (rows : List (List Value)) → IsBelowAll low (map (key_of places) rows) → IsBelowAll low (map (key_of places) (take_row places key rows))
+  IsBelowAll-take low [] below = tt
+  IsBelowAll-take low (first ∷ rest) below =
+      elim (same_cells (key_of places first) key) as (λ same. IsBelowAll low (map (key_of places) (if same then rest else first ∷ take_row places key rest))) [
+        | true ↦ below.1
+        | false ↦ (below.0, IsBelowAll-take low rest below.1)
+      ]
+
+  -- a take keeps the order of the keys
+  pub IsAscending-take : (rows : List (List Value)) → IsAscending (map (key_of places) rows) → IsAscending (map (key_of places) (take_row places key rows))
+  IsAscending-take [] ascends = tt
+  IsAscending-take (first ∷ rest) ascends =
+      elim (same_cells (key_of places first) key) as (λ same. IsAscending (map (key_of places) (if same then rest else first ∷ take_row places key rest))) [
+        | true ↦ ascends.1
+        | false ↦ (IsBelowAll-take (key_of places first) rest ascends.0, IsAscending-take rest ascends.1)
+      ]
+
+  -- a take where a search found the row
+  pub without_row-found : (kept : List BornRow) (i : ℕ) → IsAscending (map (key_of places) (rows_of kept)) → i < length kept → HoldsAt (λ member. order_of places key member ≡ Equal) kept i → shown places (remove kept i) ≡ without_row key (shown places kept)
+  without_row-found [] i ascends in_range same = absurd (omega arith)
+  without_row-found (member ∷ kept) zero ascends in_range same = rw (same member)
+  without_row-found (member ∷ kept) (suc i) ascends in_range same =
+      rw (above_before member kept i member ascends (omega arith) (same member))
+      (ap (λ (set : KeyedRows). record { key = places; rows = member.row ∷ set.rows; births = member.born ∷ set.births }) (without_row-found kept i ascends.1 (omega arith) same))
+
+  pub IsAscending-remove : (kept : List BornRow) (i : ℕ) → IsAscending (map (key_of places) (rows_of kept)) → i < length kept → HoldsAt (λ member. order_of places key member ≡ Equal) kept i → IsAscending (map (key_of places) (rows_of (remove kept i)))
+  IsAscending-remove kept i ascends in_range same =
+      subst (λ (set : KeyedRows). IsAscending (map (key_of places) set.rows)) (sym (without_row-found kept i ascends in_range same)) (IsAscending-take (rows_of kept) ascends)
+
+  -- and where it found none
+  pub without_row-missing : (kept : List BornRow) (i : ℕ) → IsPartitionPoint (λ member. order_of places key member ≡ Less) (λ member. order_of places key member ≡ Greater) kept i → shown places kept ≡ without_row key (shown places kept)
+  without_row-missing [] i parted = refl
+  without_row-missing (member ∷ kept) zero parted =
+      rw (parted.1 0 member (omega arith) (omega arith))
+      (ap (λ (set : KeyedRows). record { key = places; rows = member.row ∷ set.rows; births = member.born ∷ set.births }) (without_row-missing kept zero (λ k d low high. absurd (omega arith), λ k d low high. parted.1 (suc k) d (omega arith) (omega arith))))
+  without_row-missing (member ∷ kept) (suc i) parted =
+      rw (parted.0 0 member (omega arith) (omega arith))
+      (ap (λ (set : KeyedRows). record { key = places; rows = member.row ∷ set.rows; births = member.born ∷ set.births }) (without_row-missing kept i (λ k d low high. parted.0 (suc k) d (omega arith) (omega arith), λ k d low high. parted.1 (suc k) d (omega arith) (omega arith))))
 
   pub find_row-searched : (kept : List BornRow) (r : Result ℕ ℕ) → IsAscending (map (key_of places) (rows_of kept)) → IsSearchInRange r (length kept) → IsBinarySearchResult (order_of places key) kept r → find_row places key (rows_of kept) ≡ result_ok r
   find_row-searched kept (Ok i) ascends in_range same = find_row-found kept i ascends in_range same

@@ -1,5 +1,7 @@
 -- The orders of values and of keys: total, and equal at no two different ones.
-use Rattle.std.proofs.Common.{◌≡◌, refl, ap}
+use Rattle.std.proofs.Common.{true, List, ◌≡◌, refl, ap}
+use Rattle.std.specs.Ordering.{is_eq}
+use Rattle.std.specs.declared.cmp.Ordering.TheVariants.{Less, Equal, Greater}
 use Rattle.std.specs.Cmp.{IsTotalOrder}
 use Rattle.std.specs.FinMap.{IsAntisymmetric, slice_cmp-IsAntisymmetric, int_cmp-IsAntisymmetric, nat_cmp-IsAntisymmetric}
 use Rattle.std.proofs.lemmas.Cmp.{lists_total}
@@ -7,7 +9,7 @@ use Rattle.hippo_values.specs.declared.values.Value.{Value}
 use Rattle.hippo_values.specs.declared.values.Value.TheVariants.{Null, Int, Text, Day}
 use Rattle.hippo_values.specs.contracts.values.ValueOrd.TheImpl as derived
 use Rattle.hippo_values.specs.contracts.values.ValueOrd.TheImpl.Laws.{total-law}
-use Rattle.hippo_model.specs.Values.{value_cmp, cells_cmp}
+use Rattle.hippo_model.specs.Values.{value_cmp, cells_cmp, same_cells}
 
 -- the order that is derived for values is the definition's
 value_cmp-derived : (a b : Value) → value_cmp a b ≡ (derived.ghosts).cmp a b
@@ -42,3 +44,11 @@ cells_total = lists_total value_total
 
 pub cells_exact : IsAntisymmetric cells_cmp
 cells_exact = slice_cmp-IsAntisymmetric value_exact
+
+pub same_exact : (a b : List Value) → same_cells a b ≡ true → a ≡ b
+same_exact a b same =
+    elim (cells_cmp a b) as (λ o. cells_cmp a b ≡ o → is_eq o ≡ true → a ≡ b) [
+      | Less ↦ λ e wrong. cc
+      | Equal ↦ λ e right. cells_exact a b e
+      | Greater ↦ λ e wrong. cc
+    ] refl same

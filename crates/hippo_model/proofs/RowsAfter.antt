@@ -1,29 +1,21 @@
 -- The rows of a table after one more entry of the history.
-use Rattle.std.proofs.Common.{◌≡◌, ℕ, Bool, true, false, List, [], ◌∷◌, ◌++◌, map, filter_map, Option, Some, None, option_map, unwrap_or, if◌then◌else◌, ap, ◌∙◌, refl}
+use Rattle.std.proofs.Common.{◌≡◌, ℕ, Bool, true, false, List, [], ◌∷◌, ◌++◌, map, filter_map, Option, Some, None, option_map, unwrap_or, if◌then◌else◌, sym, ap, ◌∙◌, refl}
 use Rattle.std.specs.Prelude.{option_and_then, bytes_eq}
-use Rattle.std.specs.Ordering.{is_eq}
-use Rattle.std.specs.declared.cmp.Ordering.TheVariants.{Less, Equal, Greater}
+use Rattle.std.specs.List.{list_any}
+use Rattle.std.proofs.lemmas.Bool.{or_parts}
 use Rattle.hippo_values.specs.declared.values.Value.{Value}
 use Rattle.hippo_model.specs.declared.schema.Schema.{Schema}
 use Rattle.hippo_model.specs.declared.entry.Act.{Act}
 use Rattle.hippo_model.specs.declared.entry.Act.TheVariants.{Insert, Update, Delete}
 use Rattle.hippo_model.specs.declared.entry.Entry.{Entry}
-use Rattle.hippo_model.specs.Values.{cells_cmp, same_cells}
+use Rattle.hippo_model.specs.Values.{same_cells}
 use Rattle.hippo_model.specs.Histories.{said, or_else, last_word}
 use Rattle.hippo_model.specs.Rows.{key_of, key_named, row_left, names_key, row_at, with_key, keys_named, table_rows}
-use Rattle.hippo_model.specs.RowSets.{IsAscending, put_row, take_row}
-use Rattle.hippo_model.proofs.Orders.{cells_exact}
+use Rattle.hippo_model.specs.RowSets.{IsAscending, put_row, take_row, row_with}
+use Rattle.hippo_model.proofs.Orders.{same_exact}
 use Rattle.hippo_model.proofs.LastWords.{last_word-append}
-use Rattle.hippo_model.proofs.KeysInOrder.{insert_key-comm, IsAscending-insert_key}
-use Rattle.hippo_model.proofs.TableRows.{IsAscending-filter_map, filter_map-insert_key, filter_map-insert_key_taken}
-
-pub same_exact : (a b : List Value) → same_cells a b ≡ true → a ≡ b
-same_exact a b same =
-    elim (cells_cmp a b) as (λ o. cells_cmp a b ≡ o → is_eq o ≡ true → a ≡ b) [
-      | Less ↦ λ e wrong. cc
-      | Equal ↦ λ e right. cells_exact a b e
-      | Greater ↦ λ e wrong. cc
-    ] refl same
+use Rattle.hippo_model.proofs.KeysInOrder.{insert_key-comm, IsAscending-insert_key, list_any-insert_key}
+use Rattle.hippo_model.proofs.TableRows.{IsAscending-filter_map, row_with-filter_map, filter_map-insert_key, filter_map-insert_key_taken}
 
 said-Some : {A : Type 0} (test : Bool) (word other : A) → said test word ≡ Some other → word ≡ other
 said-Some true word other e = cc
@@ -122,3 +114,23 @@ module _ (schema : Schema) where
   -- the keys of a table's rows ascend
   pub IsAscending-table_rows : (history : List Entry) → IsAscending (map (key_of schema.key) (table_rows schema history))
   IsAscending-table_rows history = IsAscending-filter_map schema.key (row_at schema history) (key_of-row_at history) (keys_named schema history) (IsAscending-keys_named history)
+
+  -- a key that no change names has no row
+  no_word : (history : List Entry) (key : List Value) → list_any (λ other. same_cells other key) (keys_named schema history) ≡ false → last_word (λ entry. said (names_key schema key entry) (row_left entry.act)) history ≡ None
+  no_word [] key absent = refl
+  no_word (entry ∷ later) key absent =
+      elim (key_named schema entry.act) as (λ names. list_any (λ other. same_cells other key) (with_key names (keys_named schema later)) ≡ false → or_else (last_word (λ entry. said (names_key schema key entry) (row_left entry.act)) later) (said (unwrap_or (option_map (λ named. same_cells named key) names) false) (row_left entry.act)) ≡ None) [
+        | None ↦ λ absent. rw (no_word later key absent)
+        | Some named ↦ λ absent.
+            let parts = or_parts (same_cells named key) (list_any (λ other. same_cells other key) (keys_named schema later)) (sym (list_any-insert_key key named (keys_named schema later)) ∙ absent) in
+            rw (parts.0, no_word later key parts.1)
+      ] absent
+
+  -- the row that a table has with a key is the one that the history gives
+  pub row_with-table_rows : (history : List Entry) (key : List Value) → row_with schema.key key (table_rows schema history) ≡ row_at schema history key
+  row_with-table_rows history key =
+      row_with-filter_map schema.key (row_at schema history) (key_of-row_at history) key (keys_named schema history)
+      ∙ (elim (list_any (λ other. same_cells other key) (keys_named schema history)) as (λ there. list_any (λ other. same_cells other key) (keys_named schema history) ≡ there → (if there then row_at schema history key else None) ≡ row_at schema history key) [
+        | true ↦ λ there. refl
+        | false ↦ λ absent. sym (ap (option_and_then (λ left. left)) (no_word history key absent))
+      ] refl)

@@ -1,6 +1,6 @@
 -- What one more entry does to the rows of a table.
-use Rattle.std.proofs.Common.{◌≡◌, ℕ, List, [], ◌∷◌, map, filter_map, Option, Some, None, if◌then◌else◌, sym, ap, ◌∙◌, refl}
-use Rattle.std.specs.List.{cons_option}
+use Rattle.std.proofs.Common.{◌≡◌, ℕ, Bool, true, false, ◌||◌, List, [], ◌∷◌, map, filter_map, Option, Some, None, if◌then◌else◌, sym, ap, ◌∙◌, refl}
+use Rattle.std.specs.List.{cons_option, list_any}
 use Rattle.std.specs.Ordering.{match_ordering}
 use Rattle.std.specs.declared.cmp.Ordering.{Ordering}
 use Rattle.std.specs.declared.cmp.Ordering.TheVariants.{Less, Equal, Greater}
@@ -8,8 +8,8 @@ use Rattle.std.proofs.lemmas.Cmp.{tied_itself}
 use Rattle.hippo_values.specs.declared.values.Value.{Value}
 use Rattle.hippo_model.specs.Values.{cells_cmp, same_cells}
 use Rattle.hippo_model.specs.Rows.{key_of, insert_key}
-use Rattle.hippo_model.specs.RowSets.{IsBelowAll, IsAscending, put_row, take_row}
-use Rattle.hippo_model.proofs.Orders.{cells_total, cells_exact}
+use Rattle.hippo_model.specs.RowSets.{IsBelowAll, IsAscending, put_row, take_row, row_with}
+use Rattle.hippo_model.proofs.Orders.{cells_total, cells_exact, same_exact}
 use Rattle.hippo_model.proofs.KeptRows.{flipped, IsBelowAll-from_below}
 
 -- a row below all others goes to the front
@@ -21,6 +21,10 @@ put_row-below_all places row (first ∷ rest) below = rw below.0
 take_row-below_all : (places : List ℕ) (key : List Value) (rows : List (List Value)) → IsBelowAll key (map (key_of places) rows) → take_row places key rows ≡ rows
 take_row-below_all places key [] below = refl
 take_row-below_all places key (first ∷ rest) below = rw (flipped key (key_of places first) Less below.0) (ap (λ others. first ∷ others) (take_row-below_all places key rest below.1))
+
+either_None : {A : Type 0} (test : Bool) → ◌≡◌ {A = Option A} (if test then None else None) None
+either_None true = refl
+either_None false = refl
 
 module _ (places : List ℕ) (rows : List Value → Option (List Value)) (keyed : (key row : List Value) → rows key ≡ Some row → key_of places row ≡ key) where
   -- rows have the keys by which they are found
@@ -38,6 +42,23 @@ module _ (places : List ℕ) (rows : List Value → Option (List Value)) (keyed 
       elim (rows first) as (λ found. rows first ≡ found → IsAscending (map (key_of places) (cons_option found (filter_map rows rest)))) [
         | None ↦ λ e. IsAscending-filter_map rest ascends.1
         | Some row ↦ λ e. (rw (keyed first row e) (IsBelowAll-filter_map first rest ascends.0), IsAscending-filter_map rest ascends.1)
+      ] refl
+
+  -- the row with a key is the one by which it is found, where the key is there
+  pub row_with-filter_map : (key : List Value) (keys : List (List Value)) → row_with places key (filter_map rows keys) ≡ (if list_any (λ other. same_cells other key) keys then rows key else None)
+  row_with-filter_map key [] = refl
+  row_with-filter_map key (first ∷ rest) =
+      let there = list_any (λ other. same_cells other key) rest in
+      let induction = row_with-filter_map key rest in
+      elim (rows first) as (λ found. rows first ≡ found → row_with places key (cons_option found (filter_map rows rest)) ≡ (if same_cells first key || there then rows key else None)) [
+        | None ↦ λ none. induction ∙ (elim (same_cells first key) as (λ same. same_cells first key ≡ same → (if there then rows key else None) ≡ (if same || there then rows key else None)) [
+          | true ↦ λ same. let absent : rows key ≡ None = ap rows (sym (same_exact first key same)) ∙ none in rw absent (either_None there)
+          | false ↦ λ other. refl
+        ] refl)
+        | Some row ↦ λ some. rw (keyed first row some) (elim (same_cells first key) as (λ same. same_cells first key ≡ same → (if same then Some row else row_with places key (filter_map rows rest)) ≡ (if same || there then rows key else None)) [
+          | true ↦ λ same. sym some ∙ ap rows (same_exact first key same)
+          | false ↦ λ other. induction
+        ] refl)
       ] refl
 
   -- one key is written anew

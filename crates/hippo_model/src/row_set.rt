@@ -1,8 +1,8 @@
-ghost use Rattle.std.specs.Prelude.{◌≡◌, ◌<◌, ◌↔◌, [], length, map, slice_get, Some, IsTrue, OnOk, OnErr, IsOk, IsSome};
+ghost use Rattle.std.specs.Prelude.{◌≡◌, ◌<◌, ◌↔◌, [], length, map, slice_get, Some, IsTrue, OnOk, OnErr, IsOk, IsSome, IfSome};
 ghost use Rattle.std.specs.List.Sorted.{IsSearchInRange, IsBinarySearchResult};
 ghost use Rattle.hippo_model.specs.Values.{value_cmp, cells_cmp};
 ghost use Rattle.hippo_model.specs.Rows.{cell_at, key_of};
-ghost use Rattle.hippo_model.specs.RowSets.{IsAscending, with_row, find_row};
+ghost use Rattle.hippo_model.specs.RowSets.{IsAscending, with_row, without_row, find_row};
 
 use crate::cells::Cells;
 use crate::schema::Places;
@@ -117,9 +117,19 @@ impl RowSet {
         }
     }
 
+    /// Takes away the row with a key, if there is one.
+    pub fn take(&mut self, key: &Cells)
+        ensures { self.new ≡ without_row key.now self.old }
+    {
+        if let Ok(place) = search_key(&self.rows, self.key.as_slice(), key.as_slice()) {
+            self.rows.remove(place);
+        }
+    }
+
     /// The place of the row with a key, none exactly where no row has it.
     pub fn find(&self, key: &Cells) -> Option<usize>
-        ensures { result ≡ find_row self.now.key key.now self.now.rows }
+        ensures place { result ≡ find_row self.now.key key.now self.now.rows }
+        ensures range { IfSome result (λ place. place < length self.now.rows) }
     {
         search_key(&self.rows, self.key.as_slice(), key.as_slice()).ok()
     }
