@@ -2,3 +2,5 @@ mod CutLemmas
 mod ColumnLemmas
 pub mod ListLemmas
 mod EntryLemmas
+mod ClinicLemmas
+mod ViewLemmas

@@ -1,5 +1,6 @@
 -- What a clinic keeps beside its history, and how it answers from that.
-use Rattle.std.specs.Prelude.{◌≡◌, ℕ, zero, suc, List, [], ◌∷◌, map, slice_get, slice_index, Option, Some, None, if◌then◌else◌, ◌==◌}
+use Rattle.std.specs.Prelude.{◌≡◌, ℕ, zero, suc, ◌<◌, Bool, List, [], ◌∷◌, map, slice_get, slice_index, Option, Some, None, if◌then◌else◌, ◌==◌, nat_eq}
+use Rattle.std.specs.List.{list_any}
 use Rattle.std.specs.Option.{option_map_or}
 use Rattle.hippo_values.specs.declared.values.Value.{Value}
 use Rattle.hippo_model.specs.declared.cells.Cell.{Cell}
@@ -23,9 +24,6 @@ abbrev pub verdict_of : ℕ → Verdict
 verdict_of zero = Denied 0
 verdict_of (suc n) = Shown
 
-abbrev pub columns : List ℕ
-columns = 0 ∷ 1 ∷ 2 ∷ 3 ∷ []
-
 abbrev pub rule_now : List Entry → ℕ → Option Rule
 rule_now history column = rule_at history treatment nurse patient_name column
 
@@ -33,7 +31,7 @@ rule_now history column = rule_at history treatment nurse patient_name column
 pub record IsKept (history : List Entry) (kept : KeyedRows) (allowing : List ℕ) : Type 0 where
   pub key : kept.key ≡ patient.key
   pub rows : kept.rows ≡ table_rows patient history
-  pub rules : map (rule_now history) columns ≡ map rule_of allowing
+  pub rules : (column : ℕ) → column < 4 → rule_now history column ≡ rule_of (slice_index allowing column)
 
 -- a row's cell, as the rules show it
 abbrev pub cell_shown : List ℕ → List Value → ℕ → Cell
@@ -47,6 +45,10 @@ all_shown allowing places rows = map (λ row. map (cell_shown allowing row) plac
 abbrev pub rows_shown : List ℕ → List ℕ → List (List Value) → List (List Cell)
 rows_shown allowing places rows =
     if slice_index allowing 0 == 0 then [] else all_shown allowing places rows
+
+-- the numbers after an entry that allows these columns
+abbrev pub allowing_with : List ℕ → ℕ → List ℕ → ℕ → ℕ
+allowing_with places number allowing column = if list_any (nat_eq column) places then number else slice_index allowing column
 
 -- the names are those of the opening world
 pub record IsWorld (world : World) : Type 0 where
