@@ -4,3 +4,4 @@ pub mod ListLemmas
 mod EntryLemmas
 mod ClinicLemmas
 mod ViewLemmas
+mod StepLemmas

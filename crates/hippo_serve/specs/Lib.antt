@@ -5,3 +5,4 @@ pub mod Forms
 pub mod Requests
 pub mod Replies
 pub mod Clinics
+pub mod Outcomes

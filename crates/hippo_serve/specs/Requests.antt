@@ -1,5 +1,5 @@
 -- What a request that borrows its texts from a line means.
-use Rattle.std.specs.Prelude.{ℕ, ℤ, List, [], ◌∷◌, Option, Some, None}
+use Rattle.std.specs.Prelude.{ℕ, ℤ, List, [], ◌∷◌, Option, Some, None, ◌<◌, All}
 use denote.Ref.{Bor}
 use Rattle.hippo_values.specs.declared.values.Value.{Value}
 use Rattle.hippo_values.specs.declared.values.Value.TheVariants.{Null, Int, Text}
@@ -25,3 +25,9 @@ abbrev pub meaning : Request → Meaning
 meaning (AllowRequest places) = change (Allow treatment nurse patient_name places.items None)
 meaning (InsertRequest new) = change (Insert patient_name (patient_cells new))
 meaning (SelectRequest text places) = question text.now (query_for places.items)
+
+-- a query's columns are the table's
+abbrev pub HasColumns : Request → Type 0
+HasColumns (AllowRequest places) = Unit {0}
+HasColumns (InsertRequest new) = Unit {0}
+HasColumns (SelectRequest text places) = All (λ place. place < 4) places.items

@@ -126,7 +126,7 @@ impl Clinic {
     }
 
     // Records a new patient, unless one with the number is there.
-    fn insert(&mut self, alloc: Global, new: &NewPatient<'_>, out: &mut Txt) -> Result<(), Memory>
+    pub(crate) fn insert(&mut self, alloc: Global, new: &NewPatient<'_>, out: &mut Txt) -> Result<(), Memory>
         requires { out.old ≡ [] }
         ensures ok { OnOk result (record { reply = out.new; after = self.new }
             ≡ step_for self.old (Some (change (Insert patient_name (patient_cells new.now))))) }
@@ -148,7 +148,7 @@ impl Clinic {
     }
 
     // Records that columns are allowed.
-    fn allow(&mut self, alloc: Global, places: &[usize], out: &mut Txt) -> Result<(), Memory>
+    pub(crate) fn allow(&mut self, alloc: Global, places: &[usize], out: &mut Txt) -> Result<(), Memory>
         requires { out.old ≡ [] }
         ensures ok { OnOk result (record { reply = out.new; after = self.new }
             ≡ step_for self.old (Some (change (Allow treatment nurse patient_name places.now None)))) }
@@ -169,7 +169,7 @@ impl Clinic {
     }
 
     // Records a query and answers it.
-    fn ask(&mut self, alloc: Global, text: &str, places: &[usize], out: &mut Txt) -> Result<(), Memory>
+    pub(crate) fn ask(&mut self, alloc: Global, text: &str, places: &[usize], out: &mut Txt) -> Result<(), Memory>
         requires made { out.old ≡ [] }
         requires columns { All (λ place. place < 4) places.now }
         ensures ok { OnOk result (record { reply = out.new; after = self.new }

@@ -1,4 +1,4 @@
-ghost use Rattle.std.specs.Prelude.{◌≡◌, length, nat_le, option_map};
+ghost use Rattle.std.specs.Prelude.{◌≡◌, length, nat_le, ◌<◌, All, IfSome, option_map};
 ghost use Rattle.hippo_serve.specs.Pushes.{IsPushed};
 ghost use Rattle.hippo_serve.specs.Forms.{column_of, columns_of, where_holds};
 
@@ -13,7 +13,8 @@ pub type ColumnList = ArrayVec<usize, MOST_COLUMNS>;
 
 #[tactic(auto, unfolding(crate::specs::Forms::column_of))]
 fn column(name: &str) -> Option<usize>
-    ensures { result ≡ column_of name.now }
+    ensures place { result ≡ column_of name.now }
+    ensures within { IfSome result (λ place. place < 4) }
 {
     match name {
         "pid" => Some(0),
@@ -25,7 +26,8 @@ fn column(name: &str) -> Option<usize>
 }
 
 fn push_column(places: &mut ColumnList, name: &str) -> bool
-    ensures { IsPushed places.old.items (column_of name.now) result places.new.items }
+    ensures pushed { IsPushed places.old.items (column_of name.now) result places.new.items }
+    ensures within { All (λ place. place < 4) places.old.items → All (λ place. place < 4) places.new.items }
 {
     match column(name) {
         Some(place) if !places.is_full() => {
@@ -38,7 +40,8 @@ fn push_column(places: &mut ColumnList, name: &str) -> bool
 
 /// The columns of a list, with a comma and a space between them; none also where there are more than 128.
 pub fn columns(list: &str) -> Option<ColumnList>
-    ensures { option_map (λ places. places.items) result
+    ensures within { IfSome result (λ places. All (λ place. place < 4) places.items) }
+    ensures list { option_map (λ places. places.items) result
         ≡ where_holds (λ places. nat_le (length places) 128) (columns_of list.now) }
 {
     let mut places = ColumnList::new();

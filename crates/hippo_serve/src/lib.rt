@@ -1,6 +1,7 @@
 //! The database as a service of lines: each line of the input is answered before the next is read.
 #![tactic(auto)]
 
+mod answers;
 mod clinic;
 mod columns;
 mod cuts;

@@ -1,13 +1,14 @@
-ghost use Rattle.std.specs.Prelude.{◌≡◌, ◌==◌, ◌&&◌, not, nat_le, [], ◌∷◌, option_map};
+ghost use Rattle.std.specs.Prelude.{◌≡◌, ◌==◌, ◌&&◌, not, nat_le, [], ◌∷◌, option_map, IfSome};
 ghost use Rattle.std.specs.List.{list_all};
 ghost use Rattle.hippo_model.specs.Values.{keeps_text_rule};
 ghost use Rattle.hippo_serve.specs.Forms.{text_cell, number_cell, cells_from_phone, cells_of, insert_of, all_differ, allow_of, select_of, meaning_of};
-ghost use Rattle.hippo_serve.specs.Requests.{text_value, number_value, patient_cells, meaning};
+ghost use Rattle.hippo_serve.specs.Requests.{text_value, number_value, patient_cells, meaning, HasColumns};
 
 use crate::columns::{ColumnList, columns};
 use crate::cuts::{after, around_comma, around_quote, before, number};
 
 /// The cells of a new patient, in the order of the columns; texts are the line's own.
+#[derive(Clone, Copy, Debug)]
 pub struct NewPatient<'a> {
     pub pid: i64,
     pub name: Option<&'a str>,
@@ -16,6 +17,7 @@ pub struct NewPatient<'a> {
 }
 
 /// What a line asks for.
+#[derive(Drop)]
 pub enum Request<'a> {
     Allow(ColumnList),
     Insert(NewPatient<'a>),
@@ -95,7 +97,8 @@ fn cells_of(text: &str) -> Option<NewPatient<'_>>
 }
 
 fn insert_of(line: &str) -> Option<Request<'_>>
-    ensures { option_map meaning result ≡ insert_of line.now }
+    ensures meaning { option_map meaning result ≡ insert_of line.now }
+    ensures columns { IfSome result HasColumns }
 {
     let inner = after(line, "0 INSERT INTO patient VALUES (")?;
     Some(Request::Insert(cells_of(before(inner, ")")?)?))
@@ -111,7 +114,8 @@ fn all_differ(places: &[usize]) -> bool
 }
 
 fn allow_of(line: &str) -> Option<Request<'_>>
-    ensures { option_map meaning result ≡ allow_of line.now }
+    ensures meaning { option_map meaning result ≡ allow_of line.now }
+    ensures columns { IfSome result HasColumns }
 {
     let list = after(line, "0 ALLOW treatment TO nurse ON patient (")?;
     let places = columns(before(list, ")")?)?;
@@ -123,7 +127,8 @@ fn allow_of(line: &str) -> Option<Request<'_>>
 }
 
 fn select_of(line: &str) -> Option<Request<'_>>
-    ensures { option_map meaning result ≡ select_of line.now }
+    ensures meaning { option_map meaning result ≡ select_of line.now }
+    ensures columns { IfSome result HasColumns }
 {
     let text = after(line, "1 ")?;
     let list = after(text, "SELECT ")?;
@@ -133,7 +138,8 @@ fn select_of(line: &str) -> Option<Request<'_>>
 
 /// What a line asks for; none where it has none of the three forms.
 pub fn request_of(line: &str) -> Option<Request<'_>>
-    ensures { option_map meaning result ≡ meaning_of line.now }
+    ensures meaning { option_map meaning result ≡ meaning_of line.now }
+    ensures columns { IfSome result HasColumns }
 {
     if let Some(request) = allow_of(line) {
         return Some(request);
