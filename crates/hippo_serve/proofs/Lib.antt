@@ -5,3 +5,4 @@ mod EntryLemmas
 mod ClinicLemmas
 mod ViewLemmas
 mod StepLemmas
+mod RunLemmas

@@ -6,3 +6,5 @@ pub mod Requests
 pub mod Replies
 pub mod Clinics
 pub mod Outcomes
+pub mod Turns
+pub mod Runs

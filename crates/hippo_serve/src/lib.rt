@@ -8,4 +8,6 @@ mod cuts;
 mod entries;
 mod printing;
 mod requests;
+mod top;
+mod turns;
 mod world;

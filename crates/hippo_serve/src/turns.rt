@@ -1,0 +1,29 @@
+ghost use Rattle.std.specs.Prelude.{◌≡◌, ◌≤◌, Some, None, IsErrOf};
+ghost use Rattle.hippo_io.specs.Faults.{HasRisen};
+ghost use Rattle.hippo_io.specs.declared.lines.LineFault.TheVariants.{Read};
+ghost use Rattle.hippo_serve.specs.Turns.{IsTurn};
+
+use crate::answers::Outcome;
+use crate::clinic::Clinic;
+use hippo_io::{Line, LineFault, LineReader, Source};
+use hippo_values::Txt;
+use std::alloc::Global;
+
+/// Reads the next line and answers it; none at the end of the input.
+pub fn take_turn<S: Source>(
+    alloc: Global,
+    clinic: &mut Clinic,
+    reader: &mut LineReader,
+    source: &mut S,
+    out: &mut Txt,
+) -> Result<Option<Outcome>, LineFault>
+    ensures turn { IsTurn clinic.old reader.old (S.left source.old) result out.new clinic.new reader.new (S.left source.new) }
+    ensures cause { IsErrOf result Read → reader.old.failure ≡ None → HasRisen (S.faults source.old) (S.faults source.new) }
+    ensures faults { S.faults source.old ≤ S.faults source.new }
+{
+    match reader.next_line(source)? {
+        Line::Text(text) => Ok(Some(clinic.answer(alloc, text, out))),
+        Line::TooLong | Line::NotUtf8 => Ok(Some(Outcome::NotBuilt)),
+        Line::End => Ok(None),
+    }
+}
