@@ -1,9 +1,10 @@
 -- What a line reader has done with an input.
-use Rattle.std.specs.Prelude.{◌≡◌, ℕ, ◌+◌, ◌-◌, ◌^◌, ◌<◌, ◌≤◌, ◌↔◌, min, false, IsTrue, IsFalse, List, [], ◌∷◌, ◌++◌, length, take, drop, Option, Some, None, Result, Err, IfOk, OnErr, IfSome, MatchOption}
+use Rattle.std.specs.Prelude.{◌≡◌, ℕ, ◌+◌, ◌-◌, ◌^◌, ◌<◌, ◌≤◌, ◌↔◌, min, false, IsTrue, IsFalse, List, [], ◌∷◌, ◌++◌, length, take, drop, Option, Some, None, Result, Ok, Err, IfOk, OnErr, IfSome, MatchOption}
 use Rattle.std.specs.Result.{result_err}
 use Rattle.hippo_io.specs.Lines.{LineText, lines, feeds}
 use Rattle.hippo_io.specs.LineTexts.{line_text}
 use Rattle.hippo_io.specs.declared.lines.Line.{Line}
+use Rattle.hippo_io.specs.declared.lines.Line.TheVariants.{End}
 use Rattle.hippo_io.specs.declared.lines.LineFault.{LineFault}
 use Rattle.hippo_io.specs.declared.lines.LineFault.TheVariants.{TooMuch}
 use Rattle.hippo_io.specs.Position.{Position}
@@ -57,9 +58,10 @@ pub record NextLine (before after : Position) (left_before left_after : Option (
   -- whatever lines of whatever input were handed out before: the answer is the next one
   pub line : IfOk result (λ line. (input : List ℕ) (handed : List LineText) → HasHandedOut input handed before left_before → HandsOut input handed line after left_after)
   pub gives_up : OnErr result ((input : List ℕ) (handed : List LineText) → HasHandedOut input handed before left_before → HasGivenUp input handed after left_after)
-  -- a fault is answered again and again
+  -- a fault is answered again and again, and so is the end
   pub failure : after.failure ≡ result_err result
   pub again : (fault : LineFault) → before.failure ≡ Some fault → (result ≡ Err fault) × (after ≡ before)
+  pub over : before.failure ≡ None → IsTrue before.ended → (result ≡ Ok End) × (after ≡ before)
   -- too much is answered exactly where more bytes were taken than are read
   pub too_much : (result ≡ Err TooMuch) ↔ (input_limit < after.taken)
   pub progress : IfOk result (λ line. MovesOn line (consumed before) (consumed after))

@@ -77,6 +77,7 @@ pub record FindsSkipped (before after : Position) (left_before left_after : Opti
   pub skipped : SkipsLine before after left_before left_after
   pub later : consumed before < consumed after
 
+-- what stands in the way of the next line
 abbrev pub Finds : Position → Position → Option (List ℕ) → Option (List ℕ) → Found → Type 0
 Finds before after left_before left_after (Whole n) = FindsWhole before after left_before left_after n
 Finds before after left_before left_after Rest = FindsRest before after left_before left_after

@@ -18,28 +18,30 @@ const LINE_LIMIT: usize = 65_536;
 // How many bytes are read at most.
 const INPUT_LIMIT: u64 = 1 << 40;
 
-/// A line of the input, without its end.
+/// A line of the input, or its end.
 #[derive(Clone, Copy, Debug, PartialEq, Eq)]
 pub enum Line<'a> {
+    /// The bytes before the line feed or the end of the input, without the one carriage return at their end.
     Text(&'a str),
-    /// More than 65,536 bytes stand before the line feed or the end of the input.
+    /// More than 65,536 bytes stand before the line feed or the end of the input, a carriage return among them.
     TooLong,
+    /// The line is not too long, and its bytes are not UTF-8.
     NotUtf8,
-    /// There is no further line.
+    /// No byte of the input is left.
     End,
 }
 
 /// Why no further line can be read.
 #[derive(Clone, Copy, Debug, PartialEq, Eq)]
 pub enum LineFault {
-    /// The source failed.
+    /// The source failed. The lines whose line feeds were taken from it have been handed out.
     Read,
-    /// The input has more than 2^40 bytes.
+    /// More than 2^40 bytes were taken. The lines whose line feeds are among the first 2^40 have been handed out.
     TooMuch,
 }
 
-/// Cuts the bytes of a source into lines. A line ends at a line feed or at the end of the input, and one carriage return
-/// at its end is dropped.
+/// Cuts the bytes of a source into lines. A line ends at a line feed or at the end of the input, has at most 65,536
+/// bytes before that, and loses one carriage return at its end.
 #[derive(Debug, Drop)]
 pub struct LineReader {
     // `buffer[start..end]` was taken from the source and not yet handed out.
@@ -81,7 +83,9 @@ fn move_to_front(buffer: &mut [u8], start: usize, end: usize)
     requires in_buffer { end ≤ length buffer.old }
     ensures { take (end - start) buffer.new ≡ slice_range buffer.old start end }
 {
-    buffer.copy_within(start..end, 0);
+    if start > 0 {
+        buffer.copy_within(start..end, 0);
+    }
 }
 
 // Reads at most so many bytes into the buffer, behind those that fill it so far.
@@ -94,7 +98,8 @@ fn read_behind<S: Source>(
     requires room { filled < length buffer.old }
     requires some { 0 < most }
     ensures count { IfOk result (λ n. (n ≤ most) × (filled + n ≤ length buffer.old)) }
-    ensures taken { IfOk result (λ n. TakesBehind (S.left source.old) (S.left source.new) n (take filled buffer.old) (take (filled + n) buffer.new)) }
+    ensures taken { IfOk result (λ n. TakesBehind (S.left source.old) (S.left source.new) n
+        (take filled buffer.old) (take (filled + n) buffer.new)) }
     ensures end { IfOk result (λ n. n ≡ 0 → IsAtEnd (S.left source.old)) }
     ensures failed { OnErr result (Keeps (S.left source.old) (S.left source.new)) }
     ensures kept { take filled buffer.new ≡ take filled buffer.old }
@@ -152,7 +157,8 @@ impl LineReader {
     /// A reader with room for the longest line.
     pub fn new(alloc: Global) -> Result<LineReader, Memory>
         ensures position { IfOk result (λ reader. reader ≡ at_beginning) }
-        ensures handed { IfOk result (λ reader. (input : List ℕ) → HasHandedOut input [] reader (Some input)) }
+        ensures handed { IfOk result (λ reader.
+            (input : List ℕ) → HasHandedOut input [] reader (Some input)) }
     {
         Ok(LineReader {
             buffer: vec![in alloc; 0; LINE_LIMIT + 1]?,
@@ -167,13 +173,13 @@ impl LineReader {
     fn waiting(&self) -> &[u8]
         ensures bytes { result.now ≡ self.now.waiting }
         ensures taken { length self.now.waiting ≤ self.now.taken }
-        ensures room { length self.now.waiting ≤ 65537 }
+        ensures room { length self.now.waiting ≤ line_limit + 1 }
         ensures limit { (self.now.failure ≡ Some TooMuch) ↔ (input_limit < self.now.taken) }
     {
         &self.buffer[self.start..self.end]
     }
 
-    // The first bytes that wait are handed out or skipped.
+    // Skips the first bytes that wait.
     fn let_go(&mut self, count: usize)
         requires { count ≤ length self.old.waiting }
         ensures { self.new ≡ record self.old { waiting = drop count self.old.waiting } }
@@ -196,10 +202,11 @@ impl LineReader {
     // Reads once, and answers how many bytes came: none only at the end of the input.
     fn refill<S: Source>(&mut self, source: &mut S) -> Result<usize, LineFault>
         requires going { IsGoing self.old }
-        requires room { length self.old.waiting < 65537 }
+        requires room { length self.old.waiting ≤ line_limit }
         ensures more { IfOk result (Refills self.old self.new (S.left source.old) (S.left source.new)) }
         ensures end { IfOk result (λ n. n ≡ 0 → (self.new ≡ self.old) × IsAtEnd (S.left source.old)) }
-        ensures failed { IfErr result (FailsToRefill self.old self.new (S.left source.old) (S.left source.new)) }
+        ensures failed { IfErr result
+            (FailsToRefill self.old self.new (S.left source.old) (S.left source.new)) }
         ensures limit { (self.new.failure ≡ Some TooMuch) ↔ (input_limit < self.new.taken) }
         ensures cause { IsErrOf result LineFault.Read → HasRisen (S.faults source.old) (S.faults source.new) }
         ensures faults { S.faults source.old ≤ S.faults source.new }
@@ -279,7 +286,10 @@ impl LineReader {
         }
     }
 
-    /// The next line. After a fault it answers the same again and does not read.
+    /// The next line, or the end once all lines are handed out. A line that is too long is skipped through its line feed.
+    ///
+    /// Answers `Read` only where the source failed, in this call or in an earlier one, and `TooMuch` exactly where more
+    /// than 2^40 bytes were taken from it. After a fault, and after the end, it answers the same again and does not read.
     pub fn next_line<S: Source>(&mut self, source: &mut S) -> Result<Line<'_>, LineFault>
         ensures* next { sem 𝓛 (Rests the_row self.entry (λ new.
             NextLine self.old new (S.left source.old) (S.left source.new) result)) }
@@ -314,3 +324,6 @@ impl LineReader {
         }
     }
 }
+
+#[cfg(test)]
+mod tests;

@@ -36,3 +36,6 @@ pub fn write_whole<K: Sink>(sink: &mut K, bytes: &[u8]) -> Result<(), Failed>
     }
     Ok(())
 }
+
+#[cfg(test)]
+mod tests;

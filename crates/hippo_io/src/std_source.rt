@@ -5,7 +5,7 @@ use crate::counts::one_more;
 use crate::source::{Failed, Source};
 use std::io::Read;
 
-/// A source over any reader, which counts each error of the reader as a fault.
+/// A source over any reader. It counts each error of the reader as a fault, and does not try again.
 #[derive(Debug, Drop)]
 pub struct StdSource<R> {
     inner: R,

@@ -1,7 +1,7 @@
 -- Whatever was handed out is so still, and no line feed is among the bytes that were searched.
-use Rattle.std.proofs.Common.{◌≡◌, ℕ, ◌-◌, ◌≤◌, List, length, take}
+use Rattle.std.proofs.Common.{◌≡◌, ℕ, ◌+◌, ◌-◌, ◌≤◌, List, length, take}
 use Rattle.std.specs.Prelude.{Option}
-use Rattle.hippo_io.specs.Lines.{feeds}
+use Rattle.hippo_io.specs.Lines.{line_limit, feeds}
 use Rattle.hippo_io.specs.Position.{Position}
 use Rattle.hippo_io.specs.Reading.{consumed}
 use Rattle.hippo_io.specs.Steps.{IsGoing, KeepsHandedOut}
@@ -22,4 +22,4 @@ invariant-loop-length g l =
     IsSearching l.fn.self l.self (left l.fn.source) (left l.source) (faults l.fn.source) (faults l.source) l.searched
 
 abbrev pub decreases-loop-length : goal.decreases-loop-length
-decreases-loop-length g l = 65537 - length l.self.waiting
+decreases-loop-length g l = line_limit + 1 - length l.self.waiting

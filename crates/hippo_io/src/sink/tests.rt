@@ -1,0 +1,57 @@
+use super::*;
+use crate::memory_sink::MemorySink;
+use crate::source::Source;
+use crate::std_sink::StdSink;
+use crate::std_source::StdSource;
+use hippo_values::{Calls, Memory};
+use std::fs;
+
+#[test]
+fn writes_to_memory(rt: HostRuntime) -> Result<(), Memory> {
+    // The room, the calls that fail, the pieces, and what is written of them.
+    let cases: [(usize, &[u64], &[&[u8]], &[u8]); 5] = [
+        (4, &[], &[b"ab", b"", b"cd"], b"abcd"),
+        (3, &[], &[b"ab", b"cd", b"e"], b"abe"),
+        (0, &[], &[b"a"], b""),
+        (4, &[1], &[b"ab", b"cd"], b"cd"),
+        (9, &[2, 4], &[b"ab", b"cd", b"ef", b"gh"], b"abef"),
+    ];
+    let alloc = rt.alloc();
+    for (room, failing, pieces, expected) in cases {
+        let mut sink = MemorySink::new(alloc, room, Calls::from_slice(alloc, failing)?)?;
+        for piece in pieces {
+            let _ = write_whole(&mut sink, piece);
+        }
+        assert_eq!(rt; sink.bytes(), expected);
+    }
+    Ok(())
+}
+
+#[test]
+fn writes_to_std(rt: HostRuntime) -> Result<(), Memory> {
+    let mut written = Vec::new(rt.alloc());
+    let answer = write_whole(&mut StdSink::new(&mut written), b"abc");
+    assert_eq!(rt; answer, Ok(()));
+    assert_eq!(rt; written.as_slice(), b"abc".as_slice());
+    // The writer takes two bytes, and then nothing.
+    let mut room = [0; 2];
+    let answer = write_whole(&mut StdSink::new(&mut room[..]), b"abc");
+    assert_eq!(rt; answer, Err(Failed));
+    assert_eq!(rt; room, *b"ab");
+    Ok(())
+}
+
+#[test]
+fn writes_and_reads_a_file(rt: HostRuntime) -> std::io::Result<()> {
+    let id = std::process::id(rt.process());
+    let name = format!(in rt.alloc(); "/tmp/hippo_io_test_{id}")?;
+    let path = name.as_str();
+    let answer = write_whole(&mut StdSink::new(fs::create(&rt, path)?), b"one\ntwo");
+    assert_eq!(rt; answer, Ok(()));
+    let mut source = StdSource::new(fs::open(&rt, path)?);
+    let mut buffer = [0; 16];
+    assert_eq!(rt; source.read(&mut buffer), Ok(7));
+    assert_eq!(rt; &buffer[..7], b"one\ntwo".as_slice());
+    assert_eq!(rt; source.read(&mut buffer), Ok(0));
+    fs::remove_file(&rt, path)
+}
