@@ -2,6 +2,7 @@ pub mod Values
 pub mod Histories
 pub mod Rows
 pub mod RowSets
+pub mod Combinations
 pub mod Rules
 pub mod Verdicts
 pub mod Views

@@ -3,6 +3,7 @@
 
 mod audit;
 mod cells;
+mod combo;
 mod entry;
 mod policy;
 mod query;
@@ -12,6 +13,7 @@ mod statement;
 
 pub use audit::{Audit, Flag, Flags, Pair, Pairs, SharedRow, SharedTuple};
 pub use cells::{Answer, Cell, CellRow, Cells};
+pub use combo::{ChoiceView, Combo, Plan, Sets};
 pub use entry::{Act, Entry, History, ItemKind};
 pub use policy::{Authorization, Gate, Gates, RuleAt, RulesInForce, TableRules, Verdict};
 pub use query::{CondOf, Expr, Exprs, Guard, Guards, Masked, Operand, Operands, Query, Ref, Refs};
