@@ -1,0 +1,4 @@
+mod CutLemmas
+mod ColumnLemmas
+pub mod ListLemmas
+mod EntryLemmas
