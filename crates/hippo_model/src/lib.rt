@@ -10,6 +10,7 @@ mod query;
 mod row_set;
 mod schema;
 mod statement;
+mod stored;
 
 pub use audit::{Audit, Flag, Flags, Pair, Pairs, SharedRow, SharedTuple};
 pub use cells::{Answer, Cell, CellRow, Cells};
@@ -23,3 +24,4 @@ pub use statement::{
     RawAudit, RawColumn, RawColumns, RawCond, RawItem, RawItems, RawOperand, RawSelect, Stmt,
     Wanted,
 };
+pub use stored::{StoredEntry, StoredList};
