@@ -11,3 +11,7 @@ pub mod Answers
 pub mod Bags
 pub mod Columns
 pub mod Audits
+pub mod Denials
+pub mod Masking
+pub mod Validity
+pub mod Versions
