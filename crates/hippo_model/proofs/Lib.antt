@@ -1,4 +1,5 @@
 pub mod Truths
+pub mod NamedColumns
 pub mod KeptRows
 pub mod KeyOrder
 pub mod Orders
@@ -6,4 +7,8 @@ pub mod KeysInOrder
 pub mod LastWords
 pub mod RowsAfter
 pub mod TableRows
-mod Examples
+mod AnswerExamples
+mod ExampleHistories
+mod DayExamples
+mod AuditExamples
+mod DamageExamples

@@ -2,6 +2,7 @@ pub mod Values
 pub mod Histories
 pub mod Rows
 pub mod RowSets
+pub mod Combinations
 pub mod Rules
 pub mod Verdicts
 pub mod Views
@@ -10,3 +11,7 @@ pub mod Answers
 pub mod Bags
 pub mod Columns
 pub mod Audits
+pub mod Denials
+pub mod Masking
+pub mod Validity
+pub mod Versions

@@ -1,7 +1,8 @@
 use crate::cells::Cells;
 use crate::query::{CondOf, Operand, Refs};
 use crate::schema::Names;
-use hippo_values::{Moment, Name, Sequence};
+use hippo_values::{Duplicate, Memory, Moment, Name, Sequence};
+use std::alloc::Global;
 
 #[derive(Debug, Drop, PartialEq, Eq)]
 pub struct Pair {
@@ -45,3 +46,52 @@ pub struct Flag {
 }
 
 pub type Flags = Sequence<Flag>;
+
+impl Duplicate for Pair {
+    fn copy(&self, alloc: Global) -> Result<Pair, Memory> {
+        let purpose = self.purpose.copy(alloc)?;
+        let recipient = self.recipient.copy(alloc)?;
+        Ok(Pair { purpose, recipient })
+    }
+}
+
+impl Duplicate for Audit {
+    fn copy(&self, alloc: Global) -> Result<Audit, Memory> {
+        let exempt = self.exempt.copy(alloc)?;
+        let columns = self.columns.copy(alloc)?;
+        let tables = self.tables.copy(alloc)?;
+        let cond = self.cond.copy(alloc)?;
+        Ok(Audit {
+            from: self.from,
+            to: self.to,
+            exempt,
+            shown: self.shown,
+            columns,
+            tables,
+            cond,
+        })
+    }
+}
+
+impl Duplicate for SharedRow {
+    fn copy(&self, alloc: Global) -> Result<SharedRow, Memory> {
+        let table = self.table.copy(alloc)?;
+        let key = self.key.copy(alloc)?;
+        Ok(SharedRow { table, key })
+    }
+}
+
+impl Duplicate for Flag {
+    fn copy(&self, alloc: Global) -> Result<Flag, Memory> {
+        let user = self.user.copy(alloc)?;
+        let pair = self.pair.copy(alloc)?;
+        let shared = self.shared.copy(alloc)?;
+        Ok(Flag {
+            seq: self.seq,
+            moment: self.moment,
+            user,
+            pair,
+            shared,
+        })
+    }
+}

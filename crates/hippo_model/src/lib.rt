@@ -3,15 +3,18 @@
 
 mod audit;
 mod cells;
+mod combo;
 mod entry;
 mod policy;
 mod query;
 mod row_set;
 mod schema;
 mod statement;
+mod stored;
 
 pub use audit::{Audit, Flag, Flags, Pair, Pairs, SharedRow, SharedTuple};
 pub use cells::{Answer, Cell, CellRow, Cells};
+pub use combo::{ChoiceView, Combo, Plan, Sets};
 pub use entry::{Act, Entry, History, ItemKind};
 pub use policy::{Authorization, Gate, Gates, RuleAt, RulesInForce, TableRules, Verdict};
 pub use query::{CondOf, Expr, Exprs, Guard, Guards, Masked, Operand, Operands, Query, Ref, Refs};
@@ -21,3 +24,4 @@ pub use statement::{
     RawAudit, RawColumn, RawColumns, RawCond, RawItem, RawItems, RawOperand, RawSelect, Stmt,
     Wanted,
 };
+pub use stored::{StoredEntry, StoredList};

@@ -1,0 +1,134 @@
+-- A working day with two tables: joins, audits by two tables, and the denials of a query.
+use Rattle.std.proofs.Common.{◌≡◌, ℕ, pos, List, [], ◌∷◌, ◌++◌, Option, Some, None, false, refl, codes, if◌then◌else◌}
+use Rattle.std.specs.Prelude.{bytes_eq}
+use Rattle.hippo_values.specs.declared.values.Value.TheVariants.{Null, Int, Text, Day}
+use Rattle.hippo_values.specs.declared.truths.CompareOp.TheVariants.{Eq}
+use Rattle.hippo_model.specs.declared.audit.Audit.{Audit}
+use Rattle.hippo_model.specs.declared.cells.Cell.TheVariants.{Shown, Denied}
+use Rattle.hippo_model.specs.declared.schema.ColumnKind.TheVariants.{Date}
+use Rattle.hippo_model.specs.declared.schema.Schema.{Schema}
+use Rattle.hippo_model.specs.declared.entry.Act.{Act}
+use Rattle.hippo_model.specs.declared.entry.Act.TheVariants.{Create, Purpose, Recipient, Item, Authorize, Allow, Insert, Update, Choice, Asked}
+use Rattle.hippo_model.specs.declared.entry.Entry.{Entry}
+use Rattle.hippo_model.specs.declared.entry.ItemKind.TheVariants.{OptOut}
+use Rattle.hippo_model.specs.declared.query.CondOf.{CondOf}
+use Rattle.hippo_model.specs.declared.query.CondOf.TheVariants.{All, Compare}
+use Rattle.hippo_model.specs.declared.query.Operand.{Operand}
+use Rattle.hippo_model.specs.declared.query.Operand.TheVariants.{Column as ColumnOperand, Literal}
+use Rattle.hippo_model.specs.declared.query.Query.{Query}
+use Rattle.hippo_model.specs.Answers.{answer}
+use Rattle.hippo_model.specs.Audits.{shared}
+use Rattle.hippo_model.specs.Denials.{denials}
+use Rattle.hippo_model.specs.Validity.{damage}
+use Rattle.hippo_model.proofs.NamedColumns.{named_columns}
+use Rattle.hippo_model.proofs.Truths.{truths}
+use Rattle.hippo_model.proofs.ExampleHistories.{treatment, nurse, ann, patient, patients, number_column, text_column, required, column, column_of, select, always}
+
+abbrev billing : List ℕ
+billing = codes "billing"
+
+abbrev clerk : List ℕ
+clerk = codes "clerk"
+
+abbrev carl : List ℕ
+carl = codes "carl"
+
+abbrev visit : List ℕ
+visit = codes "visit"
+
+abbrev visits : Schema
+visits = record {
+  name = visit;
+  columns = required (number_column (codes "vno")) ∷ required (number_column (codes "pid")) ∷ text_column (codes "ward") ∷ record { name = codes "seen"; kind = Date; not_null = false } ∷ [];
+  key = 0 ∷ [];
+  subject = Some 1;
+}
+
+-- 2024-03-04T07:00:00Z and 09:30:00Z
+abbrev early : ℕ → Act → Entry
+early number act = record { seq = number; moment = pos 1709535600; act = act }
+
+abbrev later : ℕ → Act → Entry
+later number act = record { seq = number; moment = pos 1709544600; act = act }
+
+abbrev morning : List Entry
+morning =
+    early 1 (Create patients) ∷ early 2 (Create visits) ∷ early 3 (Purpose treatment) ∷ early 4 (Purpose billing)
+    ∷ early 5 (Recipient nurse) ∷ early 6 (Recipient clerk) ∷ early 7 (Item (codes "contact") OptOut)
+    ∷ early 8 (Authorize ann treatment nurse) ∷ early 9 (Authorize carl billing clerk)
+    ∷ early 10 (Allow treatment nurse patient (0 ∷ 1 ∷ 3 ∷ []) None) ∷ early 11 (Allow treatment nurse patient (2 ∷ []) (Some (codes "contact")))
+    ∷ early 12 (Allow treatment nurse visit (0 ∷ 1 ∷ 2 ∷ 3 ∷ []) None) ∷ early 13 (Allow billing clerk patient (0 ∷ 3 ∷ []) None)
+    ∷ early 14 (Insert patient (Int (pos 1) ∷ Text (codes "Ada") ∷ Text (codes "555-1") ∷ Int (pos 95120) ∷ []))
+    ∷ early 15 (Insert patient (Int (pos 2) ∷ Text (codes "Bob") ∷ Text (codes "555-2") ∷ Int (pos 90210) ∷ []))
+    ∷ early 16 (Insert visit (Int (pos 10) ∷ Int (pos 1) ∷ Text (codes "north") ∷ Day (pos 19783) ∷ []))
+    ∷ early 17 (Insert visit (Int (pos 11) ∷ Int (pos 2) ∷ Text (codes "south") ∷ Day (pos 19784) ∷ []))
+    ∷ early 18 (Insert visit (Int (pos 12) ∷ Int (pos 1) ∷ Text (codes "south") ∷ Null ∷ []))
+    ∷ early 19 (Choice (pos 2) (codes "contact") false) ∷ []
+
+-- the patients seen in the south ward
+abbrev in_south : CondOf Operand
+in_south = All (Compare Eq (ColumnOperand (column_of 0 0)) (ColumnOperand (column_of 1 1)) ∷ Compare Eq (ColumnOperand (column_of 1 2)) (Literal (Text (codes "south"))) ∷ [])
+
+abbrev south : Query
+south = record { items = column_of 0 1 ∷ column_of 0 2 ∷ column_of 1 2 ∷ column_of 1 3 ∷ []; tables = patient ∷ visit ∷ []; cond = in_south }
+
+abbrev names_and_zips : Query
+names_and_zips = select (column 1 ∷ column 3 ∷ []) always
+
+abbrev wards : Query
+wards = record { items = column 2 ∷ []; tables = visit ∷ []; cond = always }
+
+abbrev reading : List Entry → List ℕ → Option Query
+reading history text = if bytes_eq text (codes "south") then Some south else (if bytes_eq text (codes "names") then Some names_and_zips else Some wards)
+
+abbrev ann_asks : Entry
+ann_asks = later 20 (Asked ann treatment nurse (codes "south"))
+
+abbrev carl_asks : Entry
+carl_asks = later 21 (Asked carl billing clerk (codes "names"))
+
+abbrev carl_asks_again : Entry
+carl_asks_again = later 23 (Asked carl billing clerk (codes "wards"))
+
+abbrev day : List Entry
+day = morning ++ ann_asks ∷ carl_asks ∷ later 22 (Update patient (Int (pos 2) ∷ Text (codes "Bob") ∷ Text (codes "555-9") ∷ Int (pos 90210) ∷ [])) ∷ carl_asks_again ∷ []
+
+the_day_is_not_damaged : damage reading day ≡ None
+the_day_is_not_damaged = refl
+
+two_tables_join_in_key_order : answer morning (pos 1709544600) treatment nurse south
+    ≡ (Shown (Text (codes "Ada")) ∷ Shown (Text (codes "555-1")) ∷ Shown (Text (codes "south")) ∷ Shown Null ∷ [])
+    ∷ (Shown (Text (codes "Bob")) ∷ Denied 11 ∷ Shown (Text (codes "south")) ∷ Shown (Day (pos 19784)) ∷ []) ∷ []
+two_tables_join_in_key_order = simp truths
+
+each_pair_has_its_own_rules : answer morning (pos 1709544600) billing clerk names_and_zips
+    ≡ (Denied 0 ∷ Shown (Int (pos 95120)) ∷ []) ∷ (Denied 0 ∷ Shown (Int (pos 90210)) ∷ []) ∷ []
+each_pair_has_its_own_rules = simp truths
+
+table_without_rules_shows_no_row : answer day (pos 1709544600) billing clerk wards ≡ []
+table_without_rules_shows_no_row = refl
+
+-- who saw the name of a patient in the south ward on 2024-03-04
+abbrev names_in_south : Audit
+names_in_south = record {
+  from = pos 1709510400;
+  to = pos 1709596799;
+  exempt = [];
+  shown = false;
+  columns = column_of 0 1 ∷ [];
+  tables = patient ∷ visit ∷ [];
+  cond = in_south;
+}
+
+first_shared_tuple_of_two_tables : shared reading day names_in_south 20 ann_asks
+    ≡ Some (record { table = patient; key = Int (pos 1) ∷ [] } ∷ record { table = visit; key = Int (pos 12) ∷ [] } ∷ [])
+first_shared_tuple_of_two_tables = simp truths
+
+shared_tuple_of_the_one_common_table : shared reading day names_in_south 21 carl_asks ≡ Some (record { table = patient; key = Int (pos 1) ∷ [] } ∷ [])
+shared_tuple_of_the_one_common_table = simp truths
+
+query_without_the_column_is_not_flagged : shared reading day names_in_south 23 carl_asks_again ≡ None
+query_without_the_column_is_not_flagged = simp named_columns
+
+denials_as_they_were : denials reading day 20 ann_asks ≡ record { table = patient; key = Int (pos 2) ∷ []; column = codes "phone"; rule = 11 } ∷ []
+denials_as_they_were = simp named_columns

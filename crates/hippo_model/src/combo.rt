@@ -1,0 +1,170 @@
+ghost use Rattle.std.specs.Prelude.{◌≡◌, ◌<◌, ◌-◌, ◌↔◌, [], ◌∷◌, ◌++◌, length, take, slice_get, Some, IsTrue, OnOk, OnErr};
+
+use crate::cells::Cells;
+use crate::row_set::RowSet;
+use crate::schema::Places;
+use hippo_values::{Memory, Moment, Name};
+use std::alloc::Global;
+use std::marker::Model;
+
+/// The order in which a query's tables are joined, by their places in FROM.
+#[derive(Debug, Drop, PartialEq, Eq)]
+pub struct Plan {
+    pub order: Places,
+}
+
+/// The choices of patients on items.
+pub trait ChoiceView {
+    ghost use Rattle.std.specs.Prelude.{ℕ, ℤ, Bool, List, Option};
+
+    /// The choice of a patient on an item, by the patient's number and the item's bytes.
+    ghost choices: { Self → ℤ → List ℕ → Option Bool };
+
+    /// Whether the patient with this number said yes or no to the item; none where neither.
+    fn choice(&self, subject: i64, item: &Name) -> Option<bool>
+        ensures { result ≡ choices self.now subject item.now };
+}
+
+/// The rows of each of a statement's tables, in the order of FROM.
+#[derive(Drop)]
+pub struct Sets<'a> {
+    sets: Vec<&'a RowSet>,
+}
+
+impl<'a> Model for Sets<'a> {
+    ghost use Rattle.std.specs.Prelude.{List, map};
+    ghost use Rattle.hippo_model.specs.RowSets.{KeyedRows};
+
+    ghost Value = { List KeyedRows };
+
+    ghost view = { λ sets. map (λ set. set.now) sets.sets.items };
+}
+
+impl<'a> Sets<'a> {
+    /// No table; takes no memory.
+    pub fn new(alloc: Global) -> Sets<'a>
+        ensures { result ≡ [] }
+    {
+        Sets {
+            sets: Vec::new(alloc),
+        }
+    }
+
+    /// Adds the rows of the next table.
+    pub fn push(&mut self, set: &'a RowSet) -> Result<(), Memory>
+        ensures ok { OnOk result (self.new ≡ self.old ++ set.now ∷ []) }
+        ensures err { OnErr result (self.new ≡ self.old) }
+    {
+        self.sets.push(set)?;
+        Ok(())
+    }
+
+    /// The number of tables.
+    pub fn len(&self) -> usize
+        ensures { result ≡ length self.now }
+    {
+        self.sets.len()
+    }
+
+    pub fn is_empty(&self) -> bool
+        ensures { IsTrue result ↔ (self.now ≡ []) }
+    {
+        self.sets.is_empty()
+    }
+
+    /// The rows of the table at a place, counted from 0.
+    pub fn get(&self, place: usize) -> &'a RowSet
+        requires { place < length self.now }
+        ensures { slice_get self.now place ≡ Some result.now }
+    {
+        self.sets[place]
+    }
+}
+
+// A row of a table that stands elsewhere, and the moment at which it was born.
+#[derive(Drop)]
+struct LentRow<'a> {
+    row: &'a Cells,
+    born: Moment,
+}
+
+/// One row of each of a statement's tables, in the order of FROM, each with the moment at which it was born.
+#[derive(Drop)]
+pub struct Combo<'a> {
+    rows: Vec<LentRow<'a>>,
+}
+
+impl<'a> Model for Combo<'a> {
+    ghost use Rattle.std.specs.Prelude.{map};
+    ghost use Rattle.hippo_model.specs.Combinations.{Combination};
+
+    ghost Value = { Combination };
+
+    ghost view = { λ combo. record {
+      rows = map (λ member. member.row.now) combo.rows.items;
+      births = map (λ member. member.born) combo.rows.items;
+    } };
+}
+
+impl<'a> Combo<'a> {
+    /// No row; takes no memory.
+    pub fn new(alloc: Global) -> Combo<'a>
+        ensures { result ≡ record { rows = []; births = [] } }
+    {
+        Combo {
+            rows: Vec::new(alloc),
+        }
+    }
+
+    /// Adds the next table's row.
+    pub fn push(&mut self, row: &'a Cells, born: Moment) -> Result<(), Memory>
+        ensures ok { OnOk result (self.new ≡ record {
+          rows = self.old.rows ++ row.now ∷ [];
+          births = self.old.births ++ born ∷ [];
+        }) }
+        ensures err { OnErr result (self.new ≡ self.old) }
+    {
+        match self.rows.push(LentRow { row, born }) {
+            Ok(()) => Ok(()),
+            Err(_) => Err(Memory),
+        }
+    }
+
+    /// Takes away the last table's row, if there is one.
+    pub fn pop(&mut self)
+        ensures rows { self.new.rows ≡ take (length self.old.rows - 1) self.old.rows }
+        ensures births { self.new.births ≡ take (length self.old.births - 1) self.old.births }
+    {
+        let _ = self.rows.pop();
+    }
+
+    /// The number of rows.
+    pub fn len(&self) -> usize
+        ensures rows { result ≡ length self.now.rows }
+        ensures births { result ≡ length self.now.births }
+    {
+        self.rows.len()
+    }
+
+    pub fn is_empty(&self) -> bool
+        ensures { IsTrue result ↔ (self.now.rows ≡ []) }
+    {
+        self.rows.is_empty()
+    }
+
+    /// The row of the table at a place, counted from 0.
+    pub fn row(&self, place: usize) -> &'a Cells
+        requires { place < length self.now.rows }
+        ensures { slice_get self.now.rows place ≡ Some result.now }
+    {
+        self.rows[place].row
+    }
+
+    /// The moment at which the row of the table at a place was born.
+    pub fn born(&self, place: usize) -> Moment
+        requires { place < length self.now.rows }
+        ensures { slice_get self.now.births place ≡ Some result }
+    {
+        self.rows[place].born
+    }
+}
