@@ -6,3 +6,4 @@ mod ClinicLemmas
 mod ViewLemmas
 mod StepLemmas
 mod RunLemmas
+mod StatusLemmas

@@ -81,3 +81,15 @@ pub record HasServed (input before : List ℕ) (reader : Position) (left : Optio
   pub run : IsRun [] handed steps
   pub history : entries ≡ history_after [] steps
   pub written : output ≡ Some (before ++ replies steps)
+
+-- what holds of whatever input and output are told
+abbrev pub ForTold : Option (List ℕ) → Option (List ℕ) → (List ℕ → List ℕ → Type 0) → Type 0
+ForTold left written holds = (input before : List ℕ) → left ≡ Some input → written ≡ Some before → holds input before
+
+abbrev pub status_of : Ending → ℕ
+status_of Served = 0
+status_of Refused = 2
+status_of ReadFault = 4
+status_of WriteFault = 5
+status_of NoMemory = 7
+status_of TooMuch = 8

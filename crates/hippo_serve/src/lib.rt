@@ -11,3 +11,5 @@ mod requests;
 mod top;
 mod turns;
 mod world;
+
+pub use top::{Ending, hippo_top};

@@ -1,14 +1,15 @@
-ghost use Rattle.std.specs.Prelude.{◌≡◌, ℕ, ◌<◌, ◌≤◌, ◌↔◌, List, Option, Some, None, MatchOption, IfNone};
+ghost use Rattle.std.specs.Prelude.{◌≡◌, ℕ, ◌<◌, ◌≤◌, List, [], Option, Some, None, MatchOption, IfNone, IfOk, ◌⊎◌, ◌≢◌, ◌∷◌, Any, IsTrue, IsFalse};
 ghost use Rattle.hippo_io.specs.Faults.{HasRisen};
-ghost use Rattle.hippo_io.specs.Reading.{consumed, input_limit};
-ghost use Rattle.hippo_serve.specs.declared.top.Ending.TheVariants.{ReadFault, WriteFault};
-ghost use Rattle.hippo_serve.specs.Runs.{Ends, HasServed};
+ghost use Rattle.hippo_io.specs.Told.{Appends, AppendsFront};
+ghost use Rattle.hippo_io.specs.Reading.{at_beginning, consumed, input_limit, HasHandedOut};
+ghost use Rattle.hippo_serve.specs.declared.top.Ending.TheVariants.{Refused, ReadFault, WriteFault, NoMemory};
+ghost use Rattle.hippo_serve.specs.Runs.{is_run, usage, Ends, HasServed, ForTold, IsServed, IsCutOff, IsUnwritten, status_of};
 
 use crate::answers::outcome_text;
 use crate::clinic::Clinic;
 use crate::turns::take_turn;
 use hippo_io::{LineFault, LineReader, Sink, Source, write_whole};
-use hippo_values::Txt;
+use hippo_values::{Memory, Txt};
 use std::alloc::Global;
 
 /// How a call of the program ends, with its exit status.
@@ -28,6 +29,15 @@ pub enum Ending {
     TooMuch = 8,
 }
 
+impl Ending {
+    /// The exit status.
+    pub fn status(self) -> u8
+        ensures { result ≡ status_of self }
+    {
+        self as u8
+    }
+}
+
 // Reads the next line, answers it and writes its reply; answers how the run ends, where it does.
 fn serve_line<S: Source, K: Sink>(
     alloc: Global,
@@ -38,6 +48,7 @@ fn serve_line<S: Source, K: Sink>(
     out: &mut Txt,
 ) -> Option<Ending>
     requires { reader.old.failure ≡ None }
+    ensures status { (result ≢ Some Refused) × (result ≢ Some NoMemory) }
     ensures goes_on { IfNone result ((reader.new.failure ≡ None) × (consumed reader.old < consumed reader.new) × (reader.new.taken ≤ input_limit)) }
     ensures served { (input before : List ℕ) → HasServed input before reader.old (S.left source.old) clinic.old (K.written sink.old)
         → MatchOption result (HasServed input before reader.new (S.left source.new) clinic.new (K.written sink.new))
@@ -59,4 +70,101 @@ fn serve_line<S: Source, K: Sink>(
         Err(LineFault::Read) => Some(Ending::ReadFault),
         Err(LineFault::TooMuch) => Some(Ending::TooMuch),
     }
+}
+
+// Serves lines until the input ends or a fault stops it.
+fn run<S: Source, K: Sink>(
+    alloc: Global,
+    clinic: &mut Clinic,
+    reader: &mut LineReader,
+    source: &mut S,
+    sink: &mut K,
+    out: &mut Txt,
+) -> Ending
+    requires clinic { clinic.old ≡ [] }
+    requires reader { reader.old ≡ at_beginning }
+    requires handed { (input : List ℕ) → HasHandedOut input [] reader.old (Some input) }
+    ensures ends { ForTold (S.left source.old) (K.written sink.old) (λ input before. Ends result input before (S.left source.new) (K.written sink.new)) }
+    ensures status { (result ≢ Refused) × (result ≢ NoMemory) }
+    ensures read_fault { result ≡ ReadFault → HasRisen (S.faults source.old) (S.faults source.new) }
+    ensures write_fault { result ≡ WriteFault → HasRisen (K.faults sink.old) (K.faults sink.new) }
+{
+    loop {
+        if let Some(ending) = serve_line(alloc, clinic, reader, source, sink, out) {
+            return ending;
+        }
+    }
+}
+
+const USAGE: &str = "usage: hippo run|check|drill [--store NAME] [--history N] [--size N] [--number N] [--format text|json|csv]\n";
+
+fn is_run(words: &[Txt]) -> bool
+    ensures { result ≡ is_run words.now }
+{
+    match words {
+        [word] => word.as_str() == "run",
+        _ => false,
+    }
+}
+
+#[tactic(auto, unfolding(crate::specs::Runs::usage))]
+fn refuse<K: Sink>(sink: &mut K) -> Ending
+    ensures written { result ≡ Refused → Appends (K.written sink.old) (K.written sink.new) usage }
+    ensures failed { result ≡ WriteFault → AppendsFront (K.written sink.old) (K.written sink.new) usage × HasRisen (K.faults sink.old) (K.faults sink.new) }
+    ensures status { (result ≡ Refused) ⊎ (result ≡ WriteFault) }
+{
+    if write_whole(sink, USAGE.as_bytes()).is_ok() { Ending::Refused } else { Ending::WriteFault }
+}
+
+fn open(alloc: Global) -> Result<(Clinic, LineReader), Memory>
+    ensures clinic { IfOk result (λ opened. opened.0 ≡ []) }
+    ensures reader { IfOk result (λ opened. opened.1 ≡ at_beginning) }
+    ensures handed { IfOk result (λ opened. (input : List ℕ) → HasHandedOut input [] opened.1 (Some input)) }
+{
+    let clinic = Clinic::new(alloc)?;
+    let reader = LineReader::new(alloc)?;
+    Ok((clinic, reader))
+}
+
+/// Runs the program: `words` are those behind its name, `source` is its input and `sink` its output. Answers the exit
+/// status.
+///
+/// - 0: the input was read to its end, and every line has its reply.
+/// - 2: exactly where the words are not the one word `run`; the usage line is written, and nothing is read.
+/// - 4: the source failed; just the lines that were read whole have their replies.
+/// - 5: the sink failed; what was written is a front of what was to be written.
+/// - 7: memory was short before the first byte was read; nothing was read or written.
+/// - 8: more than 2^40 bytes were read; just the lines that end among the first 2^40 have their replies.
+pub fn hippo_top<S: Source, K: Sink>(alloc: Global, words: &[Txt], source: &mut S, sink: &mut K) -> u8
+    ensures status { Any (λ status. result ≡ status) (0 ∷ 2 ∷ 4 ∷ 5 ∷ 7 ∷ 8 ∷ []) }
+
+    // Words that are not those of the command are refused, and nothing is read.
+    ensures refused { IsFalse (is_run words.now) → ((result ≡ 2) ⊎ (result ≡ 5)) × (source.new ≡ source.old) }
+    ensures accepted { IsTrue (is_run words.now) → result ≢ 2 }
+    ensures usage { result ≡ 2 → Appends (K.written sink.old) (K.written sink.new) usage }
+    ensures usage_cut { IsFalse (is_run words.now) → result ≡ 5 → AppendsFront (K.written sink.old) (K.written sink.new) usage }
+
+    // A run over an input that is told, with an output that is told.
+    ensures served { result ≡ 0 → ForTold (S.left source.old) (K.written sink.old)
+        (λ input before. IsServed input before (S.left source.new) (K.written sink.new)) }
+    ensures read_cut { result ≡ 4 → ForTold (S.left source.old) (K.written sink.old)
+        (λ input before. (taken : ℕ) × IsCutOff input before (S.left source.new) (K.written sink.new) taken × (taken ≤ input_limit)) }
+    ensures write_cut { IsTrue (is_run words.now) → result ≡ 5 → ForTold (S.left source.old) (K.written sink.old)
+        (λ input before. IsUnwritten input before (S.left source.new) (K.written sink.new)) }
+    ensures too_much { result ≡ 8 → ForTold (S.left source.old) (K.written sink.old)
+        (λ input before. (taken : ℕ) × IsCutOff input before (S.left source.new) (K.written sink.new) taken × (input_limit < taken)) }
+    ensures nothing { result ≡ 7 → (source.new ≡ source.old) × (sink.new ≡ sink.old) }
+
+    // A fault comes only where its object's count rose.
+    ensures read_fault { result ≡ 4 → HasRisen (S.faults source.old) (S.faults source.new) }
+    ensures write_fault { result ≡ 5 → HasRisen (K.faults sink.old) (K.faults sink.new) }
+{
+    if !is_run(words) {
+        return refuse(sink).status();
+    }
+    let Ok((mut clinic, mut reader)) = open(alloc) else {
+        return Ending::NoMemory.status();
+    };
+    let mut out = Txt::new(alloc);
+    run(alloc, &mut clinic, &mut reader, source, sink, &mut out).status()
 }
