@@ -1,0 +1,35 @@
+//! The program: `hippo run` reads lines from standard input and writes their replies to standard output.
+#![tactic(auto)]
+
+use hippo_io::{StdSink, StdSource};
+use hippo_serve::{Ending, hippo_top};
+use hippo_values::{Memory, Sequence, Txt};
+use std::env;
+use std::io;
+use std::process::ExitCode;
+
+type Words = Sequence<Txt>;
+
+// The words behind the program's name; none where one of them is no text.
+fn words(rt: &HostRuntime) -> Result<Words, Memory> {
+    let mut words = Words::new(rt.alloc());
+    match env::args(rt) {
+        Ok(args) => {
+            for word in args.skip(1) {
+                words.push(Txt::from_string(word))?;
+            }
+            Ok(words)
+        }
+        Err(error) if error.kind() == io::ErrorKind::OutOfMemory => Err(Memory),
+        Err(_) => Ok(words),
+    }
+}
+
+fn main(rt: HostRuntime) -> ExitCode {
+    let Ok(words) = words(&rt) else {
+        return ExitCode::from(Ending::NoMemory.status());
+    };
+    let mut source = StdSource::new(rt.stdin());
+    let mut sink = StdSink::new(rt.stdout());
+    ExitCode::from(hippo_top(rt.alloc(), words.as_slice(), &mut source, &mut sink))
+}
