@@ -4,9 +4,8 @@
 use hippo_io::{StdSink, StdSource};
 use hippo_serve::{Ending, hippo_top};
 use hippo_values::{Memory, Sequence, Txt};
-use std::env;
-use std::io;
 use std::process::ExitCode;
+use std::{env, io};
 
 type Words = Sequence<Txt>;
 

@@ -27,18 +27,18 @@ rule_after history act column = last_word-append (λ entry. rule_in treatment nu
 -- a query changes neither rows nor rules
 pub kept_after_asked : (history : List Entry) (kept : KeyedRows) (allowing : List ℕ) (text : List ℕ) → IsKept history kept allowing → IsKept (with_entry history (asked text)) kept allowing
 kept_after_asked history kept allowing text is = record {
-    key = is.key;
-    rows = is.rows ∙ sym (table_rows-other patient history record { seq = length history + 1; moment = clock; act = asked text } refl);
-    rules = λ column within. rule_after history (asked text) column ∙ is.rules column within;
-  }
+  key = is.key;
+  rows = is.rows ∙ sym (table_rows-other patient history record { seq = length history + 1; moment = clock; act = asked text } refl);
+  rules = λ column within. rule_after history (asked text) column ∙ is.rules column within;
+}
 
 -- a new row is put among the others
 pub kept_after_insert : (history : List Entry) (kept : KeyedRows) (allowing : List ℕ) (row : List Value) → IsKept history kept allowing → IsKept (with_entry history (Insert patient_name row)) (with_row row clock kept) allowing
 kept_after_insert history kept allowing row is = record {
-    key = is.key;
-    rows = rw (is.key, is.rows) (sym (table_rows-Insert patient history record { seq = length history + 1; moment = clock; act = Insert patient_name row } patient_name row refl refl));
-    rules = λ column within. rule_after history (Insert patient_name row) column ∙ is.rules column within;
-  }
+  key = is.key;
+  rows = rw (is.key, is.rows) (sym (table_rows-Insert patient history record { seq = length history + 1; moment = clock; act = Insert patient_name row } patient_name row refl refl));
+  rules = λ column within. rule_after history (Insert patient_name row) column ∙ is.rules column within;
+}
 
 rule_by_test : (b : Bool) (number below : ℕ) (before : Option Rule) (old : ℕ) → number ≡ suc below → before ≡ rule_of old → or_else (said b (allowed number None)) before ≡ rule_of (cond b number old)
 rule_by_test true number below before old above e = rw above refl
@@ -49,12 +49,12 @@ pub kept_after_allow : (history : List Entry) (kept : KeyedRows) (allowing allow
     → ((column : ℕ) → column < 4 → slice_index allowing' column ≡ allowing_with places (length history + 1) allowing column)
     → IsKept (with_entry history (Allow treatment nurse patient_name places None)) kept allowing'
 kept_after_allow history kept allowing allowing' places is now = record {
-    key = is.key;
-    rows = is.rows ∙ sym (table_rows-other patient history record { seq = length history + 1; moment = clock; act = Allow treatment nurse patient_name places None } refl);
-    rules = λ column within. rule_after history (Allow treatment nurse patient_name places None) column
-        ∙ rule_by_test (list_any (nat_eq column) places) (length history + 1) (length history) (rule_now history column) (slice_index allowing column) (add-one (length history)) (is.rules column within)
-        ∙ ap rule_of (sym (now column within));
-  }
+  key = is.key;
+  rows = is.rows ∙ sym (table_rows-other patient history record { seq = length history + 1; moment = clock; act = Allow treatment nurse patient_name places None } refl);
+  rules = λ column within. rule_after history (Allow treatment nurse patient_name places None) column
+      ∙ rule_by_test (list_any (nat_eq column) places) (length history + 1) (length history) (rule_now history column) (slice_index allowing column) (add-one (length history)) (is.rules column within)
+      ∙ ap rule_of (sym (now column within));
+}
 
 same_step : {out out' : List ℕ} {entries entries' : List Entry} → out ≡ out' → entries ≡ entries' → ◌≡◌ {A = Step} (record { reply = out; after = entries }) (record { reply = out'; after = entries' })
 same_step e f = λ i. record { reply = e i; after = f i }
@@ -118,10 +118,10 @@ module _ (world : World) (history : List Entry) (kept : KeyedRows) (allowing : L
       let missing : row_at patient history (Int pid ∷ []) ≡ None = sym (found_row pid key k) ∙ ap (option_and_then (slice_get kept.rows)) (sym f) ∙ none_found found none in
       let step : step_by now (Insert patient_name cells) (conflict now (Insert patient_name cells)) ≡ record { reply = ok_line (length history + 1); after = with_entry history (Insert patient_name cells) } = rw (← h, same_key, missing) refl in
       on_ok_weaker r
-          (λ recorded. same_step (made ∙ ap (λ front. front ++ ok_line number) nothing ∙ ap ok_line n)
-              (recorded ∙ ap (λ name. with_entry history (Insert name row)) (t ∙ is.names.table) ∙ ap (λ values. with_entry history (Insert patient_name values)) same_row)
-              ∙ sym step)
-          e
+      (λ recorded. same_step (made ∙ ap (λ front. front ++ ok_line number) nothing ∙ ap ok_line n)
+      (recorded ∙ ap (λ name. with_entry history (Insert name row)) (t ∙ is.names.table) ∙ ap (λ values. with_entry history (Insert patient_name values)) same_row)
+      ∙ sym step)
+      e
 
   -- a patient whose number a row has
   pub there_step : (now : List Entry) (before out : List ℕ) (cells : List Value) (pid : ℤ) (key : List Value) (number : ℕ) (found : Option ℕ)

@@ -20,10 +20,10 @@ slice_split-nonempty : (text : List ℕ) → parts_of text ≡ [] → ⊥
 slice_split-nonempty [] h = cc
 slice_split-nonempty (x ∷ xs) h = by_comma (eqb x 44) refl (parts_of xs) refl
   where
-  by_comma : (b : Bool) → eqb x 44 ≡ b → (parts : List (List ℕ)) → parts_of xs ≡ parts → ⊥
-  by_comma true e parts f = let g : [] ∷ parts_of xs ≡ [] = rw e at h in cc
-  by_comma false e [] f = let g : (x ∷ []) ∷ [] ≡ [] = rw (e, f) at h in cc
-  by_comma false e (part ∷ parts) f = let g : (x ∷ part) ∷ parts ≡ [] = rw (e, f) at h in cc
+    by_comma : (b : Bool) → eqb x 44 ≡ b → (parts : List (List ℕ)) → parts_of xs ≡ parts → ⊥
+    by_comma true e parts f = let g : [] ∷ parts_of xs ≡ [] = rw e at h in cc
+    by_comma false e [] f = let g : (x ∷ []) ∷ [] ≡ [] = rw (e, f) at h in cc
+    by_comma false e (part ∷ parts) f = let g : (x ∷ part) ∷ parts ≡ [] = rw (e, f) at h in cc
 
 no_column : (x : ℕ) (part : List ℕ) (parts : List (List ℕ)) → eqb 32 x ≡ false → later_columns ((x ∷ part) ∷ parts) ≡ None
 no_column x part parts e = rw e refl
@@ -33,14 +33,14 @@ later_columns-parts : (text : List ℕ) → later_columns (parts_of text) ≡ op
 later_columns-parts [] = refl
 later_columns-parts (x ∷ xs) = by_space (eqb 32 x) refl (parts_of xs) refl
   where
-  by_space : (b : Bool) → eqb 32 x ≡ b → (parts : List (List ℕ)) → parts_of xs ≡ parts → later_columns (parts_of (x ∷ xs)) ≡ option_and_then columns_of (after (codes " ") (x ∷ xs))
-  by_space b e [] none = absurd (slice_split-nonempty xs none)
-  by_space true e (part ∷ parts) some = let space : x ≡ 32 = sym (eqb-true 32 x e) in rw (space, some) refl
-  by_space false e (part ∷ parts) some = by_comma (eqb x 44) refl
-    where
-    by_comma : (b : Bool) → eqb x 44 ≡ b → later_columns (parts_of (x ∷ xs)) ≡ option_and_then columns_of (after (codes " ") (x ∷ xs))
-    by_comma true comma = rw (e, comma) refl
-    by_comma false comma = rw (e, comma, some) (no_column x part parts e)
+    by_space : (b : Bool) → eqb 32 x ≡ b → (parts : List (List ℕ)) → parts_of xs ≡ parts → later_columns (parts_of (x ∷ xs)) ≡ option_and_then columns_of (after (codes " ") (x ∷ xs))
+    by_space b e [] none = absurd (slice_split-nonempty xs none)
+    by_space true e (part ∷ parts) some = let space : x ≡ 32 = sym (eqb-true 32 x e) in rw (space, some) refl
+    by_space false e (part ∷ parts) some = by_comma (eqb x 44) refl
+      where
+        by_comma : (b : Bool) → eqb x 44 ≡ b → later_columns (parts_of (x ∷ xs)) ≡ option_and_then columns_of (after (codes " ") (x ∷ xs))
+        by_comma true comma = rw (e, comma) refl
+        by_comma false comma = rw (e, comma, some) (no_column x part parts e)
 
 below_suc : (n : ℕ) → ltb 0 (suc n) ≡ true
 below_suc n = grind (arith, nat_tests)
@@ -52,11 +52,11 @@ no_comma : (text : List ℕ) → ltb (position_or_len is_comma text) (length tex
 no_comma [] h = refl
 no_comma (x ∷ xs) h = by_comma (eqb x 44) refl (λ past. no_comma xs past)
   where
-  by_comma : (b : Bool) → eqb x 44 ≡ b → (ltb (position_or_len is_comma xs) (length xs) ≡ false → parts_of xs ≡ xs ∷ []) → parts_of (x ∷ xs) ≡ (x ∷ xs) ∷ []
-  by_comma true e rest = let g : ltb 0 (length (x ∷ xs)) ≡ false = rw e at h in absurd (false≢true (sym g ∙ below_suc (length xs)))
-  by_comma false e rest =
-      let g : ltb (1 + position_or_len is_comma xs) (length (x ∷ xs)) ≡ false = rw e at h in
-      rw (e, rest (past_more (position_or_len is_comma xs) (length xs) g)) refl
+    by_comma : (b : Bool) → eqb x 44 ≡ b → (ltb (position_or_len is_comma xs) (length xs) ≡ false → parts_of xs ≡ xs ∷ []) → parts_of (x ∷ xs) ≡ (x ∷ xs) ∷ []
+    by_comma true e rest = let g : ltb 0 (length (x ∷ xs)) ≡ false = rw e at h in absurd (false≢true (sym g ∙ below_suc (length xs)))
+    by_comma false e rest =
+        let g : ltb (1 + position_or_len is_comma xs) (length (x ∷ xs)) ≡ false = rw e at h in
+        rw (e, rest (past_more (position_or_len is_comma xs) (length xs) g)) refl
 
 around_parts : (b : Bool) (text : List ℕ) (found : Option (List ℕ × List ℕ)) → ltb (position_or_len is_comma text) (length text) ≡ b → around 44 text ≡ found → found ≡ cond b (Some (before_first is_comma text, after_first is_comma text)) None
 around_parts true text found e f = sym f ∙ rw e refl
@@ -74,20 +74,20 @@ around-some : (text name more : List ℕ) → around 44 text ≡ Some (name, mor
 unfolding first_in second_in
 around-some text name more e = by_test (ltb (position_or_len is_comma text) (length text)) refl
   where
-  by_test : (b : Bool) → ltb (position_or_len is_comma text) (length text) ≡ b → parts_of text ≡ name ∷ parts_of more
-  by_test true within =
-      let cut = around_parts true text (Some (name, more)) within e in
-      let name_is : name ≡ before_first is_comma text = ap first_in cut in
-      let more_is : more ≡ after_first is_comma text = ap second_in cut in
-      rw (name_is, more_is) (slice_split_first is_comma text 0 (ltb-true _ _ within))
-  by_test false past = let cut : Some (name, more) ≡ None = around_parts false text (Some (name, more)) past e in cc
+    by_test : (b : Bool) → ltb (position_or_len is_comma text) (length text) ≡ b → parts_of text ≡ name ∷ parts_of more
+    by_test true within =
+        let cut = around_parts true text (Some (name, more)) within e in
+        let name_is : name ≡ before_first is_comma text = ap first_in cut in
+        let more_is : more ≡ after_first is_comma text = ap second_in cut in
+        rw (name_is, more_is) (slice_split_first is_comma text 0 (ltb-true _ _ within))
+    by_test false past = let cut : Some (name, more) ≡ None = around_parts false text (Some (name, more)) past e in cc
 
 around-none : (text : List ℕ) → around 44 text ≡ None → parts_of text ≡ text ∷ []
 around-none text e = by_test (ltb (position_or_len is_comma text) (length text)) refl
   where
-  by_test : (b : Bool) → ltb (position_or_len is_comma text) (length text) ≡ b → parts_of text ≡ text ∷ []
-  by_test true within = let cut : None ≡ Some (before_first is_comma text, after_first is_comma text) = around_parts true text None within e in cc
-  by_test false past = no_comma text past
+    by_test : (b : Bool) → ltb (position_or_len is_comma text) (length text) ≡ b → parts_of text ≡ text ∷ []
+    by_test true within = let cut : None ≡ Some (before_first is_comma text, after_first is_comma text) = around_parts true text None within e in cc
+    by_test false past = no_comma text past
 
 -- a list with a comma: the column before it, and the columns behind it and a space
 pub columns_of-more : (text name more : List ℕ) → around 44 text ≡ Some (name, more) → columns_of text ≡ onto (column_of name) (option_and_then columns_of (after (codes " ") more))

@@ -44,15 +44,15 @@ unsigned_part-is : (text : List ℕ) → is_number text ≡ true → unsigned_pa
 unsigned_part-is [] h = refl
 unsigned_part-is (c ∷ cs) h = by_sign (eqb c 45) refl
   where
-  no_plus : is_ascii_digit c ≡ true → eqb c 43 ≡ false
-  no_plus digit = grind (arith, nat_tests)
+    no_plus : is_ascii_digit c ≡ true → eqb c 43 ≡ false
+    no_plus digit = grind (arith, nat_tests)
 
-  by_sign : (b : Bool) → eqb c 45 ≡ b → unsigned_part (c ∷ cs) ≡ without_leading_sign (c ∷ cs)
-  by_sign true e = rw e refl
-  by_sign false e =
-      let digits : is_digits (c ∷ cs) ≡ true = rw e at h in
-      let plain = no_plus (and_parts (is_ascii_digit c) (list_all is_ascii_digit cs) (digits-parts c cs digits)).0 in
-      rw (e, plain) refl
+    by_sign : (b : Bool) → eqb c 45 ≡ b → unsigned_part (c ∷ cs) ≡ without_leading_sign (c ∷ cs)
+    by_sign true e = rw e refl
+    by_sign false e =
+        let digits : is_digits (c ∷ cs) ≡ true = rw e at h in
+        let plain = no_plus (and_parts (is_ascii_digit c) (list_all is_ascii_digit cs) (digits-parts c cs digits)).0 in
+        rw (e, plain) refl
 
 IsNumeral-from_test : (text : List ℕ) → is_number text ≡ true → IsNumeral 10 (without_leading_sign text)
 IsNumeral-from_test text h = rw (← unsigned_part-is text h) (numeral_of_digits (unsigned_part text) h)

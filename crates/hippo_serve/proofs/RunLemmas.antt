@@ -45,30 +45,30 @@ module _ (input before : List ℕ) (reader reader' : Position) (left left' : Opt
     -- the line has its reply
     pub served_more : Appends output output' (outcome_text outcome made) → HasServed input before reader' left' history' output'
     served_more appends = record {
-        handed = served.handed ++ next.0 ∷ [];
-        steps = served.steps ++ step ∷ [];
-        reading = next.1;
-        run = run_on;
-        history = sym (history_after-append [] served.steps step);
-        written = appends (before ++ replies served.steps) served.written
-            ∙ ap Some (append_assoc before (replies served.steps) step.reply ∙ ap (λ rest. before ++ rest) (sym (replies-append served.steps step)));
-      }
+      handed = served.handed ++ next.0 ∷ [];
+      steps = served.steps ++ step ∷ [];
+      reading = next.1;
+      run = run_on;
+      history = sym (history_after-append [] served.steps step);
+      written = appends (before ++ replies served.steps) served.written
+          ∙ ap Some (append_assoc before (replies served.steps) step.reply ∙ ap (λ rest. before ++ rest) (sym (replies-append served.steps step)));
+    }
 
     -- its reply could not be written whole
     pub unwritten : AppendsFront output output' (outcome_text outcome made) → Ends WriteFault input before left' output'
     unwritten front = record {
-        steps = served.steps;
-        last = step;
-        answered = served.handed ++ next.0 ∷ [];
-        others = lines (reader'.waiting ++ drop reader'.taken input);
-        front = front.0;
-        taken = reader'.taken;
-        order = next.1.others;
-        run = run_on;
-        written = front.1 (before ++ replies served.steps) served.written;
-        left = next.1.told;
-        limit = turn.3;
-      }
+      steps = served.steps;
+      last = step;
+      answered = served.handed ++ next.0 ∷ [];
+      others = lines (reader'.waiting ++ drop reader'.taken input);
+      front = front.0;
+      taken = reader'.taken;
+      order = next.1.others;
+      run = run_on;
+      written = front.1 (before ++ replies served.steps) served.written;
+      left = next.1.told;
+      limit = turn.3;
+    }
 
   pub all_served : (made : List ℕ) → IsTurn history reader left (Ok None) made history' reader' left' → Ends Served input before left' output
   all_served made turn =
@@ -82,28 +82,28 @@ module _ (input before : List ℕ) (reader reader' : Position) (left left' : Opt
         limit = omega (arith, turn.1, length-drop reader'.taken input, ap length ended);
       }
     where
-    drop_told : (rest : List ℕ) → ◌≡◌ {A = Option (List ℕ)} (Some rest) (Some []) → rest ≡ []
-    drop_told rest e = cc
+      drop_told : (rest : List ℕ) → ◌≡◌ {A = Option (List ℕ)} (Some rest) (Some []) → rest ≡ []
+      drop_told rest e = cc
 
   cut_off : HasGivenUp input served.handed reader' left' → IsCutOff input before left' output reader'.taken
   cut_off given = record {
-      steps = served.steps;
-      within = given.within;
-      left = given.told;
-      run = rw (← given.whole) served.run;
-      written = served.written;
-    }
+    steps = served.steps;
+    within = given.within;
+    left = given.told;
+    run = rw (← given.whole) served.run;
+    written = served.written;
+  }
 
   pub read_fault : (made : List ℕ) → IsTurn history reader left (Err Read) made history' reader' left' → Ends ReadFault input before left' output
   read_fault made turn =
       let no_more : input_limit < reader'.taken → ⊥ = λ more. not_too_much (turn.1.1 more) in
       (reader'.taken, cut_off (turn.0 input served.handed served.reading), not_above no_more)
     where
-    not_too_much : ◌≡◌ {A = LineFault} Read TooMuchFault → ⊥
-    not_too_much e = cc
+      not_too_much : ◌≡◌ {A = LineFault} Read TooMuchFault → ⊥
+      not_too_much e = cc
 
-    not_above : (input_limit < reader'.taken → ⊥) → reader'.taken ≤ input_limit
-    not_above no_more = omega arith
+      not_above : (input_limit < reader'.taken → ⊥) → reader'.taken ≤ input_limit
+      not_above no_more = omega arith
 
   pub too_much : (made : List ℕ) → IsTurn history reader left (Err TooMuchFault) made history' reader' left' → Ends TooMuch input before left' output
   too_much made turn = (reader'.taken, cut_off (turn.0 input served.handed served.reading), turn.1.0 refl)

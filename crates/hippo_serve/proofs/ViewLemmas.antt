@@ -29,7 +29,7 @@ use Rattle.hippo_serve.specs.Clinics.{rule_of, verdict_of, rule_now, IsKept, cel
 -- a cell of a masked row
 masked_at : (verdicts : ℕ → Verdict) (row : List Value) (from place : ℕ) (other : Cell)
     → slice_index_or (map (λ (p, value). cell_by (verdicts p) value) (enumerate_from from row)) place other
-        ≡ option_map_or (cell_by (verdicts (from + place))) (slice_get row place) other
+    ≡ option_map_or (cell_by (verdicts (from + place))) (slice_get row place) other
 masked_at verdicts [] from place other = refl
 masked_at verdicts (value ∷ row) from zero other = ap (λ n. cell_by (verdicts n) value) (omega arith)
 masked_at verdicts (value ∷ row) from (suc place) other =

@@ -52,8 +52,8 @@ where_holds test found = option_and_then (λ x. said (test x) x) found
 abbrev pub allow_of : List ℕ → Option Meaning
 allow_of line =
     option_map (λ places. change (Allow treatment nurse patient_name places None))
-        (where_holds (λ places. nat_le (length places) 4 && all_differ places) (option_and_then columns_of
-            (option_and_then (before (codes ")")) (after (codes "0 ALLOW treatment TO nurse ON patient (") line))))
+    (where_holds (λ places. nat_le (length places) 4 && all_differ places) (option_and_then columns_of
+    (option_and_then (before (codes ")")) (after (codes "0 ALLOW treatment TO nurse ON patient (") line))))
 
 -- NULL, and what stands behind it
 abbrev pub null_cell : List ℕ → Option (Value × List ℕ)
@@ -63,7 +63,7 @@ null_cell text = option_map (λ rest. (Null, rest)) (after (codes "NULL") text)
 abbrev pub quoted_cell : List ℕ → Option (Value × List ℕ)
 quoted_cell text =
     option_and_then (λ (inner, rest). said (keeps_text_rule inner) (Text inner, rest))
-        (option_and_then (around 39) (after (codes "'") text))
+    (option_and_then (around 39) (after (codes "'") text))
 
 abbrev pub text_cell : List ℕ → Option (Value × List ℕ)
 text_cell text = or_else (null_cell text) (quoted_cell text)
@@ -76,23 +76,23 @@ number_cell text = or_else (option_map Int (number_of text)) (option_map (λ _. 
 abbrev pub cells_from_phone : List ℕ → Option (List Value)
 cells_from_phone text =
     option_and_then (λ (phone, rest). option_map (λ zip. phone ∷ zip ∷ []) (option_and_then number_cell (after (codes ", ") rest)))
-        (text_cell text)
+    (text_cell text)
 
 abbrev pub cells_from_name : List ℕ → Option (List Value)
 cells_from_name text =
     option_and_then (λ (name, rest). option_map (λ cells. name ∷ cells) (option_and_then cells_from_phone (after (codes ", ") rest)))
-        (text_cell text)
+    (text_cell text)
 
 abbrev pub cells_of : List ℕ → Option (List Value)
 cells_of text =
     option_and_then (λ (number, rest). onto (option_map Int (number_of number)) (option_and_then cells_from_name (after (codes " ") rest)))
-        (around 44 text)
+    (around 44 text)
 
 -- 0 INSERT INTO patient VALUES (N, X, X, Y)
 abbrev pub insert_of : List ℕ → Option Meaning
 insert_of line =
     option_map (λ row. change (Insert patient_name row)) (option_and_then cells_of
-        (option_and_then (before (codes ")")) (after (codes "0 INSERT INTO patient VALUES (") line)))
+    (option_and_then (before (codes ")")) (after (codes "0 INSERT INTO patient VALUES (") line)))
 
 -- the query for these columns of all patients
 abbrev pub query_for : List ℕ → Query
@@ -102,9 +102,9 @@ query_for places = record { items = map (λ place. record { table = 0; column = 
 abbrev pub select_of : List ℕ → Option Meaning
 select_of line =
     option_and_then (λ text. option_map (λ places. question text (query_for places))
-            (where_holds (λ places. nat_le (length places) 128) (option_and_then columns_of
-                (option_and_then (before (codes " FROM patient")) (after (codes "SELECT ") text)))))
-        (after (codes "1 ") line)
+    (where_holds (λ places. nat_le (length places) 128) (option_and_then columns_of
+    (option_and_then (before (codes " FROM patient")) (after (codes "SELECT ") text)))))
+    (after (codes "1 ") line)
 
 -- what a line asks for, where it has one of the three forms
 abbrev pub meaning_of : List ℕ → Option Meaning

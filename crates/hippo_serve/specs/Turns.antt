@@ -20,11 +20,11 @@ IsLineStep history not_utf8_line step = step ≡ record { reply = codes "- no 99
 abbrev pub IsTurn : List Entry → Position → Option (List ℕ) → Result (Option Outcome) LineFault → List ℕ → List Entry → Position → Option (List ℕ) → Type 0
 IsTurn history reader left (Ok (Some outcome)) made after reader_after left_after =
     ((input : List ℕ) (handed : List LineText) → HasHandedOut input handed reader left
-        → (line : LineText) × HasHandedOut input (handed ++ line ∷ []) reader_after left_after × IsLineStep history line (record { reply = outcome_text outcome made; after = after }))
+    → (line : LineText) × HasHandedOut input (handed ++ line ∷ []) reader_after left_after × IsLineStep history line (record { reply = outcome_text outcome made; after = after }))
     × (reader_after.failure ≡ None) × (consumed reader < consumed reader_after) × (reader_after.taken ≤ input_limit)
 IsTurn history reader left (Ok None) made after reader_after left_after =
     ((input : List ℕ) (handed : List LineText) → HasHandedOut input handed reader left
-        → HasHandedOut input handed reader_after left_after × (handed ≡ lines input) × (left_after ≡ Some []))
+    → HasHandedOut input handed reader_after left_after × (handed ≡ lines input) × (left_after ≡ Some []))
     × (reader_after.taken ≤ input_limit)
 IsTurn history reader left (Err fault) made after reader_after left_after =
     ((input : List ℕ) (handed : List LineText) → HasHandedOut input handed reader left → HasGivenUp input handed reader_after left_after)

@@ -21,11 +21,11 @@ clock = negsuc 62135596799
 
 abbrev pub patient : Schema
 patient = record {
-    name = patient_name;
-    columns = record { name = codes "pid"; kind = Integer; not_null = true }
-        ∷ record { name = codes "name"; kind = Text; not_null = false }
-        ∷ record { name = codes "phone"; kind = Text; not_null = false }
-        ∷ record { name = codes "zip"; kind = Integer; not_null = false } ∷ [];
-    key = 0 ∷ [];
-    subject = Some 0;
-  }
+  name = patient_name;
+  columns = record { name = codes "pid"; kind = Integer; not_null = true }
+      ∷ record { name = codes "name"; kind = Text; not_null = false }
+      ∷ record { name = codes "phone"; kind = Text; not_null = false }
+      ∷ record { name = codes "zip"; kind = Integer; not_null = false } ∷ [];
+  key = 0 ∷ [];
+  subject = Some 0;
+}

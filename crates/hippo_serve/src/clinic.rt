@@ -77,7 +77,13 @@ fn last_naming_key(entries: &History, new: &NewPatient<'_>) -> Option<u64>
 }
 
 // Adds an entry and puts its row among the others, or does neither.
-fn record_row(entries: &mut History, rows: &mut RowSet, number: u64, act: Act, row: Cells) -> Result<(), Memory>
+fn record_row(
+    entries: &mut History,
+    rows: &mut RowSet,
+    number: u64,
+    act: Act,
+    row: Cells,
+) -> Result<(), Memory>
     requires { number ≡ length entries.old + 1 }
     ensures entry { OnOk result (entries.new ≡ with_entry entries.old act) }
     ensures row { OnOk result (rows.new ≡ with_row row clock rows.old) }
@@ -126,7 +132,12 @@ impl Clinic {
     }
 
     // Records a new patient, unless one with the number is there.
-    pub(crate) fn insert(&mut self, alloc: Global, new: &NewPatient<'_>, out: &mut Txt) -> Result<(), Memory>
+    pub(crate) fn insert(
+        &mut self,
+        alloc: Global,
+        new: &NewPatient<'_>,
+        out: &mut Txt,
+    ) -> Result<(), Memory>
         requires { out.old ≡ [] }
         ensures ok { OnOk result (record { reply = out.new; after = self.new }
             ≡ step_for self.old (Some (change (Insert patient_name (patient_cells new.now))))) }
@@ -148,7 +159,12 @@ impl Clinic {
     }
 
     // Records that columns are allowed.
-    pub(crate) fn allow(&mut self, alloc: Global, places: &[usize], out: &mut Txt) -> Result<(), Memory>
+    pub(crate) fn allow(
+        &mut self,
+        alloc: Global,
+        places: &[usize],
+        out: &mut Txt,
+    ) -> Result<(), Memory>
         requires { out.old ≡ [] }
         ensures ok { OnOk result (record { reply = out.new; after = self.new }
             ≡ step_for self.old (Some (change (Allow treatment nurse patient_name places.now None)))) }
@@ -169,7 +185,13 @@ impl Clinic {
     }
 
     // Records a query and answers it.
-    pub(crate) fn ask(&mut self, alloc: Global, text: &str, places: &[usize], out: &mut Txt) -> Result<(), Memory>
+    pub(crate) fn ask(
+        &mut self,
+        alloc: Global,
+        text: &str,
+        places: &[usize],
+        out: &mut Txt,
+    ) -> Result<(), Memory>
         requires made { out.old ≡ [] }
         requires columns { All (λ place. place < 4) places.now }
         ensures ok { OnOk result (record { reply = out.new; after = self.new }

@@ -52,5 +52,9 @@ pub fn columns(list: &str) -> Option<ColumnList>
         }
         rest = after(more, " ")?;
     }
-    if push_column(&mut places, rest) { Some(places) } else { None }
+    if push_column(&mut places, rest) {
+        Some(places)
+    } else {
+        None
+    }
 }

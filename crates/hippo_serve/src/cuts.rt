@@ -35,7 +35,11 @@ pub fn around_quote(text: &str) -> Option<(&str, &str)>
 fn unsigned_part(bytes: &[u8]) -> &[u8]
     ensures { result.now ≡ unsigned_part bytes.now }
 {
-    if !bytes.is_empty() && bytes[0] == b'-' { &bytes[1..] } else { bytes }
+    if !bytes.is_empty() && bytes[0] == b'-' {
+        &bytes[1..]
+    } else {
+        bytes
+    }
 }
 
 fn is_digit(byte: u8) -> bool

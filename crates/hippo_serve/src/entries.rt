@@ -9,7 +9,6 @@ ghost use Rattle.hippo_serve.specs.Replies.{with_entry};
 use hippo_model::{Act, Entry, History};
 use hippo_values::{Memory, Moment, Value};
 
-
 /// The number of the next entry.
 pub fn next_number(entries: &History) -> Result<u64, Memory>
     ensures { IfOk result (λ number. number ≡ length entries.now + 1) }
@@ -59,9 +58,7 @@ fn names_patient(entry: &Entry, pid: i64) -> bool
         Act::Insert { table, row } | Act::Update { table, row } => {
             table.as_str() == "patient" && is_number(row.as_slice().first(), pid)
         }
-        Act::Delete { table, key } => {
-            table.as_str() == "patient" && is_key(key.as_slice(), pid)
-        }
+        Act::Delete { table, key } => { table.as_str() == "patient" && is_key(key.as_slice(), pid) }
         _ => false,
     }
 }

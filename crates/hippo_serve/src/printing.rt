@@ -54,7 +54,12 @@ fn print_cell(row: &[Value], column: usize, allowing: &[u64], out: &mut Txt) -> 
     }
 }
 
-fn print_later_cells(row: &[Value], places: &[usize], allowing: &[u64], out: &mut Txt) -> Result<(), Memory>
+fn print_later_cells(
+    row: &[Value],
+    places: &[usize],
+    allowing: &[u64],
+    out: &mut Txt,
+) -> Result<(), Memory>
     requires { All (λ place. place < length allowing.now) places.now }
     ensures { OnOk result (out.new ≡ out.old ++ later_cells (map (cell_shown allowing.now row.now) places.now)) }
 {
@@ -65,7 +70,12 @@ fn print_later_cells(row: &[Value], places: &[usize], allowing: &[u64], out: &mu
     Ok(())
 }
 
-fn print_cells(row: &[Value], places: &[usize], allowing: &[u64], out: &mut Txt) -> Result<(), Memory>
+fn print_cells(
+    row: &[Value],
+    places: &[usize],
+    allowing: &[u64],
+    out: &mut Txt,
+) -> Result<(), Memory>
     requires { All (λ place. place < length allowing.now) places.now }
     ensures { OnOk result (out.new ≡ out.old ++ cells_text (map (cell_shown allowing.now row.now) places.now)) }
 {
@@ -85,7 +95,12 @@ fn print_row(row: &[Value], places: &[usize], allowing: &[u64], out: &mut Txt) -
     out.append("\n")
 }
 
-fn print_rows(rows: &RowSet, places: &[usize], allowing: &[u64], out: &mut Txt) -> Result<(), Memory>
+fn print_rows(
+    rows: &RowSet,
+    places: &[usize],
+    allowing: &[u64],
+    out: &mut Txt,
+) -> Result<(), Memory>
     requires { All (λ place. place < length allowing.now) places.now }
     ensures { OnOk result (out.new ≡ out.old ++ flat_map row_line (all_shown allowing.now places.now rows.now.rows)) }
 {
@@ -96,7 +111,12 @@ fn print_rows(rows: &RowSet, places: &[usize], allowing: &[u64], out: &mut Txt) 
 }
 
 /// Adds the answer for these columns of all rows: a line for each row, and one with their number.
-pub fn print_answer(rows: &RowSet, places: &[usize], allowing: &[u64], out: &mut Txt) -> Result<(), Memory>
+pub fn print_answer(
+    rows: &RowSet,
+    places: &[usize],
+    allowing: &[u64],
+    out: &mut Txt,
+) -> Result<(), Memory>
     requires columns { All (λ place. place < length allowing.now) places.now }
     requires key { 0 < length allowing.now }
     ensures { OnOk result (out.new ≡ out.old ++ answer_lines (rows_shown allowing.now places.now rows.now.rows)) }

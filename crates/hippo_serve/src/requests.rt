@@ -58,7 +58,11 @@ fn text_cell(text: &str) -> Option<(Option<&str>, &str)>
         return Some((None, rest));
     }
     let (inner, rest) = around_quote(after(text, "'")?)?;
-    if keeps_text_rule(inner) { Some((Some(inner), rest)) } else { None }
+    if keeps_text_rule(inner) {
+        Some((Some(inner), rest))
+    } else {
+        None
+    }
 }
 
 // A number or NULL.

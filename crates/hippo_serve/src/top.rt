@@ -52,7 +52,7 @@ fn serve_line<S: Source, K: Sink>(
     ensures goes_on { IfNone result ((reader.new.failure ≡ None) × (consumed reader.old < consumed reader.new) × (reader.new.taken ≤ input_limit)) }
     ensures served { (input before : List ℕ) → HasServed input before reader.old (S.left source.old) clinic.old (K.written sink.old)
         → MatchOption result (HasServed input before reader.new (S.left source.new) clinic.new (K.written sink.new))
-            (λ ending. Ends ending input before (S.left source.new) (K.written sink.new)) }
+        (λ ending. Ends ending input before (S.left source.new) (K.written sink.new)) }
     ensures read_fault { result ≡ Some ReadFault → HasRisen (S.faults source.old) (S.faults source.new) }
     ensures write_fault { result ≡ Some WriteFault → HasRisen (K.faults sink.old) (K.faults sink.new) }
     ensures source_faults { S.faults source.old ≤ S.faults source.new }
@@ -96,7 +96,8 @@ fn run<S: Source, K: Sink>(
     }
 }
 
-const USAGE: &str = "usage: hippo run|check|drill [--store NAME] [--history N] [--size N] [--number N] [--format text|json|csv]\n";
+const USAGE: &str =
+    "usage: hippo run|check|drill [--store NAME] [--history N] [--size N] [--number N] [--format text|json|csv]\n";
 
 fn is_run(words: &[Txt]) -> bool
     ensures { result ≡ is_run words.now }
@@ -113,7 +114,11 @@ fn refuse<K: Sink>(sink: &mut K) -> Ending
     ensures failed { result ≡ WriteFault → AppendsFront (K.written sink.old) (K.written sink.new) usage × HasRisen (K.faults sink.old) (K.faults sink.new) }
     ensures status { (result ≡ Refused) ⊎ (result ≡ WriteFault) }
 {
-    if write_whole(sink, USAGE.as_bytes()).is_ok() { Ending::Refused } else { Ending::WriteFault }
+    if write_whole(sink, USAGE.as_bytes()).is_ok() {
+        Ending::Refused
+    } else {
+        Ending::WriteFault
+    }
 }
 
 fn open(alloc: Global) -> Result<(Clinic, LineReader), Memory>
@@ -135,7 +140,12 @@ fn open(alloc: Global) -> Result<(Clinic, LineReader), Memory>
 /// - 5: the sink failed; what was written is a front of what was to be written.
 /// - 7: memory was short before the first byte was read; nothing was read or written.
 /// - 8: more than 2^40 bytes were read; just the lines that end among the first 2^40 have their replies.
-pub fn hippo_top<S: Source, K: Sink>(alloc: Global, words: &[Txt], source: &mut S, sink: &mut K) -> u8
+pub fn hippo_top<S: Source, K: Sink>(
+    alloc: Global,
+    words: &[Txt],
+    source: &mut S,
+    sink: &mut K,
+) -> u8
     ensures status { Any (λ status. result ≡ status) (0 ∷ 2 ∷ 4 ∷ 5 ∷ 7 ∷ 8 ∷ []) }
 
     // Words that are not those of the command are refused, and nothing is read.

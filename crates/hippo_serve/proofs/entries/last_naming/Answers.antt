@@ -11,11 +11,11 @@ loop-entry-preserved c =
     let entry = c.entry-item.result in
     let so_far = take c.loop-entry.entry-index c.args.entries.now in
     let more : take (c.loop-entry.entry-index + 1) c.args.entries.now ≡ so_far ++ entry ∷ [] =
-        take_more c.args.entries.now c.loop-entry.entry-index entry c.loop-entry-test.true ∙ ap (λ item. so_far ++ item ∷ []) (sym c.entry-item.is) in
+    take_more c.args.entries.now c.loop-entry.entry-index entry c.loop-entry-test.true ∙ ap (λ item. so_far ++ item ∷ []) (sym c.entry-item.is) in
     let last : c.if-names_patient.last ≡ cond c.names_patient.result (Some entry.seq) c.loop-entry.last =
-        elim c.if-names_patient.branch [
-          | then-names_patient w ↦ w.last-is ∙ rw (w.if-names_patient.true) refl
-          | else-names_patient w ↦ w.last-is ∙ rw (w.if-names_patient.false) refl
-        ] in
+    elim c.if-names_patient.branch [
+      | then-names_patient w ↦ w.last-is ∙ rw (w.if-names_patient.true) refl
+      | else-names_patient w ↦ w.last-is ∙ rw (w.if-names_patient.false) refl
+    ] in
     rw more (last_at-append so_far entry _ c.loop-entry.last c.if-names_patient.last c.loop-entry.invariant
-        (last ∙ ap (λ b. cond b (Some entry.seq) c.loop-entry.last) c.names_patient.ensures))
+    (last ∙ ap (λ b. cond b (Some entry.seq) c.loop-entry.last) c.names_patient.ensures))

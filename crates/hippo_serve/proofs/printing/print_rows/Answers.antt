@@ -8,7 +8,7 @@ use Rattle.hippo_serve.proofs.printing.print_rows.Goals as goal
 -- the lines of the rows from a place on are the row's there and those of the rows behind it
 lines_from : (allowing places : List ℕ) (rows : List (List Value)) (i : ℕ) (row : List Value) → drop i rows ≡ row ∷ drop (i + 1) rows
     → flat_map row_line (all_shown allowing places (drop i rows))
-        ≡ row_line (map (cell_shown allowing row) places) ++ flat_map row_line (all_shown allowing places (drop (i + 1) rows))
+    ≡ row_line (map (cell_shown allowing row) places) ++ flat_map row_line (all_shown allowing places (drop (i + 1) rows))
 lines_from allowing places rows i row e = ap (λ left. flat_map row_line (all_shown allowing places left)) e
 
 pub loop-place-preserved : goal.loop-place-preserved

@@ -6,13 +6,13 @@ use Rattle.hippo_serve.proofs.top.run.Given as goal
 
 abbrev pub invariant-loop-ending : goal.invariant-loop-ending
 invariant-loop-ending g l = record {
-    sound : l.reader.failure ≡ None;
-    limit : l.reader.taken ≤ input_limit;
-    source_faults : g.S.Source.faults l.initial.source ≤ g.S.Source.faults l.source;
-    sink_faults : g.K.Sink.faults l.initial.sink ≤ g.K.Sink.faults l.sink;
-    served : (input before : List ℕ) → g.S.Source.left l.initial.source ≡ Some input → g.K.Sink.written l.initial.sink ≡ Some before
-        → HasServed input before l.reader (g.S.Source.left l.source) l.clinic (g.K.Sink.written l.sink);
-  }
+  sound : l.reader.failure ≡ None;
+  limit : l.reader.taken ≤ input_limit;
+  source_faults : g.S.Source.faults l.initial.source ≤ g.S.Source.faults l.source;
+  sink_faults : g.K.Sink.faults l.initial.sink ≤ g.K.Sink.faults l.sink;
+  served : (input before : List ℕ) → g.S.Source.left l.initial.source ≡ Some input → g.K.Sink.written l.initial.sink ≡ Some before
+      → HasServed input before l.reader (g.S.Source.left l.source) l.clinic (g.K.Sink.written l.sink);
+}
 
 abbrev pub decreases-loop-ending : goal.decreases-loop-ending
 decreases-loop-ending g l = input_limit - consumed l.reader

@@ -12,8 +12,8 @@ returns-then-is_some-clause-ok c =
     let new = c.args.new.now in
     let last = sym c.last_naming_key.ensures ∙ c.in_ok-last.ensures.ok_part in
     on_ok_weaker c.print_key_there.result
-        (λ made. there_step _ _ _ _ c.self.invariant _ _ _ (patient_cells new) _ _ _ _ c.self.view_is c.in_ok-key.ensures c.find.ensures.place (sym c.is_some.ensures ∙ c.if-is_some.true) c.find.ensures.range refl last c.requires made)
-        c.print_key_there.ensures
+    (λ made. there_step _ _ _ _ c.self.invariant _ _ _ (patient_cells new) _ _ _ _ c.self.view_is c.in_ok-key.ensures c.find.ensures.place (sym c.is_some.ensures ∙ c.if-is_some.true) c.find.ensures.range refl last c.requires made)
+    c.print_key_there.ensures
 
 pub invariant_of-self : goal.invariant_of-self
 invariant_of-self c =
@@ -23,4 +23,4 @@ invariant_of-self c =
 pub returns-clause-ok : goal.returns-clause-ok
 returns-clause-ok c =
     insert_step _ _ _ _ c.self.invariant c.record_row.result _ _ _ _ _ (patient_cells c.args.new.now) _ _ _ _ _ c.self.view_is c.in_ok-key.ensures c.find.ensures.place (sym c.is_some.ensures ∙ c.if-is_some.false) c.record_row.ensures.entry
-        c.in_ok-copy.ensures (c.in_ok-copy-2.ensures ∙ c.in_ok-row.ensures) refl c.in_ok-number.ensures c.requires c.in_ok-print_ok.ensures
+    c.in_ok-copy.ensures (c.in_ok-copy-2.ensures ∙ c.in_ok-row.ensures) refl c.in_ok-number.ensures c.requires c.in_ok-print_ok.ensures
