@@ -1,5 +1,5 @@
 -- What a clinic keeps belongs to its history after each entry.
-use Rattle.std.proofs.Common.{◌≡◌, ℕ, zero, suc, ◌+◌, ◌<◌, Bool, true, false, ◌&&◌, cond, List, [], ◌∷◌, ◌++◌, length, nat_eq, slice_index, Option, Some, None, if◌then◌else◌, refl, ap, sym, ◌∙◌, bytes_eq, option_and_then, IfSome, arith, add-one, slice_get, Result, Ok, Err, OnOk, OnErr, is_some, ℤ, get_or}
+use Rattle.std.proofs.Common.{◌≡◌, ℕ, suc, ◌+◌, ◌<◌, Bool, true, false, cond, List, [], ◌∷◌, ◌++◌, length, nat_eq, slice_index, Option, Some, None, refl, ap, sym, ◌∙◌, option_and_then, IfSome, add-one, slice_get, Result, Ok, Err, OnOk, OnErr, is_some, ℤ, get_or}
 use Rattle.std.proofs.lemmas.Result.{on_ok_weaker}
 use Rattle.std.proofs.lemmas.Option.{slice_get-get_or}
 use Rattle.std.proofs.lemmas.Bool.{false≢true}
@@ -9,17 +9,17 @@ use Rattle.hippo_values.specs.declared.values.Value.TheVariants.{Int}
 use Rattle.hippo_model.specs.declared.entry.Act.{Act}
 use Rattle.hippo_model.specs.declared.entry.Act.TheVariants.{Insert, Allow, Asked}
 use Rattle.hippo_model.specs.declared.entry.Entry.{Entry}
-use Rattle.hippo_model.specs.Histories.{or_else, said, last_word}
-use Rattle.hippo_model.specs.Rows.{key_named, key_of, row_at, last_at, table_rows}
-use Rattle.hippo_model.specs.Rules.{Rule, allowed, rule_in, rule_at}
-use Rattle.hippo_model.specs.RowSets.{KeyedRows, with_row, find_row, row_with}
+use Rattle.hippo_model.specs.Histories.{or_else, said}
+use Rattle.hippo_model.specs.Rows.{key_of, row_at, last_at}
+use Rattle.hippo_model.specs.Rules.{Rule, allowed, rule_in}
+use Rattle.hippo_model.specs.RowSets.{KeyedRows, with_row, find_row}
 use Rattle.hippo_model.proofs.LastWords.{last_word-append}
 use Rattle.hippo_model.proofs.RowsAfter.{table_rows-Insert, table_rows-other, row_with-table_rows}
 use Rattle.hippo_model.proofs.KeptRows.{slice_get-find_row}
 use Rattle.hippo_serve.specs.declared.world.World.{World}
-use Rattle.hippo_serve.specs.World.{patient, patient_name, treatment, nurse, user_name, clock}
+use Rattle.hippo_serve.specs.World.{patient, patient_name, treatment, nurse, clock}
 use Rattle.hippo_serve.specs.Replies.{Step, with_entry, asked, conflict, step_by, ok_line, key_there_line}
-use Rattle.hippo_serve.specs.Clinics.{rule_of, rule_now, IsKept, IsWorld, IsClinic, allowing_with}
+use Rattle.hippo_serve.specs.Clinics.{rule_of, rule_now, IsKept, IsClinic, allowing_with}
 
 rule_after : (history : List Entry) (act : Act) (column : ℕ) → rule_now (with_entry history act) column ≡ or_else (rule_in treatment nurse patient_name column (length history + 1) act) (rule_now history column)
 rule_after history act column = last_word-append (λ entry. rule_in treatment nurse patient_name column entry.seq entry.act) history record { seq = length history + 1; moment = clock; act = act }

@@ -1,14 +1,14 @@
 -- A list of columns, read from its front.
 use Rattle.std.proofs.Common.{◌≡◌, ℕ, suc, ◌+◌, ◌<◌, ◌≤◌, Bool, true, false, cond, eqb, List, [], ◌∷◌, ◌++◌, length, refl, ap, sym, ◌∙◌, Option, Some, None, option_map, codes, arith, append_assoc, length-append}
-use Rattle.std.proofs.Common.{ltb, leb, nat_le, option_and_then}
-use Rattle.std.specs.List.{slice_split, onto_first, position_or_len, before_first, after_first}
+use Rattle.std.proofs.Common.{ltb, nat_le, option_and_then}
+use Rattle.std.specs.List.{slice_split, position_or_len, before_first, after_first}
 use Rattle.std.proofs.lemmas.List.Splits.{slice_split_first}
 use Rattle.std.proofs.lemmas.Bool.{false≢true, eqb-true}
 use Rattle.std.proofs.lemmas.Bool.Decides.{nat_tests}
 use borrow.Author.Tests.{ltb-true}
 use Rattle.hippo_serve.specs.Cuts.{after, around}
 use Rattle.hippo_serve.specs.Pushes.{IsPushed}
-use Rattle.hippo_serve.specs.Forms.{column_of, later_column, onto, later_columns, columns_in, columns_of, where_holds}
+use Rattle.hippo_serve.specs.Forms.{column_of, onto, later_columns, columns_of, where_holds}
 
 abbrev is_comma : ℕ → Bool
 is_comma byte = eqb byte 44

@@ -1,16 +1,14 @@
 -- What std's searches in a text give, in the words of this crate.
-use Rattle.std.proofs.Common.{◌≡◌, ℕ, ℤ, ◌+◌, ◌-◌, ◌<◌, ◌^◌, Bool, true, false, not, cond, eqb, ltb, List, [], ◌∷◌, ◌++◌, length, drop, take, get_or, refl, ap, sym, ◌∙◌, subst, Option, Some, None, Result, Ok, Err, pos, negsuc, Bor, arith, MatchOption, option_copied, rules, w64, FitsSigned, IsTrue}
-use Rattle.std.specs.Option.{option_map}
-use Rattle.std.specs.Result.{result_ok, OkIff}
-use Rattle.std.specs.List.{position_or_len, before_first, after_first}
+use Rattle.std.proofs.Common.{◌≡◌, ℕ, ℤ, ◌<◌, Bool, true, false, not, eqb, List, [], ◌∷◌, length, refl, Option, Some, None, Result, Ok, Err, pos, negsuc, Bor, arith, MatchOption, option_copied, w64, FitsSigned}
+use Rattle.std.specs.Result.{result_ok}
 use Rattle.std.specs.List.{list_all}
 use Rattle.std.specs.Char.{is_ascii_digit, digit_value}
 use Rattle.std.specs.Str.Parse.{AllDigits, IsNumeral, ParsesSigned, signed_digits_value, without_leading_sign}
 use Rattle.std.specs.Str.Pattern.{FindsTextPrefix, FindsTextSuffix, StripsPrefix, StripsSuffix}
-use Rattle.std.proofs.lemmas.Str.Pattern.{starts_text, ends_text, split_once_first, IsSplitOnceResult}
+use Rattle.std.proofs.lemmas.Str.Pattern.{starts_text, ends_text}
 use Rattle.std.proofs.lemmas.Bool.Decides.{nat_tests}
 use Rattle.std.proofs.lemmas.Bool.{false≢true, and_parts, false_from_ne_true}
-use Rattle.hippo_serve.specs.Cuts.{after, before, around, unsigned_part, is_digits, is_number, is_64_bit, number_of}
+use Rattle.hippo_serve.specs.Cuts.{after, before, unsigned_part, is_digits, is_number, is_64_bit, number_of}
 
 pub after-strip : (front text : List ℕ) (r : Option (Bor (List ℕ))) → MatchOption r (FindsTextPrefix front text None) (λ x. StripsPrefix (FindsTextPrefix front) text x.now) → option_copied r ≡ after front text
 after-strip front text None lacks = let e = starts_text false front text lacks in rw (← e) refl

@@ -1,5 +1,5 @@
 -- What entries say of a key.
-use Rattle.std.proofs.Common.{◌≡◌, ℕ, ℤ, ◌+◌, ◌<◌, Bool, true, false, List, [], ◌∷◌, ◌++◌, length, take, nat_eq, Option, Some, None, if◌then◌else◌, cond, refl, ap, sym, ◌∙◌}
+use Rattle.std.proofs.Common.{◌≡◌, ℕ, ℤ, Bool, true, false, List, [], ◌∷◌, ◌++◌, length, nat_eq, Option, Some, cond, refl, ap, sym, ◌∙◌}
 use Rattle.std.specs.Ordering.{is_eq, ordering_then}
 use Rattle.std.specs.declared.cmp.Ordering.{Ordering}
 use Rattle.std.specs.declared.cmp.Ordering.TheVariants.{Less, Equal, Greater}
@@ -8,7 +8,7 @@ use Rattle.hippo_values.specs.declared.values.Value.{Value}
 use Rattle.hippo_values.specs.declared.values.Value.TheVariants.{Int}
 use Rattle.hippo_model.specs.declared.entry.Entry.{Entry}
 use Rattle.hippo_model.specs.Values.{value_cmp, same_cells}
-use Rattle.hippo_model.specs.Histories.{said, or_else, last_word}
+use Rattle.hippo_model.specs.Histories.{said, or_else}
 use Rattle.hippo_model.specs.Rows.{names_key, last_at}
 use Rattle.hippo_model.proofs.LastWords.{last_word-append}
 use Rattle.hippo_serve.specs.World.{patient}

@@ -1,20 +1,19 @@
 -- A run, one line more.
-use Rattle.std.proofs.Common.{◌≡◌, ℕ, ◌+◌, ◌-◌, ◌<◌, ◌≤◌, ◌↔◌, min, List, [], ◌∷◌, ◌++◌, length, take, drop, flat_map, Option, Some, None, Result, Ok, Err, refl, ap, sym, ◌∙◌, append_assoc, append-nil, arith, length-drop, is_err, OnOk, OnErr, true, false}
+use Rattle.std.proofs.Common.{◌≡◌, ℕ, ◌<◌, ◌≤◌, List, [], ◌∷◌, ◌++◌, length, drop, Option, Some, None, Result, Ok, Err, refl, ap, sym, ◌∙◌, append_assoc, append-nil, arith, length-drop, is_err, OnOk, OnErr, true, false}
 use Rattle.std.proofs.lemmas.Bool.{false≢true}
 use Rattle.hippo_io.specs.Lines.{LineText, lines}
 use Rattle.hippo_io.specs.Position.{Position}
-use Rattle.hippo_io.specs.Reading.{HasHandedOut, HasGivenUp, consumed, input_limit}
+use Rattle.hippo_io.specs.Reading.{HasHandedOut, HasGivenUp, input_limit}
 use Rattle.hippo_io.specs.Told.{Appends, AppendsFront}
 use Rattle.hippo_io.specs.declared.lines.LineFault.{LineFault}
 use Rattle.hippo_io.specs.declared.lines.LineFault.TheVariants.{Read, TooMuch as TooMuchFault}
 use Rattle.hippo_model.specs.declared.entry.Entry.{Entry}
 use Rattle.hippo_serve.specs.declared.answers.Outcome.{Outcome}
-use Rattle.hippo_serve.specs.declared.top.Ending.{Ending}
 use Rattle.hippo_serve.specs.declared.top.Ending.TheVariants.{Served, ReadFault, WriteFault, TooMuch}
 use Rattle.hippo_serve.specs.Replies.{Step}
 use Rattle.hippo_serve.specs.Outcomes.{outcome_text}
 use Rattle.hippo_serve.specs.Turns.{IsLineStep, IsTurn}
-use Rattle.hippo_serve.specs.Runs.{IsRun, replies, history_after, IsServed, IsCutOff, IsUnwritten, Ends, HasServed}
+use Rattle.hippo_serve.specs.Runs.{IsRun, replies, history_after, IsCutOff, Ends, HasServed}
 
 pub IsRun-append : (history : List Entry) (answered : List LineText) (steps : List Step) (line : LineText) (step : Step)
     → IsRun history answered steps → IsLineStep (history_after history steps) line step → IsRun history (answered ++ line ∷ []) (steps ++ step ∷ [])

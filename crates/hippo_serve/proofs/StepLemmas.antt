@@ -1,8 +1,8 @@
 -- A step of a line, by what the line means.
-use Rattle.std.proofs.Common.{◌≡◌, ℕ, Bool, true, false, List, Option, Some, None, Result, Ok, Err, OnOk, is_ok, refl, ap, sym, ◌∙◌, inl, inr}
+use Rattle.std.proofs.Common.{◌≡◌, ℕ, true, false, List, Option, Result, Ok, Err, OnOk, is_ok, refl, ◌∙◌, inl}
 use Rattle.std.proofs.lemmas.Bool.{false≢true}
 use Rattle.hippo_model.specs.declared.entry.Entry.{Entry}
-use Rattle.hippo_serve.specs.Forms.{Meaning, question, query_for, meaning_of}
+use Rattle.hippo_serve.specs.Forms.{Meaning, meaning_of}
 use Rattle.hippo_serve.specs.Replies.{Step, step_for, is_silent, step_of, IsStep}
 
 step_where_spoken : (history : List Entry) (line : List ℕ) (found : Option Meaning) → is_silent line ≡ false → found ≡ meaning_of line → step_for history found ≡ step_of history line

@@ -1,8 +1,8 @@
 -- The answer over the view is what the rows and rules that a clinic keeps show.
-use Rattle.std.proofs.Common.{◌≡◌, ℕ, ℤ, zero, suc, ◌+◌, ◌<◌, Bool, true, false, ◌&&◌, cond, List, [], ◌∷◌, ◌++◌, map, filter, flat_map, filter_map, length, slice_index, slice_index_or, slice_get, Option, Some, None, refl, ap, sym, ◌∙◌, arith, add-one, zero-add, eqb, All}
+use Rattle.std.proofs.Common.{◌≡◌, ℕ, ℤ, zero, suc, ◌+◌, ◌<◌, false, cond, List, [], ◌∷◌, ◌++◌, map, filter, filter_map, slice_index, slice_index_or, slice_get, Option, Some, None, refl, ap, ◌∙◌, arith, zero-add, eqb, All}
 use Rattle.std.specs.List.{AllByRecursion}
 use Rattle.std.specs.Option.{option_map_or}
-use Rattle.std.specs.List.{list_all, enumerate_from}
+use Rattle.std.specs.List.{enumerate_from}
 use Rattle.std.proofs.lemmas.List.Elements.{recursion_from_All}
 use Rattle.std.proofs.lemmas.Bool.Decides.{nat_tests}
 use Rattle.hippo_values.specs.declared.values.Value.{Value}
@@ -13,18 +13,15 @@ use Rattle.hippo_model.specs.declared.entry.Entry.{Entry}
 use Rattle.hippo_model.specs.declared.policy.Verdict.{Verdict}
 use Rattle.hippo_model.specs.declared.query.Ref.{Ref}
 use Rattle.hippo_model.specs.declared.query.CondOf.TheVariants.{All as AllOf}
-use Rattle.hippo_model.specs.Rows.{table_rows}
-use Rattle.hippo_model.specs.Rules.{Rule}
 use Rattle.hippo_model.specs.Verdicts.{verdict, verdict_by, subject_of}
-use Rattle.hippo_model.specs.Views.{is_shown, cell_by, masked_row, view_row, view}
-use Rattle.hippo_model.specs.Conditions.{truth, is_true}
+use Rattle.hippo_model.specs.Views.{cell_by, masked_row, view_row}
 use Rattle.hippo_model.specs.Answers.{product, cell_in, operand_value, passes, selected, answer_of}
 use Rattle.hippo_model.specs.RowSets.{KeyedRows}
 use Rattle.hippo_model.proofs.Truths.{truth-All}
-use Rattle.hippo_serve.specs.World.{patient, patient_name, treatment, nurse, user_name, clock}
+use Rattle.hippo_serve.specs.World.{patient, treatment, nurse, user_name, clock}
 use Rattle.hippo_serve.specs.Forms.{query_for}
 use Rattle.hippo_serve.specs.Replies.{Step, rows_for, answer_lines, with_entry, asked}
-use Rattle.hippo_serve.specs.Clinics.{rule_of, verdict_of, rule_now, IsKept, cell_shown, all_shown, rows_shown}
+use Rattle.hippo_serve.specs.Clinics.{rule_of, verdict_of, IsKept, cell_shown, all_shown, rows_shown}
 
 -- a cell of a masked row
 masked_at : (verdicts : ℕ → Verdict) (row : List Value) (from place : ℕ) (other : Cell)

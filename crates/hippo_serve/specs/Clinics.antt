@@ -1,5 +1,5 @@
 -- What a clinic keeps beside its history, and how it answers from that.
-use Rattle.std.specs.Prelude.{◌≡◌, ℕ, zero, suc, ◌<◌, Bool, List, [], ◌∷◌, map, slice_get, slice_index, Option, Some, None, if◌then◌else◌, ◌==◌, nat_eq}
+use Rattle.std.specs.Prelude.{◌≡◌, ℕ, zero, suc, ◌<◌, List, [], map, slice_get, slice_index, Option, Some, None, if◌then◌else◌, ◌==◌, nat_eq}
 use Rattle.std.specs.List.{list_any}
 use Rattle.std.specs.Option.{option_map_or}
 use Rattle.hippo_values.specs.declared.values.Value.{Value}

@@ -1,5 +1,5 @@
 -- Pieces of a line's text.
-use Rattle.std.specs.Prelude.{ℕ, ◌-◌, ◌^◌, ℤ, pos, negsuc, Bool, false, true, not, ◌&&◌, ◌==◌, List, [], ◌∷◌, length, take, drop, nat_eq, nat_lt, int_le, Option, slice_index, if◌then◌else◌}
+use Rattle.std.specs.Prelude.{ℕ, ◌-◌, ◌^◌, ℤ, pos, negsuc, Bool, not, ◌&&◌, ◌==◌, List, length, take, drop, nat_eq, nat_lt, int_le, Option, slice_index, if◌then◌else◌}
 use Rattle.std.specs.List.{list_all, position_or_len, starts_with, ends_with, before_first, after_first}
 use Rattle.std.specs.Char.{is_ascii_digit}
 use Rattle.std.specs.Str.Parse.{signed_digits_value}

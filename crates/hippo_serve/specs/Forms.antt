@@ -1,5 +1,5 @@
 -- What a line of the input asks for.
-use Rattle.std.specs.Prelude.{ℕ, ◌+◌, Bool, true, false, not, ◌&&◌, ◌==◌, List, [], ◌∷◌, length, map, nat_le, nat_eq, Option, Some, None, option_map, option_and_then, position, codes, bytes_eq}
+use Rattle.std.specs.Prelude.{ℕ, Bool, true, not, ◌&&◌, ◌==◌, List, [], ◌∷◌, length, map, nat_le, nat_eq, Option, Some, None, option_map, option_and_then, position, codes, bytes_eq}
 use Rattle.std.specs.List.{list_any, slice_split}
 use Rattle.hippo_values.specs.declared.values.Value.{Value}
 use Rattle.hippo_values.specs.declared.values.Value.TheVariants.{Null, Int, Text}

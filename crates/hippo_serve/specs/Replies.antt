@@ -1,7 +1,6 @@
 -- The reply to a line, and the history after it.
-use Rattle.std.specs.Prelude.{◌≡◌, ℕ, ◌+◌, Bool, true, false, ◌||◌, ◌==◌, List, [], ◌∷◌, ◌++◌, length, map, flat_map, Option, Some, None, is_some, option_and_then, codes, decimal, if◌then◌else◌, ◌⊎◌, nat_eq}
+use Rattle.std.specs.Prelude.{◌≡◌, ℕ, ◌+◌, Bool, ◌||◌, ◌==◌, List, [], ◌∷◌, ◌++◌, length, flat_map, Option, Some, None, option_and_then, codes, decimal, if◌then◌else◌, ◌⊎◌, nat_eq}
 use Rattle.std.specs.List.{list_all, starts_with}
-use Rattle.hippo_values.specs.declared.values.Value.{Value}
 use Rattle.hippo_values.specs.Printing.{value_text}
 use Rattle.hippo_model.specs.declared.cells.Cell.{Cell}
 use Rattle.hippo_model.specs.declared.cells.Cell.TheVariants.{Shown, Denied}
@@ -9,7 +8,6 @@ use Rattle.hippo_model.specs.declared.entry.Act.{Act}
 use Rattle.hippo_model.specs.declared.entry.Act.TheVariants.{Insert, Asked}
 use Rattle.hippo_model.specs.declared.entry.Entry.{Entry}
 use Rattle.hippo_model.specs.declared.query.Query.{Query}
-use Rattle.hippo_model.specs.Histories.{said}
 use Rattle.hippo_model.specs.Rows.{key_of, row_at, last_at}
 use Rattle.hippo_model.specs.Views.{view}
 use Rattle.hippo_model.specs.Answers.{product, answer_of}

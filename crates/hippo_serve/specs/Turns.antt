@@ -4,7 +4,7 @@ use Rattle.hippo_io.specs.Lines.{LineText, text_line, too_long_line, not_utf8_li
 use Rattle.hippo_io.specs.Position.{Position}
 use Rattle.hippo_io.specs.Reading.{HasHandedOut, HasGivenUp, consumed, input_limit}
 use Rattle.hippo_io.specs.declared.lines.LineFault.{LineFault}
-use Rattle.hippo_io.specs.declared.lines.LineFault.TheVariants.{Read, TooMuch}
+use Rattle.hippo_io.specs.declared.lines.LineFault.TheVariants.{TooMuch}
 use Rattle.hippo_model.specs.declared.entry.Entry.{Entry}
 use Rattle.hippo_serve.specs.declared.answers.Outcome.{Outcome}
 use Rattle.hippo_serve.specs.Replies.{Step, IsStep}

@@ -1,5 +1,5 @@
 -- The columns before this one have their new numbers, the others their old ones.
-use Rattle.std.proofs.Common.{◌≡◌, ℕ, ◌<◌, ◌≤◌, get_or, length}
+use Rattle.std.proofs.Common.{◌≡◌, ℕ, ◌<◌, ◌≤◌, get_or}
 use Rattle.hippo_serve.specs.Clinics.{allowing_with}
 use Rattle.hippo_serve.proofs.clinic.allow_columns.Given as goal
 

@@ -1,4 +1,3 @@
-use Rattle.std.proofs.Common.{eqb, length}
 use Rattle.std.proofs.lemmas.Bool.{false_from_ne_true, eqb-true}
 use Rattle.hippo_serve.proofs.EntryLemmas.{other_length}
 use Rattle.hippo_serve.proofs.entries.is_key.Goals as goal

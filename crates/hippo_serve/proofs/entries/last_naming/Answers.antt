@@ -1,7 +1,5 @@
-use Rattle.std.proofs.Common.{◌≡◌, ◌∷◌, [], ◌++◌, take, ◌+◌, Some, sym, ap, ◌∙◌, refl, cond, true, false}
+use Rattle.std.proofs.Common.{◌≡◌, ◌∷◌, [], ◌++◌, take, ◌+◌, Some, sym, ap, ◌∙◌, refl, cond}
 use Rattle.std.proofs.lemmas.List.{take_more}
-use Rattle.hippo_model.specs.Rows.{names_key}
-use Rattle.hippo_serve.specs.World.{patient}
 use Rattle.hippo_serve.proofs.EntryLemmas.{last_at-append}
 use Rattle.hippo_serve.proofs.entries.last_naming.Goals as goal
 use Rattle.hippo_serve.proofs.entries.last_naming.Goals.{then-names_patient, else-names_patient}

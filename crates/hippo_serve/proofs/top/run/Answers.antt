@@ -1,6 +1,5 @@
-use Rattle.std.proofs.Common.{◌≡◌, List, ℕ, [], Option, Some, sym, ap, ◌∙◌, rules, refl}
+use Rattle.std.proofs.Common.{[], Some, sym, ap, ◌∙◌, rules}
 use Rattle.std.proofs.lemmas.List.{append-nil}
-use Rattle.hippo_io.specs.Reading.{HasHandedOut}
 use Rattle.hippo_serve.proofs.top.run.Goals as goal
 
 pub loop-ending-init : goal.loop-ending-init

@@ -1,5 +1,4 @@
-use Rattle.std.proofs.Common.{◌∙◌, ap, sym}
-use Rattle.hippo_io.specs.Told.{Appends, AppendsFront}
+use Rattle.std.proofs.Common.{◌∙◌, sym}
 use Rattle.hippo_serve.proofs.RunLemmas.{served_more, unwritten, all_served, written_whole, written_partly}
 use Rattle.hippo_serve.proofs.top.serve_line.Goals as goal
 

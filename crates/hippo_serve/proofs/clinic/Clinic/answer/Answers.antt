@@ -1,4 +1,4 @@
-use Rattle.std.proofs.Common.{◌∙◌, ap, sym, refl, Some}
+use Rattle.std.proofs.Common.{◌∙◌, ap, sym, Some}
 use Rattle.hippo_serve.specs.Forms.{question, query_for}
 use Rattle.hippo_serve.proofs.StepLemmas.{IsStep-from_ok}
 use Rattle.hippo_serve.proofs.clinic.Clinic.answer.Goals as goal

@@ -1,8 +1,5 @@
-use Rattle.std.proofs.Common.{◌∙◌, ◌∷◌, [], refl, ap, sym}
+use Rattle.std.proofs.Common.{◌∙◌, refl, sym}
 use Rattle.std.proofs.lemmas.Result.{on_ok_weaker}
-use Rattle.hippo_values.specs.declared.values.Value.TheVariants.{Int}
-use Rattle.hippo_model.specs.Rows.{last_at}
-use Rattle.hippo_serve.specs.World.{patient}
 use Rattle.hippo_serve.specs.Requests.{patient_cells}
 use Rattle.hippo_serve.proofs.ClinicLemmas.{clinic_after_record, insert_step, there_step}
 use Rattle.hippo_serve.proofs.clinic.Clinic.insert.Goals as goal
