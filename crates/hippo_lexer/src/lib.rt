@@ -3,6 +3,8 @@
 
 mod faults;
 mod kinds;
+mod words;
 
 pub use faults::{LexFault, SyntaxFault};
 pub use kinds::{Keyword, Symbol, Token, TokenKind, Tokens};
+pub use words::check_words;
