@@ -3,6 +3,8 @@
 
 mod faults;
 mod kinds;
+mod parts;
+mod tables;
 mod words;
 
 pub use faults::{LexFault, SyntaxFault};
