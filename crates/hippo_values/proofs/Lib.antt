@@ -1,1 +1,6 @@
+mod ClockTextLemmas
+mod DateTextLemmas
+mod DatesLemmas
+mod MomentTextLemmas
 mod NamesLemmas
+mod OptionLemmas

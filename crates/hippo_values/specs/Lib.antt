@@ -1,3 +1,4 @@
+pub mod Dates
 pub mod Moments
 pub mod Names
 pub mod Truths

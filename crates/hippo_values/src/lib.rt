@@ -1,6 +1,7 @@
 //! Values, names, texts and moments, and the lists that hold them.
 #![tactic(auto)]
 
+mod dates;
 mod memory;
 mod moments;
 mod names;
