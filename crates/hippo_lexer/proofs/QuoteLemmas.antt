@@ -3,7 +3,7 @@ use Rattle.std.proofs.Common.{◌≡◌, ◌≢◌, ℕ, zero, suc, ◌+◌, ◌
 use Rattle.std.proofs.lemmas.List.{append_assoc, append-nil, length-append}
 use Rattle.std.proofs.lemmas.Bool.{ne_eqb}
 use Rattle.hippo_lexer.specs.Spelling.{is_quote, begins_with}
-use Rattle.hippo_lexer.specs.Reading.{closing, onto}
+use Rattle.hippo_lexer.specs.Reading.{closing, onto, quoted_first}
 
 -- a byte that is no quote is part of the text
 pub closing-other : (byte : ℕ) (rest : List ℕ) → is_quote byte ≡ false → closing (byte ∷ rest) ≡ onto (byte ∷ []) 1 (closing rest)
@@ -87,3 +87,9 @@ closing-more text run next rest behind within told split none =
 -- It ends: no quote is left.
 pub closing-ends : (text rest behind : List ℕ) (n : ℕ) → onto text n (closing rest) ≡ closing behind → ((i : ℕ) → i < length rest → get_or rest i 0 ≢ 39) → None ≡ closing behind
 closing-ends text rest behind n told none = sym (ap (onto text n) (closing-none rest none)) ∙ told
+
+-- no quoted text stands where no quote does
+pub quoted_first-none : (bytes : List ℕ) → ((rest : List ℕ) → bytes ≢ 39 ∷ rest) → quoted_first bytes ≡ None
+unfolding quoted_first
+quoted_first-none [] h = refl
+quoted_first-none (byte ∷ rest) h = rw (single (byte ∷ rest) h) refl

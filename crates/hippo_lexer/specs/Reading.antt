@@ -1,10 +1,12 @@
 -- How a text is cut into tokens, from the left.
-use Rattle.std.specs.Prelude.{◌≡◌, ℕ, zero, suc, ◌+◌, ◌-◌, ◌^◌, ◌==◌, Bool, true, false, ◌||◌, List, [], ◌∷◌, length, take, drop, nat_lt, nat_le, ℤ, pos, neg_ℤ, ◌++◌, Option, Some, None, Result, Ok, Err, option_map, ok_or, if◌then◌else◌}
-use Rattle.std.specs.Option.{option_or}
-use Rattle.std.specs.List.{prefix_len}
+use Rattle.std.specs.Prelude.{◌≡◌, ℕ, zero, suc, ◌+◌, ◌-◌, ◌^◌, ◌<◌, ◌==◌, Bool, true, false, ◌||◌, List, [], ◌∷◌, length, take, drop, nat_lt, nat_le, bytes_eq, ℤ, pos, negsuc, neg_ℤ, ◌+ℤ◌, ◌++◌, Option, Some, None, Result, Ok, Err, option_map, ok_or, if◌then◌else◌}
+use Rattle.std.specs.Option.{option_or, option_map_or}
+use Rattle.std.specs.List.{prefix_len, list_all}
 use Rattle.std.specs.Char.{is_ascii_alphabetic, is_ascii_digit}
 use Rattle.std.specs.Str.Parse.{digits_value}
 use Rattle.hippo_values.specs.Names.{folded, unsupported_words, is_among, is_word_byte, name_of}
+use Rattle.hippo_values.specs.Dates.{day_text}
+use Rattle.hippo_lexer.specs.declared.kinds.Keyword.TheVariants.{KDate}
 use Rattle.hippo_lexer.specs.declared.kinds.Symbol.{Symbol}
 use Rattle.hippo_lexer.specs.declared.kinds.TokenKind.{TokenKind}
 use Rattle.hippo_lexer.specs.declared.kinds.TokenKind.TheVariants as kinds
@@ -49,10 +51,6 @@ blanks_len bytes = prefix_len is_blank bytes
 abbrev pub First : Type 0
 First = Result (TokenKind × ℕ) LexFault
 
-unfoldable pub word_first : ℕ → List ℕ → First
-word_first place bytes = do
-  kind ← ok_or (word_kind (take (word_len bytes) bytes)) (faults.BadToken place)
-  Ok (kind, word_len bytes)
 
 -- the number that digits write, behind a `-` or not; none where it does not fit
 unfoldable pub number_of : List ℕ → Option ℤ
@@ -68,6 +66,10 @@ sign_len bytes = if begins_with is_minus bytes then 1 else 0
 
 abbrev pub number_len : List ℕ → ℕ
 number_len bytes = sign_len bytes + digits_len (drop (sign_len bytes) bytes)
+
+-- digits, one or more, behind a `-` or not
+abbrev pub IsNumeral : List ℕ → Type 0
+IsNumeral bytes = (sign_len bytes < length bytes) × (list_all is_ascii_digit (drop (sign_len bytes) bytes) ≡ true)
 
 unfoldable pub number_first : ℕ → List ℕ → First
 number_first place bytes =
@@ -94,6 +96,40 @@ closing (byte ∷ next ∷ rest) =
 unfoldable pub quoted_first : List ℕ → Option (List ℕ × ℕ)
 quoted_first [] = None
 quoted_first (byte ∷ rest) = if is_quote byte then onto [] 1 (closing rest) else None
+
+-- the n-th day, from the first one on
+abbrev pub nth_day : ℕ → ℤ
+nth_day n = negsuc 719161 +ℤ pos n
+
+-- the day that a text writes, among so many of them
+unfoldable pub day_among : ℕ → List ℕ → Option ℤ
+day_among zero text = None
+day_among (suc n) text = if bytes_eq text (day_text (nth_day n)) then Some (nth_day n) else day_among n text
+
+-- the day that a text writes as YYYY-MM-DD, among all
+unfoldable pub day_of : List ℕ → Option ℤ
+day_of text = day_among 3652059 text
+
+-- whether a word is DATE
+abbrev pub is_date : TokenKind → Bool
+is_date (kinds.Keyword KDate) = true
+is_date _ = false
+
+-- the day in quotes behind the word DATE, with the n bytes of the word and the blanks before it
+unfoldable pub day_first : ℕ → ℕ → List ℕ × ℕ → First
+day_first place n quoted = do
+  day ← ok_or (day_of quoted.0) (faults.BadDate place)
+  Ok (kinds.Day day, n + quoted.1)
+
+-- the token of the word DATE of n bytes, with what stands behind it
+unfoldable pub date_first : ℕ → ℕ → List ℕ → First
+date_first place n behind =
+    option_map_or (day_first place (n + blanks_len behind)) (quoted_first (drop (blanks_len behind) behind)) (Ok (kinds.Keyword KDate, n))
+
+unfoldable pub word_first : ℕ → List ℕ → First
+word_first place bytes = do
+  kind ← ok_or (word_kind (take (word_len bytes) bytes)) (faults.BadToken place)
+  if is_date kind then date_first place (word_len bytes) (drop (word_len bytes) bytes) else Ok (kind, word_len bytes)
 
 -- the longest sign at the front, and its length
 unfoldable pub sign_first : List ℕ → Option (Symbol × ℕ)

@@ -1,13 +1,13 @@
-ghost use Rattle.std.specs.Prelude.{◌≡◌, ◌+◌, ◌<◌, ◌≤◌, Bool, true, length, take, drop, [], IfOk, IfSome, IsTrue, IsCharBoundary};
+ghost use Rattle.std.specs.Prelude.{◌≡◌, ◌+◌, ◌<◌, ◌≤◌, ◌^◌, Bool, true, length, take, drop, [], IfOk, IfSome, IsTrue, IsCharBoundary};
 ghost use Rattle.std.specs.List.{prefix_len};
 ghost use Rattle.hippo_values.specs.Names.{is_word_byte, folded};
 ghost use Rattle.hippo_lexer.specs.Spelling.{is_blank, is_minus, begins_with};
-ghost use Rattle.hippo_lexer.specs.Reading.{Gives, word_kind, word_len, digits_len, blanks_len, sign_len, number_len, number_of, word_first, number_first, closing, quoted_first, sign_first, token_first};
+ghost use Rattle.hippo_lexer.specs.Reading.{Gives, word_kind, word_len, digits_len, blanks_len, sign_len, number_len, number_of, word_first, number_first, closing, quoted_first, sign_first, IsNumeral, day_of, day_first, is_date, date_first, token_first};
 
 use crate::faults::LexFault;
-use crate::kinds::{Symbol, TokenKind};
+use crate::kinds::{Keyword, Symbol, TokenKind};
 use crate::tables::{keyword_of, sign_of};
-use hippo_values::{Memory, Name, Txt, is_unsupported_word};
+use hippo_values::{DayNumber, Memory, Name, Txt, is_unsupported_word, read_day};
 use std::alloc::Global;
 
 fn is_word_byte(byte: u8) -> bool
@@ -32,7 +32,8 @@ fn word_len(bytes: &[u8]) -> usize
 }
 
 fn digits_len(bytes: &[u8]) -> usize
-    ensures { result ≡ digits_len bytes.now }
+    ensures len { result ≡ digits_len bytes.now }
+    ensures within { result ≤ length bytes.now }
 {
     bytes
         .iter()
@@ -87,7 +88,8 @@ fn sign_first(bytes: &[u8]) -> Option<(Symbol, usize)>
 
 // Behind an opening quote: the text up to the closing one, and the length with that one.
 fn closing(alloc: Global, behind: &str) -> Result<Option<(Txt, usize)>, Memory>
-    ensures { IfOk result (λ found. found ≡ closing behind.now) }
+    ensures found { IfOk result (λ found. found ≡ closing behind.now) }
+    ensures within { IfOk result (λ found. IfSome found (λ quoted. quoted.1 ≤ length behind.now)) }
 {
     let mut text = Txt::new(alloc);
     let mut rest = behind;
@@ -102,4 +104,118 @@ fn closing(alloc: Global, behind: &str) -> Result<Option<(Txt, usize)>, Memory>
         }
     }
     Ok(None)
+}
+
+// The text in quotes at the front, and its length with them.
+#[tactic(auto, unfolding(crate::specs::Reading::quoted_first))]
+fn quoted_first(alloc: Global, text: &str) -> Result<Option<(Txt, usize)>, Memory>
+    ensures found { IfOk result (λ found. found ≡ quoted_first text.now) }
+    ensures within { IfOk result (λ found. IfSome found (λ quoted. quoted.1 ≤ length text.now)) }
+{
+    match text.strip_prefix('\'') {
+        None => Ok(None),
+        Some(behind) => match closing(alloc, behind)? {
+            None => Ok(None),
+            Some((quoted, len)) => Ok(Some((quoted, 1 + len))),
+        },
+    }
+}
+
+fn begins_with_word_byte(bytes: &[u8]) -> bool
+    ensures { result ≡ begins_with is_word_byte bytes.now }
+{
+    match bytes {
+        [] => false,
+        [first, ..] => is_word_byte(*first),
+    }
+}
+
+fn sign_len(bytes: &[u8]) -> usize
+    ensures { result ≡ sign_len bytes.now }
+{
+    match bytes {
+        [b'-', ..] => 1,
+        _ => 0,
+    }
+}
+
+// The number that digits write, behind a `-` or not; none where it does not fit.
+fn number_of(text: &str) -> Option<i64>
+    requires { IsNumeral text.now }
+    ensures { result ≡ number_of text.now }
+{
+    text.parse::<i64>().ok()
+}
+
+// The length of the number at the front, with its `-`.
+fn number_len(bytes: &[u8]) -> usize
+    ensures { result ≡ number_len bytes.now }
+{
+    let sign = sign_len(bytes);
+    sign + digits_len(&bytes[sign..])
+}
+
+#[tactic(auto, unfolding(crate::specs::Reading::number_first))]
+fn number_first(place: usize, text: &str) -> Result<(TokenKind, usize), LexFault>
+    requires { place + length text.now < 2 ^ 64 }
+    ensures { Gives result (number_first place text.now) }
+{
+    let bytes = text.as_bytes();
+    let len = number_len(bytes);
+    if len == sign_len(bytes) {
+        return Err(LexFault::BadToken(place));
+    }
+    let (digits, behind) = text.split_at(len);
+    let number = number_of(digits).ok_or(LexFault::NumberTooLarge(place))?;
+    if begins_with_word_byte(behind.as_bytes()) {
+        return Err(LexFault::BadToken(place + len));
+    }
+    Ok((TokenKind::Number(number), len))
+}
+
+// The day that a text writes.
+fn day_of(text: &Txt) -> Option<DayNumber>
+    ensures { result ≡ day_of text.now }
+{
+    read_day(text.as_str())
+}
+
+#[tactic(auto, unfolding(crate::specs::Reading::day_first))]
+fn day_first(place: usize, len: usize, quoted: Txt, quoted_len: usize) -> Result<(TokenKind, usize), LexFault>
+    requires { len + quoted_len < 2 ^ 64 }
+    ensures { Gives result (day_first place len (quoted, quoted_len)) }
+{
+    let day = day_of(&quoted).ok_or(LexFault::BadDate(place))?;
+    Ok((TokenKind::Day(day), len + quoted_len))
+}
+
+fn is_date(kind: &TokenKind) -> bool
+    ensures { result ≡ is_date kind.now }
+{
+    matches!(kind, TokenKind::Keyword(Keyword::KDate))
+}
+
+#[tactic(auto, unfolding(crate::specs::Reading::date_first))]
+fn date_first(alloc: Global, place: usize, len: usize, behind: &str) -> Result<(TokenKind, usize), LexFault>
+    requires { len + length behind.now < 2 ^ 64 }
+    ensures { Gives result (date_first place len behind.now) }
+{
+    let blanks = blanks_len(behind.as_bytes());
+    match quoted_first(alloc, &behind[blanks..])? {
+        None => Ok((TokenKind::Keyword(Keyword::KDate), len)),
+        Some((quoted, quoted_len)) => day_first(place, len + blanks, quoted, quoted_len),
+    }
+}
+
+#[tactic(auto, unfolding(crate::specs::Reading::word_first))]
+fn word_first(alloc: Global, place: usize, text: &str) -> Result<(TokenKind, usize), LexFault>
+    ensures { Gives result (word_first place text.now) }
+{
+    let len = word_len(text.as_bytes());
+    let (word, behind) = text.split_at(len);
+    let kind = word_kind(alloc, word)?.ok_or(LexFault::BadToken(place))?;
+    if is_date(&kind) {
+        return date_first(alloc, place, len, behind);
+    }
+    Ok((kind, len))
 }

@@ -6,8 +6,8 @@ use Rattle.hippo_lexer.specs.Reading.{closing, onto}
 use Rattle.hippo_lexer.proofs.QuoteLemmas.{closing-found, closing-more, closing-ends}
 use Rattle.hippo_lexer.proofs.parts.closing.Goals as goal
 
-pub returns-in-None : goal.returns-in-None
-returns-in-None c =
+pub returns-in-None-clause-found : goal.returns-in-None-clause-found
+returns-in-None-clause-found c =
     let parts = split_parts 39 c.loop-run.rest.now (Some (c.in-Some.run', c.in-Some.after)) c.in-Some.ensures.cases (omega arith) in
     let last = strip_prefix_char 39 c.in-Some.after.now None c.in-None.ensures.cases (omega arith) in
     ap (λ text. Some (text, length c.args.behind.now - length c.in-Some.after.now)) c.in_ok-append.ensures.ok
@@ -27,7 +27,7 @@ loop-run-preserved c =
       told = rw text (closing-more c.loop-run.text c.in-Some.run'.now c.in-Some-strip_prefix.next.now c.loop-run.rest.now c.args.behind.now within c.loop-run.invariant.told split parts.1);
     }
 
-pub returns : goal.returns
-returns c =
+pub returns-clause-found : goal.returns-clause-found
+returns-clause-found c =
     let none = split_parts 39 c.loop-run.rest.now None (rw c.in_default.is at c.split_once.ensures.cases) (omega arith) in
     closing-ends c.loop-run.text c.loop-run.rest.now c.args.behind.now _ c.loop-run.invariant.told none
