@@ -116,3 +116,9 @@ day_of-found text = found_day 3652059 text (omega arith)
 pub day_of-none : (text : List ℕ) → IfNone (day_of text) ((day : ℤ) → ¬ (IsDayText text day))
 unfolding day_of
 day_of-none text = if_none _ _ (no_day text)
+
+pub day_of-day : (text : List ℕ) (day : ℤ) → IsDayText text day → day_of text ≡ Some day
+day_of-day text day h = sym (day_of-is text (Some day) h tt)
+
+pub day_of-no_day : (text : List ℕ) → ((day : ℤ) → ¬ (IsDayText text day)) → day_of text ≡ None
+day_of-no_day text none = sym (day_of-is text None tt none)

@@ -1,6 +1,15 @@
 pub mod RangeLemmas
 pub mod QuoteLemmas
+pub mod PrefixLemmas
+pub mod WordLemmas
+pub mod QuotedLemmas
+pub mod SignLemmas
+pub mod NumeralLemmas
+pub mod WholeLemmas
 pub mod FrontLemmas
 pub mod NumberLemmas
 pub mod DayLemmas
 pub mod TokenLemmas
+pub mod RunLemmas
+pub mod FirstLemmas
+pub mod EdgeLemmas

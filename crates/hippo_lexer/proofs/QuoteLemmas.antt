@@ -42,7 +42,7 @@ closing-run (byte ∷ run) rest h =
     closing-other byte (run ++ rest) none ∙ ap (onto (byte ∷ []) 1) more
     ∙ (onto-onto (byte ∷ []) run 1 (length run) (closing rest) ∙ ap (λ n. onto (byte ∷ run) n (closing rest)) count)
 
-closing-nil : closing [] ≡ None
+pub closing-nil : closing [] ≡ None
 unfolding closing
 closing-nil = refl
 

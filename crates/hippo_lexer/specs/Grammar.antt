@@ -25,7 +25,7 @@ abbrev pub AreDigits : List ℕ → Type 0
 AreDigits digits = (0 < length digits) × (list_all is_ascii_digit digits ≡ true)
 
 -- digits, with a `-` directly before them or not, and the number that they write, however large
-data pub IsNumber : List ℕ → ℤ → Type 0 where
+pub data IsNumber : List ℕ → ℤ → Type 0 where
   plain : (digits : List ℕ) (number : ℤ) → AreDigits digits → number ≡ pos (digits_value 10 digits) → IsNumber digits number
   negative : (text digits : List ℕ) (number : ℤ) → AreDigits digits → text ≡ 45 ∷ digits → number ≡ neg_ℤ (pos (digits_value 10 digits)) → IsNumber text number
 
@@ -45,26 +45,26 @@ pub record IsQuotedBehind (behind blanks text rest : List ℕ) : Type 0 where
 
 -- the word DATE, behind which a quoted text stands
 pub record OpensDay (word behind blanks text rest : List ℕ) : Type 0 where
-  pub word : IsWholeWord word behind
+  pub whole : IsWholeWord word behind
   pub date : keyword_of word ≡ Some KDate
-  pub text : IsQuotedBehind behind blanks text rest
+  pub quotation : IsQuotedBehind behind blanks text rest
 
 -- no byte more makes a longer sign of it
 abbrev pub IsLongestSign : List ℕ → List ℕ → Type 0
 IsLongestSign text rest = (byte : ℕ) (more : List ℕ) → rest ≡ byte ∷ more → sign_of (text ++ byte ∷ []) ≡ None
 
 -- The text is a token of this kind where `rest` stands behind it.
-data pub IsToken : List ℕ → TokenKind → List ℕ → Type 0 where
-  keyword : (word rest : List ℕ) (keyword : Keyword) → IsWholeWord word rest → keyword_of word ≡ Some keyword
+pub data IsToken : List ℕ → TokenKind → List ℕ → Type 0 where
+  a_keyword : (word rest : List ℕ) (keyword : Keyword) → IsWholeWord word rest → keyword_of word ≡ Some keyword
       → (keyword ≡ KDate → (blanks text more : List ℕ) → ¬ (IsQuotedBehind rest blanks text more)) → IsToken word (kinds.Keyword keyword) rest
-  refused : (word rest : List ℕ) → IsWholeWord word rest → is_among unsupported_words word ≡ true → IsToken word (kinds.Unsupported (folded word)) rest
-  name : (word rest : List ℕ) → IsWholeWord word rest → is_name word ≡ true → IsToken word (kinds.Word (folded word)) rest
-  number : (text rest : List ℕ) (number : ℤ) → IsNumber text number → IsInRange number → begins_with is_word_byte rest ≡ false
+  a_refused_word : (word rest : List ℕ) → IsWholeWord word rest → is_among unsupported_words word ≡ true → IsToken word (kinds.Unsupported (folded word)) rest
+  a_name : (word rest : List ℕ) → IsWholeWord word rest → is_name word ≡ true → IsToken word (kinds.Word (folded word)) rest
+  a_number : (text rest : List ℕ) (number : ℤ) → IsNumber text number → IsInRange number → begins_with is_word_byte rest ≡ false
       → IsToken text (kinds.Number number) rest
-  quotation : (written text rest : List ℕ) → written ≡ quoted text → begins_with is_quote rest ≡ false → IsToken written (kinds.Quoted text) rest
-  day : (written word behind blanks text rest : List ℕ) (day : ℤ) → OpensDay word behind blanks text rest → IsDayText text day
+  a_quoted_text : (written text rest : List ℕ) → written ≡ quoted text → begins_with is_quote rest ≡ false → IsToken written (kinds.Quoted text) rest
+  a_day : (written word behind blanks text rest : List ℕ) (day : ℤ) → OpensDay word behind blanks text rest → IsDayText text day
       → written ≡ word ++ (blanks ++ quoted text) → IsToken written (kinds.Day day) rest
-  sign : (text rest : List ℕ) (sign : Symbol) → sign_of text ≡ Some sign → IsLongestSign text rest → IsToken text (kinds.Symbol sign) rest
+  a_sign : (text rest : List ℕ) (sign : Symbol) → sign_of text ≡ Some sign → IsLongestSign text rest → IsToken text (kinds.Symbol sign) rest
 
 -- a byte with which nothing begins
 pub record IsStray (byte : ℕ) (rest : List ℕ) : Type 0 where
@@ -77,7 +77,7 @@ pub record IsStray (byte : ℕ) (rest : List ℕ) : Type 0 where
   pub longer : IsLongestSign (byte ∷ []) rest
 
 -- No token stands first in this text, which stands at the place, and this is why.
-data pub IsFault : ℕ → List ℕ → LexFault → Type 0 where
+pub data IsFault : ℕ → List ℕ → LexFault → Type 0 where
   long_word : (place : ℕ) (bytes word rest : List ℕ) → IsWholeWord word rest → 63 < length word → bytes ≡ word ++ rest → IsFault place bytes (faults.BadToken place)
   letter_behind : (place at : ℕ) (bytes text rest : List ℕ) (number : ℤ) → IsNumber text number → IsInRange number
       → begins_with is_ascii_digit rest ≡ false → begins_with is_word_byte rest ≡ true → bytes ≡ text ++ rest → at ≡ place + length text
@@ -97,14 +97,14 @@ with_first token (Err fault) = Err fault
 
 -- The text, which stands at the place, has these tokens, or this is its first fault: blanks are passed over, then the token
 -- or the fault that stands first counts.
-data pub IsReading : ℕ → List ℕ → Result (List Token) LexFault → Type 0 where
-  ends : (place : ℕ) → IsReading place [] (Ok [])
-  blank : (place byte : ℕ) (rest : List ℕ) (outcome : Result (List Token) LexFault) → is_blank byte ≡ true → IsReading (place + 1) rest outcome
+pub data IsReading : ℕ → List ℕ → Result (List Token) LexFault → Type 0 where
+  at_end : (place : ℕ) → IsReading place [] (Ok [])
+  at_blank : (place byte : ℕ) (rest : List ℕ) (outcome : Result (List Token) LexFault) → is_blank byte ≡ true → IsReading (place + 1) rest outcome
       → IsReading place (byte ∷ rest) outcome
-  token : (place : ℕ) (bytes text rest : List ℕ) (kind : TokenKind) (later outcome : Result (List Token) LexFault) → IsToken text kind rest
+  at_token : (place : ℕ) (bytes text rest : List ℕ) (kind : TokenKind) (later outcome : Result (List Token) LexFault) → IsToken text kind rest
       → IsReading (place + length text) rest later → bytes ≡ text ++ rest
       → outcome ≡ with_first (record { kind = kind; start = place; end = place + length text }) later → IsReading place bytes outcome
-  fault : (place : ℕ) (bytes : List ℕ) (fault : LexFault) → IsFault place bytes fault → IsReading place bytes (Err fault)
+  at_fault : (place : ℕ) (bytes : List ℕ) (fault : LexFault) → IsFault place bytes fault → IsReading place bytes (Err fault)
 
 -- what comes of a whole text
 abbrev pub IsOutcome : List ℕ → Result (List Token) LexFault → Type 0
