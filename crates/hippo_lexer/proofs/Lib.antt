@@ -10,6 +10,7 @@ pub mod FrontLemmas
 pub mod NumberLemmas
 pub mod DayLemmas
 pub mod TokenLemmas
+pub mod ReadLemmas
 pub mod RunLemmas
 pub mod FirstLemmas
 pub mod EdgeLemmas

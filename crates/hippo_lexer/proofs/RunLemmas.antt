@@ -38,7 +38,7 @@ tokens_from-token place bytes text rest kind begins cut first =
     rw (cut, begins.parts) (token_step place begins.first begins.tail rest kind begins.blank here)
 
 -- a fault in front
-tokens_from-fault : (place byte : ℕ) (rest : List ℕ) (fault : LexFault) → is_blank byte ≡ false → token_first place (byte ∷ rest) ≡ Err fault → tokens_from place 0 (byte ∷ rest) ≡ Err fault
+pub tokens_from-fault : (place byte : ℕ) (rest : List ℕ) (fault : LexFault) → is_blank byte ≡ false → token_first place (byte ∷ rest) ≡ Err fault → tokens_from place 0 (byte ∷ rest) ≡ Err fault
 unfolding tokens_from
 tokens_from-fault place byte rest fault blank first = rw (blank, first) refl
 

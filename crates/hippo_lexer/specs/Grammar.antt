@@ -1,5 +1,5 @@
 -- The tokens of a text: how each is spelled, that the longest is taken, and which fault a text has where it has none.
-use Rattle.std.specs.Prelude.{◌≡◌, ℕ, ◌+◌, ◌^◌, ◌<◌, ◌⊎◌, ◌↔◌, Bool, true, false, ◌||◌, List, [], ◌∷◌, ◌++◌, length, ℤ, pos, neg_ℤ, ◌≤ℤ◌, ◌<ℤ◌, Option, Some, None, Result, Ok, Err}
+use Rattle.std.specs.Prelude.{◌≡◌, ℕ, ◌+◌, ◌^◌, ◌<◌, ◌⊎◌, ◌↔◌, Bool, true, false, ◌||◌, List, [], ◌∷◌, ◌++◌, length, ℤ, pos, neg_ℤ, ◌≤ℤ◌, ◌<ℤ◌, IsCharBoundary, Option, Some, None, Result, Ok, Err}
 use Rattle.std.specs.List.{list_all}
 use Rattle.std.specs.Char.{is_ascii_alphabetic, is_ascii_digit}
 use Rattle.std.specs.Str.Parse.{digits_value}
@@ -109,3 +109,13 @@ pub data IsReading : ℕ → List ℕ → Result (List Token) LexFault → Type 
 -- what comes of a whole text
 abbrev pub IsOutcome : List ℕ → Result (List Token) LexFault → Type 0
 IsOutcome text outcome = IsReading 0 text outcome
+
+-- this comes of the text, and nothing else does
+abbrev pub IsOnlyOutcome : List ℕ → Result (List Token) LexFault → Type 0
+IsOnlyOutcome text outcome = IsOutcome text outcome × ((other : Result (List Token) LexFault) → IsOutcome text other → other ≡ outcome)
+
+-- the token stands in the text, and is cut out at the bounds of characters
+pub record IsSpan (text : List ℕ) (token : Token) : Type 0 where
+  pub some : token.start < token.end
+  pub from : IsCharBoundary text token.start
+  pub to : IsCharBoundary text token.end

@@ -137,14 +137,18 @@ sign_first bytes =
     option_or (option_map (λ sign. (sign, length (take 2 bytes))) (sign_of (take 2 bytes)))
         (option_map (λ sign. (sign, length (take 1 bytes))) (sign_of (take 1 bytes)))
 
+abbrev pub quoted_token : ℕ → List ℕ → First
+quoted_token place bytes = ok_or (quoted_first bytes) (faults.BadToken place) >>= λ found. Ok (kinds.Quoted found.0, found.1)
+
+abbrev pub sign_token : ℕ → List ℕ → First
+sign_token place bytes = ok_or (sign_first bytes) (faults.BadToken place) >>= λ found. Ok (kinds.Symbol found.0, found.1)
+
 -- what stands first in a text that begins with no blank
 unfoldable pub token_first : ℕ → List ℕ → First
 token_first place bytes =
     if begins_with is_ascii_alphabetic bytes then word_first place bytes else
     (if begins_with is_ascii_digit bytes || begins_with is_minus bytes then number_first place bytes else
-    (if begins_with is_quote bytes
-      then (ok_or (quoted_first bytes) (faults.BadToken place) >>= λ found. Ok (kinds.Quoted found.0, found.1))
-      else (ok_or (sign_first bytes) (faults.BadToken place) >>= λ found. Ok (kinds.Symbol found.0, found.1))))
+    (if begins_with is_quote bytes then quoted_token place bytes else sign_token place bytes))
 
 -- tokens in front of others
 abbrev pub with_front : List Token → Result (List Token) LexFault → Result (List Token) LexFault
@@ -158,3 +162,7 @@ tokens_from place zero (byte ∷ rest) =
     if is_blank byte then tokens_from (place + 1) 0 rest else (do
       found ← token_first place (byte ∷ rest)
       with_front (record { kind = found.0; start = place; end = place + found.1 } ∷ []) (tokens_from (place + 1) (found.1 - 1) rest))
+
+-- the tokens of a whole text, or its first fault
+unfoldable pub outcome_of : List ℕ → Result (List Token) LexFault
+outcome_of text = tokens_from 0 0 text

@@ -3,6 +3,7 @@
 
 mod faults;
 mod kinds;
+pub mod lexer;
 mod parts;
 mod tables;
 mod words;

@@ -2,7 +2,7 @@ ghost use Rattle.std.specs.Prelude.{◌≡◌, ◌+◌, ◌<◌, ◌≤◌, ◌^
 ghost use Rattle.std.specs.List.{prefix_len};
 ghost use Rattle.hippo_values.specs.Names.{is_word_byte, folded};
 ghost use Rattle.hippo_lexer.specs.Spelling.{is_blank, is_minus, begins_with};
-ghost use Rattle.hippo_lexer.specs.Reading.{Gives, word_kind, word_len, digits_len, blanks_len, sign_len, number_len, number_of, word_first, number_first, closing, quoted_first, sign_first, IsNumeral, day_of, day_first, is_date, date_first, token_first};
+ghost use Rattle.hippo_lexer.specs.Reading.{Gives, word_kind, word_len, digits_len, blanks_len, sign_len, number_len, number_of, word_first, number_first, closing, quoted_first, sign_first, IsNumeral, day_of, day_first, is_date, date_first, quoted_token, sign_token, token_first};
 
 use crate::faults::LexFault;
 use crate::kinds::{Keyword, Symbol, TokenKind};
@@ -218,4 +218,40 @@ fn word_first(alloc: Global, place: usize, text: &str) -> Result<(TokenKind, usi
         return date_first(alloc, place, len, behind);
     }
     Ok((kind, len))
+}
+
+fn quoted_token(alloc: Global, place: usize, text: &str) -> Result<(TokenKind, usize), LexFault>
+    ensures { Gives result (quoted_token place text.now) }
+{
+    let (quoted, len) = quoted_first(alloc, text)?.ok_or(LexFault::BadToken(place))?;
+    Ok((TokenKind::Quoted(quoted), len))
+}
+
+fn sign_token(place: usize, text: &str) -> Result<(TokenKind, usize), LexFault>
+    ensures { Gives result (sign_token place text.now) }
+{
+    let (sign, len) = sign_first(text.as_bytes()).ok_or(LexFault::BadToken(place))?;
+    Ok((TokenKind::Symbol(sign), len))
+}
+
+/// What stands first in a text that begins with no blank and stands at `place`: a kind of token and its length.
+#[tactic(auto, unfolding(crate::specs::Reading::token_first))]
+pub fn token_first(alloc: Global, place: usize, text: &str) -> Result<(TokenKind, usize), LexFault>
+    requires { place + length text.now < 2 ^ 64 }
+    ensures { Gives result (token_first place text.now) }
+{
+    match text.as_bytes() {
+        [b'a'..=b'z' | b'A'..=b'Z', ..] => word_first(alloc, place, text),
+        [b'0'..=b'9' | b'-', ..] => number_first(place, text),
+        [b'\'', ..] => quoted_token(alloc, place, text),
+        _ => sign_token(place, text),
+    }
+}
+
+/// What stands behind the blanks at the front.
+pub fn without_blanks(text: &str) -> &str
+    ensures rest { result.now ≡ drop (blanks_len text.now) text.now }
+    ensures within { length result.now ≤ length text.now }
+{
+    &text[blanks_len(text.as_bytes())..]
 }
