@@ -10,6 +10,8 @@ pub mod FrontLemmas
 pub mod NumberLemmas
 pub mod DayLemmas
 pub mod TokenLemmas
+pub mod OutcomeLemmas
+pub mod SpanLemmas
 pub mod ReadLemmas
 pub mod RunLemmas
 pub mod FirstLemmas
