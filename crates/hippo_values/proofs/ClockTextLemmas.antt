@@ -1,5 +1,7 @@
 -- A time of the day and its seconds are written alike.
-use Rattle.std.proofs.Common.{◌≡◌, ◌≢◌, ℕ, ◌+◌, ◌*◌, ◌/◌, ◌%◌, ◌<◌, ◌≤◌, List, ◌∷◌, sym, ◌∙◌, arith}
+use Rattle.std.proofs.Common.{◌≡◌, ◌≢◌, refl, [], get_or, ℕ, ◌+◌, ◌*◌, ◌/◌, ◌%◌, ◌<◌, List, ◌∷◌, sym, ◌∙◌, arith}
+use Rattle.std.specs.Str.{IsAscii}
+use Rattle.hippo_values.proofs.AsciiLemmas.{IsAscii-of_bytes, IsAscii-same}
 use Rattle.hippo_values.specs.Dates.{two_digits, clock_text, time_text}
 use Rattle.hippo_values.proofs.DateTextLemmas.{two_digits_injective}
 
@@ -50,3 +52,14 @@ unfolding time_text
 no_time-of_clock text h m s short is none second below e =
     let same = clock_text_injective _ _ _ h m s (short-of_second second below) short (sym e ∙ is) in
     none (rw (← same.0, ← same.1, ← same.2) (clock-of_second second below))
+
+-- the digits of a second's hour, minute and rest make its text
+pub time_text-joined : (h m s : List ℕ) (second : ℕ) → h ≡ two_digits (second / 3600) → m ≡ two_digits (second / 60 % 60) → s ≡ two_digits (second % 60) → 84 ∷ get_or h 0 0 ∷ get_or h 1 0 ∷ 58 ∷ get_or m 0 0 ∷ get_or m 1 0 ∷ 58 ∷ get_or s 0 0 ∷ get_or s 1 0 ∷ 90 ∷ [] ≡ time_text second
+unfolding time_text
+time_text-joined h m s second eh em es = rw (eh, em, es) refl
+
+pub IsAscii-time_text : (text : List ℕ) (second : ℕ) → second < 86400 → text ≡ time_text second → IsAscii text
+unfolding time_text
+IsAscii-time_text text second below e =
+    let h = short-of_second second below in
+    IsAscii-same text (time_text second) e (IsAscii-of_bytes (time_text second) (omega arith, (omega (arith, h.hour), (omega arith, (omega arith, (omega (arith, h.minute), (omega arith, (omega arith, (omega (arith, h.second), (omega arith, (omega arith, tt)))))))))))

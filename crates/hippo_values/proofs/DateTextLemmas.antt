@@ -1,9 +1,10 @@
 -- A text that has the bytes of a date is that date as it is written.
-use Rattle.std.proofs.Common.{◌≡◌, ◌≢◌, ◌≤◌, ℤ, pos, sym, ap, ◌∙◌, ℕ, ◌+◌, ◌*◌, ◌/◌, ◌%◌, ◌<◌, List, [], ◌∷◌, length, get_or, refl, arith}
+use Rattle.std.proofs.Common.{◌≡◌, ◌≢◌, ℤ, pos, sym, ◌∙◌, ℕ, ◌+◌, ◌*◌, ◌/◌, ◌%◌, ◌<◌, List, [], ◌∷◌, length, get_or, refl, arith}
+use Rattle.std.specs.Str.{IsAscii}
+use Rattle.hippo_values.proofs.AsciiLemmas.{IsAscii-of_bytes, IsAscii-same}
 use Rattle.std.proofs.lemmas.Slice.Eq.{text_from_reads}
 use Rattle.jiff_core.proofs.SignedLemmas.{signed_arith}
 use Rattle.jiff_core.proofs.CalendarLemmas.{days_in_month_bounds}
-use Rattle.hippo_values.specs.Moments.{IsDayNumber}
 use Rattle.hippo_values.specs.Dates.{HasDate, year_of, month_of, day_of_month, two_digits, date_text, day_text, IsDayText}
 use Rattle.hippo_values.proofs.DatesLemmas.{HasDate-of_day, HasDate-unique, IsDayNumber-of_date}
 
@@ -79,3 +80,7 @@ no_day-of_date text y m d short e none day h = none day (HasDate-of_text text da
 -- the digits of a date's parts make its text
 pub date_text-joined : (c y m d : List ℕ) (year month day : ℕ) → c ≡ two_digits (year / 100) → y ≡ two_digits (year % 100) → m ≡ two_digits month → d ≡ two_digits day → get_or c 0 0 ∷ get_or c 1 0 ∷ get_or y 0 0 ∷ get_or y 1 0 ∷ 45 ∷ get_or m 0 0 ∷ get_or m 1 0 ∷ 45 ∷ get_or d 0 0 ∷ get_or d 1 0 ∷ [] ≡ date_text year month day
 date_text-joined c y m d year month day ec ey em ed = rw (ec, ey, em, ed) refl
+
+pub IsAscii-date_text : (text : List ℕ) (y m d : ℕ) → AreShort y m d → text ≡ date_text y m d → IsAscii text
+IsAscii-date_text text y m d h e =
+    IsAscii-same text (date_text y m d) e (IsAscii-of_bytes (date_text y m d) (omega (arith, h.year), (omega arith, (omega arith, (omega arith, (omega arith, (omega (arith, h.month), (omega arith, (omega arith, (omega (arith, h.day), (omega arith, tt)))))))))))

@@ -1,10 +1,10 @@
 -- A day number stands for one date of the calendar, and a date for one day number.
-use Rattle.std.proofs.Common.{◌≡◌, ℕ, zero, suc, ◌+◌, ◌-◌, ◌<◌, ◌≤◌, ◌⊎◌, Bool, true, false, inl, inr, refl, sym, ap, ◌∙◌, arith, rules, ℤ, pos, negsuc, neg_ℤ, ◌+ℤ◌, ◌-ℤ◌, ◌≤ℤ◌, ◌<ℤ◌, unsigned_abs, int_le, add-one}
+use Rattle.std.proofs.Common.{◌≡◌, ℕ, zero, suc, ◌+◌, ◌<◌, ◌≤◌, Bool, true, false, inl, inr, refl, sym, ap, ◌∙◌, arith, rules, ℤ, pos, negsuc, ◌+ℤ◌, ◌-ℤ◌, ◌≤ℤ◌, ◌<ℤ◌, unsigned_abs, int_le, add-one}
 use Rattle.std.proofs.lemmas.Bool.{cases_Bool, cases_order}
 use Rattle.std.proofs.lemmas.Int.{ints}
 use Rattle.jiff_core.specs.declared.civil.date.Date.{Date}
 use Rattle.jiff_core.specs.Date.{epoch_day}
-use Rattle.jiff_core.specs.Calendar.{days_from_civil, days_in_month, day_count, IsCivilDate, IsDate}
+use Rattle.jiff_core.specs.Calendar.{days_from_civil, days_in_month, day_count}
 use Rattle.jiff_core.proofs.SignedLemmas.{signed_arith, one_part}
 use Rattle.jiff_core.proofs.MarchLemmas.{day_count-early}
 use Rattle.jiff_core.proofs.CalendarLemmas.{day_count_bounds, day_count-lt_year, day_count-last_of_year, days_from_civil-day_count, days_in_month_bounds}
@@ -64,27 +64,27 @@ month_begun day h = IsLastPassing-last_passing (λ month. has_begun day (year_of
 -- the last day of the year is this day or a later one
 last_of_year : (day : ℤ) (y : ℕ) → IsDayNumber day → IsLastPassing (λ year. has_begun day year 1) 9999 y → day ≤ℤ days_from_civil (pos y) 12 31
 last_of_year day y h hy = elim (cases_order y 9999) [
-    | inl same ↦ rw (same, days_from_civil-max) h.1
-    | inr (inl lt) ↦
-        let next : days_from_civil (pos (suc y)) 1 1 ≡ days_from_civil (pos y) 12 31 +ℤ pos 1 =
-            days_from_civil-next_year (pos y) (pos (suc y)) (omega (arith, signed_arith)) (omega (arith, signed_arith)) in
-        let after : day <ℤ days_from_civil (pos (suc y)) 1 1 = not_begun _ _ (hy.next lt) in
-        omega (arith, signed_arith)
-    | inr (inr gt) ↦ absurd (omega (arith, hy.high))
-  ]
+  | inl same ↦ rw (same, days_from_civil-max) h.1
+  | inr (inl lt) ↦
+      let next : days_from_civil (pos (suc y)) 1 1 ≡ days_from_civil (pos y) 12 31 +ℤ pos 1 =
+      days_from_civil-next_year (pos y) (pos (suc y)) (omega (arith, signed_arith)) (omega (arith, signed_arith)) in
+      let after : day <ℤ days_from_civil (pos (suc y)) 1 1 = not_begun _ _ (hy.next lt) in
+      omega (arith, signed_arith)
+  | inr (inr gt) ↦ absurd (omega (arith, hy.high))
+]
 
 -- the last day of the month is this day or a later one
 last_of_month : (day : ℤ) (y m last : ℕ) → IsDayNumber day → IsLastPassing (λ year. has_begun day year 1) 9999 y → IsLastPassing (λ month. has_begun day y month) 12 m → last ≡ days_in_month (pos y) m → day ≤ℤ days_from_civil (pos y) m last
 last_of_month day y m last h hy hm e = elim (cases_order m 12) [
-    | inl same ↦
-        let at_end : last ≡ 31 = e ∙ ap (days_in_month (pos y)) same in
-        rw (same, at_end) (last_of_year day y h hy)
-    | inr (inl lt) ↦
-        let next : days_from_civil (pos y) (suc m) 1 ≡ days_from_civil (pos y) m last +ℤ pos 1 = rw (← add-one) (days_from_civil-next_month (pos y) m last hm.low e) in
-        let after : day <ℤ days_from_civil (pos y) (suc m) 1 = not_begun _ _ (hm.next lt) in
-        omega (arith, signed_arith)
-    | inr (inr gt) ↦ absurd (omega (arith, hm.high))
-  ]
+  | inl same ↦
+      let at_end : last ≡ 31 = e ∙ ap (days_in_month (pos y)) same in
+      rw (same, at_end) (last_of_year day y h hy)
+  | inr (inl lt) ↦
+      let next : days_from_civil (pos y) (suc m) 1 ≡ days_from_civil (pos y) m last +ℤ pos 1 = rw (← add-one) (days_from_civil-next_month (pos y) m last hm.low e) in
+      let after : day <ℤ days_from_civil (pos y) (suc m) 1 = not_begun _ _ (hm.next lt) in
+      omega (arith, signed_arith)
+  | inr (inr gt) ↦ absurd (omega (arith, hm.high))
+]
 
 place_in_month : (first day : ℤ) → first ≤ℤ day → first +ℤ pos (unsigned_abs (day -ℤ first)) ≡ day
 place_in_month first day h = omega (arith, signed_arith, one_part (day -ℤ first))

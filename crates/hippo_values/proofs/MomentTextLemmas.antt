@@ -1,7 +1,11 @@
 -- A moment is written as its day and its second of the day.
-use Rattle.std.proofs.Common.{◌≡◌, ◌≢◌, ℕ, ◌+◌, ◌<◌, ◌≤◌, List, ◌++◌, length, take, drop, refl, sym, ap, ◌∙◌, arith, ℤ, pos, ◌+ℤ◌, ◌*ℤ◌, unsigned_abs}
+use borrow.Rule.Slice.PartMut.{put_mid}
+use Rattle.std.proofs.Common.{◌≡◌, ◌≢◌, [], ◌∷◌, ℕ, ◌<◌, List, ◌++◌, length, take, drop, refl, ap, ◌∙◌, arith, ℤ, pos, ◌+ℤ◌, ◌*ℤ◌, unsigned_abs}
 use Rattle.std.specs.Int.{int_div_euclid, int_rem_euclid}
 use Rattle.std.specs.List.{IsSplitAt}
+use Rattle.std.specs.Str.{IsAscii}
+use Rattle.std.proofs.lemmas.Str.{IsAscii-append}
+use Rattle.hippo_values.proofs.AsciiLemmas.{IsAscii-same}
 use Rattle.std.proofs.lemmas.List.{take-append-drop, length-append}
 use Rattle.std.proofs.Math.Seq.{take-append_seam, drop-append_seam}
 use Rattle.jiff_core.proofs.SignedLemmas.{signed_arith}
@@ -73,3 +77,14 @@ no_moment-without_day text date time split none moment h = none _ (IsDayText-of_
 pub no_moment-without_time : (text date time : List ℕ) → IsSplitAt text 10 date time → ((second : ℕ) → second < 86400 → time ≢ time_text second) → (moment : ℤ) → ¬ (IsMomentText text moment)
 no_moment-without_time text date time split none moment h =
     none _ (second_of-lt moment) (time_text-of_moment text date time split moment h)
+
+-- the bytes of a day and of a second of it, put into 20 bytes, are the moment
+pub moment_text-joined : (front back : List ℕ) (moment day : ℤ) (second : ℕ) → day ≡ day_of moment → second ≡ second_of moment → front ≡ day_text day → back ≡ time_text second → put_mid 10 10 (front ++ 0 ∷ 0 ∷ 0 ∷ 0 ∷ 0 ∷ 0 ∷ 0 ∷ 0 ∷ 0 ∷ 0 ∷ []) back ≡ moment_text moment
+unfolding day_text time_text moment_text
+moment_text-joined front back moment day second ed es ef eb = rw (ef, eb, ed, es) refl
+
+pub IsAscii-moment_text : (text : List ℕ) (moment day : ℤ) (second : ℕ) → day ≡ day_of moment → second ≡ second_of moment → IsAscii (day_text day) → IsAscii (time_text second) → text ≡ moment_text moment → IsAscii text
+unfolding moment_text
+IsAscii-moment_text text moment day second ed es front back e =
+    let joined : text ≡ day_text day ++ time_text second = rw (ed, es) e in
+    IsAscii-same text (day_text day ++ time_text second) joined (IsAscii-append (day_text day) (time_text second) front back)

@@ -1,5 +1,7 @@
-ghost use Rattle.std.specs.Prelude.{◌≡◌, ◌≢◌, ◌<◌, ℕ, ℤ, pos, ◌+ℤ◌, ◌*ℤ◌, [], ◌∷◌, Some, IfSome, IfNone};
-ghost use Rattle.hippo_values.specs.Dates.{two_digits, date_text, clock_text, day_text, time_text, HasDate, IsDayText, IsMomentText};
+ghost use Rattle.std.specs.Prelude.{◌≡◌, ◌≢◌, ◌<◌, ℕ, ℤ, pos, unsigned_abs, ◌+ℤ◌, ◌*ℤ◌, [], ◌∷◌, Some, IfSome, IfNone};
+ghost use Rattle.hippo_values.specs.Dates.{two_digits, date_text, clock_text, day_text, time_text, moment_text, HasDate, IsDayText, IsMomentText};
+ghost use Rattle.std.specs.Int.{int_div_euclid, int_rem_euclid};
+ghost use Rattle.std.specs.Str.{IsAscii};
 
 use crate::moments::{DayNumber, Moment};
 use jiff::civil::Date;
@@ -10,6 +12,8 @@ const DAY_LENGTH: usize = 10;
 
 // The bytes of a time as it is written after a day.
 const TIME_LENGTH: usize = 10;
+
+const LAST_HOUR: u8 = 23;
 
 const SECONDS_OF_DAY: i64 = 86_400;
 
@@ -85,7 +89,12 @@ fn clock_parts(bytes: &[u8]) -> Option<(u8, u8, u8)>
     ensures none { IfNone result
         ((h m s : ℕ) → h < 100 → m < 100 → s < 100 → bytes.now ≢ clock_text h m s) }
 {
-    if bytes.len() != TIME_LENGTH || bytes[0] != b'T' || bytes[3] != b':' || bytes[6] != b':' || bytes[9] != b'Z' {
+    if bytes.len() != TIME_LENGTH
+        || bytes[0] != b'T'
+        || bytes[3] != b':'
+        || bytes[6] != b':'
+        || bytes[9] != b'Z'
+    {
         return None;
     }
     let hour = two_digits(bytes[1], bytes[2])?;
@@ -100,7 +109,7 @@ fn second_of_bytes(bytes: &[u8]) -> Option<u32>
     ensures none { IfNone result ((second : ℕ) → second < 86400 → bytes.now ≢ time_text second) }
 {
     let (hour, minute, second) = clock_parts(bytes)?;
-    if hour > 23 || minute > 59 || second > 59 {
+    if hour > LAST_HOUR || minute > 59 || second > 59 {
         return None;
     }
     Some(u32::from(hour) * 3600 + u32::from(minute) * 60 + u32::from(second))
@@ -142,7 +151,8 @@ fn digits(number: u8) -> [u8; 2]
 
 /// The day as `YYYY-MM-DD`.
 pub fn day_text(day: DayNumber) -> [u8; 10]
-    ensures { result ≡ day_text day }
+    ensures value { result ≡ day_text day }
+    ensures ascii { IsAscii result }
 {
     let (year, month, day) = date_of_day(day);
     let [y1, y2] = digits((year / 100) as u8);
@@ -150,4 +160,42 @@ pub fn day_text(day: DayNumber) -> [u8; 10]
     let [m1, m2] = digits(month);
     let [d1, d2] = digits(day);
     [y1, y2, y3, y4, b'-', m1, m2, b'-', d1, d2]
+}
+
+// The day in which a moment lies.
+fn day_of_moment(moment: Moment) -> DayNumber
+    ensures { result ≡ int_div_euclid moment (pos 86400) }
+{
+    DayNumber::new(moment.seconds().div_euclid(SECONDS_OF_DAY) as i32).unwrap()
+}
+
+// How many seconds of its day have passed at a moment.
+fn second_of_moment(moment: Moment) -> u32
+    ensures value { result ≡ unsigned_abs (int_rem_euclid moment (pos 86400)) }
+    ensures bound { result < 86400 }
+{
+    moment.seconds().rem_euclid(SECONDS_OF_DAY) as u32
+}
+
+// A second of the day as Thh:mm:ssZ.
+fn time_text(second: u32) -> [u8; 10]
+    requires { second < 86400 }
+    ensures value { result ≡ time_text second }
+    ensures ascii { IsAscii result }
+{
+    let [h1, h2] = digits((second / 3600) as u8);
+    let [m1, m2] = digits((second / 60 % 60) as u8);
+    let [s1, s2] = digits((second % 60) as u8);
+    [b'T', h1, h2, b':', m1, m2, b':', s1, s2, b'Z']
+}
+
+/// The moment as `YYYY-MM-DDThh:mm:ssZ`.
+pub fn moment_text(moment: Moment) -> [u8; 20]
+    ensures value { result ≡ moment_text moment }
+    ensures ascii { IsAscii result }
+{
+    let mut text = [0; 20];
+    text[..DAY_LENGTH].copy_from_slice(&day_text(day_of_moment(moment)));
+    text[DAY_LENGTH..].copy_from_slice(&time_text(second_of_moment(moment)));
+    text
 }

@@ -5,14 +5,19 @@ mod dates;
 mod memory;
 mod moments;
 mod names;
+mod printing;
 mod sequence;
+#[cfg(test)]
+mod tests;
 mod texts;
 mod truths;
 mod values;
 
+pub use dates::{day_text, moment_text, read_day, read_moment};
 pub use memory::{Duplicate, Memory};
 pub use moments::{DayNumber, Moment};
 pub use names::{Name, is_keyword, is_name, is_unsupported_word};
+pub use printing::print_value;
 pub use sequence::Sequence;
 pub use texts::Txt;
 pub use truths::{CompareOp, Truth, compare, truth_and, truth_not, truth_or};

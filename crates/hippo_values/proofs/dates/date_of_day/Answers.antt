@@ -1,5 +1,4 @@
-use Rattle.std.proofs.Common.{◌≡◌, refl, ℕ, arith, rules, ℤ, pos, FitsSigned, w16, to_z-of_z, to_z, of_z, ap, ◌∙◌, unsigned_abs}
-use Rattle.jiff_core.specs.declared.civil.date.Date.{Date}
+use Rattle.std.proofs.Common.{◌≡◌, refl, arith, rules, FitsSigned, w16, to_z-of_z, ap, unsigned_abs}
 use Rattle.jiff_core.specs.Date.{epoch_day}
 use Rattle.jiff_core.proofs.SignedLemmas.{signed_casts}
 use Rattle.hippo_values.proofs.DatesLemmas.{HasDate-of_number}
@@ -14,7 +13,7 @@ overflow_cast-result c =
     omega (arith, signed_casts)
 
 pub returns : goal.returns
-returns c = 
+returns c =
     let date = c.from_days_since_min-date.result in
     let number : epoch_day date ≡ c.args.day = omega (arith, signed_casts) in
     let fits : FitsSigned w16 date.year = search rules in

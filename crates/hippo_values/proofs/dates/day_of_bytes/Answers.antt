@@ -1,4 +1,3 @@
-use Rattle.std.proofs.Common.{arith, sym, ◌∙◌}
 use Rattle.std.proofs.lemmas.Option.{IfSome_then}
 use Rattle.hippo_values.proofs.OptionLemmas.{IfNone_then, IfNone_always}
 use Rattle.hippo_values.proofs.DateTextLemmas.{AreShort, IsDayText-of_date, no_day-without_date, no_day-of_date}

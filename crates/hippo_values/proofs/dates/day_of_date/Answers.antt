@@ -1,5 +1,4 @@
-use Rattle.std.proofs.Common.{◌≡◌, ℕ, ◌≤◌, ℤ, Option, None, Some, SomeIff, IfNone, arith, pos, rules, FitsSigned, w32, to_z-of_z, ◌∙◌, ap}
-use Rattle.jiff_core.specs.declared.civil.date.Date.{Date}
+use Rattle.std.proofs.Common.{◌≡◌, ℤ, Option, None, Some, SomeIff, IfNone, arith, pos, rules, FitsSigned, w32, to_z-of_z, ◌∙◌, ap}
 use Rattle.jiff_core.specs.Date.{epoch_day}
 use Rattle.jiff_core.proofs.SignedLemmas.{signed_casts}
 use Rattle.hippo_values.specs.Moments.{IsDayNumber}

@@ -1,6 +1,3 @@
-use Rattle.std.proofs.Common.{arith, ap}
-use Rattle.std.specs.List.{IsSplitAt}
-use Rattle.std.proofs.lemmas.Option.{IfSome_then}
 use Rattle.hippo_values.proofs.OptionLemmas.{IfNone_always}
 use Rattle.hippo_values.proofs.MomentTextLemmas.{IsMomentText-of_parts, length-moment_text, no_moment-without_day, no_moment-without_time}
 use Rattle.hippo_values.proofs.dates.read_moment.Goals as goal
