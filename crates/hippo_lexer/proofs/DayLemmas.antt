@@ -1,5 +1,5 @@
 -- A text is the text of one day at most, and which one is found among all days.
-use Rattle.std.proofs.Common.{◌≡◌, ◌≢◌, ℕ, zero, suc, ◌+◌, ◌-◌, ◌*◌, ◌/◌, ◌%◌, ◌<◌, ◌≤◌, Bool, true, false, cond, List, [], ◌∷◌, ◌++◌, Option, Some, None, IfSome, IfNone, refl, sym, ap, ◌∙◌, inl, inr, arith, ℤ, pos, negsuc, ◌+ℤ◌, ◌-ℤ◌, ◌≤ℤ◌, unsigned_abs, int_le, bytes_eq}
+use Rattle.std.proofs.Common.{◌≡◌, ℕ, zero, suc, ◌+◌, ◌/◌, ◌%◌, ◌<◌, ◌≤◌, Bool, true, List, Option, Some, None, IfSome, IfNone, refl, sym, ap, ◌∙◌, inl, inr, arith, ℤ, pos, negsuc, ◌-ℤ◌, ◌≤ℤ◌, unsigned_abs, int_le, bytes_eq}
 use Rattle.std.proofs.lemmas.Bool.{cases_Bool, cases_order, both_ways}
 use Rattle.std.proofs.lemmas.Int.{ints}
 use Rattle.std.proofs.lemmas.Slice.Eq.{bytes_eq-Decides}
@@ -8,16 +8,16 @@ use Rattle.jiff_core.proofs.SignedLemmas.{signed_arith}
 use Rattle.jiff_core.proofs.MarchLemmas.{day_count-early}
 use Rattle.jiff_core.proofs.CalendarLemmas.{days_from_civil-day_count}
 use Rattle.hippo_values.specs.Moments.{IsDayNumber}
-use Rattle.hippo_values.specs.Dates.{last_passing, has_begun, year_of, month_of, day_of_month, two_digits, four_digits, date_text, day_text, IsDayText}
+use Rattle.hippo_values.specs.Dates.{last_passing, has_begun, year_of, month_of, day_of_month, date_text, day_text, IsDayText}
 use Rattle.hippo_lexer.specs.Reading.{nth_day, day_among, day_of}
 
 last_passes : (test : ℕ → Bool) (n : ℕ) → test 1 ≡ true → test (last_passing test (suc n)) ≡ true
 unfolding last_passing
 last_passes test zero first = rw first first
 last_passes test (suc n) first = elim (cases_Bool (test (suc (suc n)))) [
-    | inl passed ↦ rw passed passed
-    | inr failed ↦ rw failed (last_passes test n first)
-  ]
+  | inl passed ↦ rw passed passed
+  | inr failed ↦ rw failed (last_passes test n first)
+]
 
 first_day : days_from_civil (pos 1) 1 1 ≡ negsuc 719161
 first_day = omega (arith, signed_arith, days_from_civil-day_count, day_count-early (pos 1) 10000 1 1 refl (omega arith) (omega arith) (omega arith))
@@ -33,7 +33,7 @@ month_begun : (day : ℤ) → IsDayNumber day → has_begun day (year_of day) (m
 unfolding year_of month_of
 month_begun day h =
     last_passes (λ month. has_begun day (year_of day) month) 11
-        (last_passes (λ year. has_begun day year 1) 9998 (rw first_day (begun (negsuc 719161) day h.0)))
+    (last_passes (λ year. has_begun day year 1) 9998 (rw first_day (begun (negsuc 719161) day h.0)))
 
 same_day : (first a b : ℤ) → first ≤ℤ a → first ≤ℤ b → unsigned_abs (a -ℤ first) + 1 ≡ unsigned_abs (b -ℤ first) + 1 → a ≡ b
 same_day first a b h k e = grind (arith, ints)
@@ -65,22 +65,22 @@ found_day : (n : ℕ) (text : List ℕ) → n ≤ 3652059 → IfSome (day_among 
 unfolding day_among
 found_day zero text few = tt
 found_day (suc n) text few = elim (cases_Bool (bytes_eq text (day_text (nth_day n)))) [
-    | inl same ↦ rw same ((omega (arith, ints), omega (arith, ints)), (bytes_eq-Decides text (day_text (nth_day n))).0 same)
-    | inr other ↦ rw other (found_day n text (omega arith))
-  ]
+  | inl same ↦ rw same ((omega (arith, ints), omega (arith, ints)), (bytes_eq-Decides text (day_text (nth_day n))).0 same)
+  | inr other ↦ rw other (found_day n text (omega arith))
+]
 
 -- where none is found, none of them is
 none_among : (n : ℕ) (text : List ℕ) (k : ℕ) → k < n → day_among n text ≡ None → text ≡ day_text (nth_day k) → ⊥
 unfolding day_among
 none_among zero text k small none same = absurd (omega arith)
 none_among (suc n) text k small none same = elim (cases_Bool (bytes_eq text (day_text (nth_day n)))) [
-    | inl passed ↦ let found : Some (nth_day n) ≡ None = rw passed at none in cc
-    | inr other ↦ elim (cases_order k n) [
-        | inl last ↦ both_ways _ other ((bytes_eq-Decides text (day_text (nth_day n))).1 (same ∙ ap (λ j. day_text (nth_day j)) last))
-        | inr (inl below) ↦ none_among n text k below (rw other at none) same
-        | inr (inr above) ↦ absurd (omega arith)
-      ]
+  | inl passed ↦ let found : Some (nth_day n) ≡ None = rw passed at none in cc
+  | inr other ↦ elim (cases_order k n) [
+    | inl last ↦ both_ways _ other ((bytes_eq-Decides text (day_text (nth_day n))).1 (same ∙ ap (λ j. day_text (nth_day j)) last))
+    | inr (inl below) ↦ none_among n text k below (rw other at none) same
+    | inr (inr above) ↦ absurd (omega arith)
   ]
+]
 
 -- each day is one of them
 place_of : (day : ℤ) → IsDayNumber day → (nth_day (unsigned_abs (day -ℤ negsuc 719161)) ≡ day) × (unsigned_abs (day -ℤ negsuc 719161) < 3652059)

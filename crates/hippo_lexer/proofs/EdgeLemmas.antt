@@ -1,17 +1,17 @@
 -- How a token begins and ends: with a byte of ASCII that is no blank.
-use Rattle.std.proofs.Common.{◌≡◌, ℕ, zero, suc, ◌+◌, ◌-◌, ◌<◌, ◌≤◌, ◌⊎◌, Bool, true, false, not, ◌&&◌, ◌||◌, List, [], ◌∷◌, ◌++◌, length, get_or, Option, Some, ℤ, refl, sym, ap, ◌∙◌, inl, inr, arith}
+use Rattle.std.proofs.Common.{◌≡◌, ℕ, zero, suc, ◌-◌, ◌<◌, Bool, true, false, List, [], ◌∷◌, ◌++◌, length, get_or, Some, ℤ, refl, sym, ap, ◌∙◌, inl, inr, arith}
 use Rattle.std.specs.Prelude.{nat_lt}
 use Rattle.std.specs.List.{list_all}
 use Rattle.std.specs.Char.{is_ascii_alphabetic, is_ascii_digit}
-use Rattle.std.proofs.lemmas.Bool.{cases_Bool, and_parts, and_from, both_ways, lt-ltb, ltb-true, not-true, or_cases, eqb-true}
+use Rattle.std.proofs.lemmas.Bool.{and_parts, both_ways, ltb-true, not-true, or_cases, eqb-true}
 use Rattle.std.proofs.lemmas.Bool.Decides.{nat_tests}
 use Rattle.std.proofs.lemmas.List.{append_assoc, get_or_at, length-append}
 use Rattle.hippo_values.specs.Names.{is_word_byte, is_word}
 use Rattle.hippo_lexer.specs.declared.kinds.Symbol.{Symbol}
 use Rattle.hippo_lexer.specs.declared.kinds.TokenKind.{TokenKind}
 use Rattle.hippo_lexer.specs.declared.faults.LexFault.{LexFault}
-use Rattle.hippo_lexer.specs.Spelling.{is_blank, is_quote, is_minus, begins_with, doubled, sign_of}
-use Rattle.hippo_lexer.specs.Grammar.{IsToken, a_keyword, a_refused_word, a_name, a_number, a_quoted_text, a_day, a_sign, IsFault, long_word, letter_behind, large, lone_minus, unclosed, no_day, stray, AreDigits, IsNumber, plain, negative, IsWholeWord, quoted}
+use Rattle.hippo_lexer.specs.Spelling.{is_blank, is_minus, doubled, sign_of}
+use Rattle.hippo_lexer.specs.Grammar.{IsToken, a_keyword, a_refused_word, a_name, a_number, a_quoted_text, a_day, a_sign, IsFault, long_word, letter_behind, large, lone_minus, unclosed, no_day, stray, AreDigits, IsNumber, plain, negative, quoted}
 use Rattle.hippo_lexer.proofs.FrontLemmas.{small_digit, small_word_byte}
 use Rattle.hippo_lexer.proofs.NumeralLemmas.{number_begins}
 use Rattle.hippo_lexer.proofs.SignLemmas.{sign-begins, sign-plain}

@@ -1,10 +1,10 @@
 -- What a parsed number is.
-use Rattle.std.proofs.Common.{◌≡◌, ℕ, suc, ◌+◌, ◌^◌, ◌<◌, ◌≤◌, Bool, true, false, cond, List, [], ◌∷◌, length, drop, Option, Some, None, Result, Ok, Err, refl, sym, arith, w64, ℤ, pos, neg_ℤ, inl, inr, rules}
+use Rattle.std.proofs.Common.{◌≡◌, ℕ, Bool, true, cond, List, [], ◌∷◌, Some, None, Result, Ok, Err, refl, arith, w64, ℤ, inl, inr, rules}
 use Rattle.std.specs.Result.{result_ok, OkIff}
 use Rattle.std.specs.List.{list_all}
 use Rattle.std.specs.Char.{is_ascii_digit}
 use Rattle.std.specs.Str.Parse.{ParsesSigned, digits_value}
-use Rattle.std.proofs.lemmas.Bool.{cases_Bool, eqb-true, eqb-false, leb-true, le-leb, ltb-true, lt-ltb}
+use Rattle.std.proofs.lemmas.Bool.{cases_Bool, eqb-true, leb-true, le-leb, ltb-true, lt-ltb}
 use Rattle.std.proofs.lemmas.Str.Parse.{IsNumeralModel, numerals_by_value, parse_signed_minus, parse_signed_digits}
 use Rattle.hippo_lexer.specs.Spelling.{is_minus}
 use Rattle.hippo_lexer.specs.Reading.{number_of, IsNumeral}
@@ -21,12 +21,12 @@ pub number_of-parsed : {E : Type 0} (text : List ℕ) (r : Result ℤ E) → Par
 unfolding number_of
 number_of-parsed [] r h numeral = absurd (omega (arith, numeral.0))
 number_of-parsed (first ∷ rest) r h numeral = elim (cases_Bool (is_minus first)) [
-    | inl minus ↦
-        let some = rw minus at numeral in
-        let parsed = parse_signed_minus digits w64 (first ∷ rest) r h (eqb-true first 45 minus) in
-        rw minus (if_ok r _ _ _ parsed (λ passed. (some.1, omega (arith, some.0), leb-true _ _ passed)) (λ p. le-leb _ _ p.2))
-    | inr other ↦
-        let some = rw other at numeral in
-        let parsed = parse_signed_digits digits w64 (first ∷ rest) r h some.1 in
-        rw other (if_ok r _ _ _ parsed (λ passed. (omega (arith, some.0), ltb-true _ _ passed)) (λ p. lt-ltb _ _ p.1))
-  ]
+  | inl minus ↦
+      let some = rw minus at numeral in
+      let parsed = parse_signed_minus digits w64 (first ∷ rest) r h (eqb-true first 45 minus) in
+      rw minus (if_ok r _ _ _ parsed (λ passed. (some.1, omega (arith, some.0), leb-true _ _ passed)) (λ p. le-leb _ _ p.2))
+  | inr other ↦
+      let some = rw other at numeral in
+      let parsed = parse_signed_digits digits w64 (first ∷ rest) r h some.1 in
+      rw other (if_ok r _ _ _ parsed (λ passed. (omega (arith, some.0), ltb-true _ _ passed)) (λ p. lt-ltb _ _ p.1))
+]

@@ -1,9 +1,9 @@
 -- Numbers by their spelling.
-use Rattle.std.proofs.Common.{◌≡◌, ◌≢◌, ℕ, zero, suc, ◌+◌, ◌-◌, ◌^◌, ◌<◌, ◌≤◌, ◌⊎◌, Bool, true, false, cond, ◌&&◌, ◌||◌, List, [], ◌∷◌, ◌++◌, length, take, drop, Option, Some, None, Ok, Err, ok_or, if◌then◌else◌, refl, sym, ap, ◌∙◌, inl, inr, arith, one-add, zero-add, ℤ, pos, negsuc, ltb, leb, ◌==◌, neg_ℤ, ◌≤ℤ◌, ◌<ℤ◌}
-use Rattle.std.specs.List.{prefix_len, list_all}
+use Rattle.std.proofs.Common.{◌≡◌, ℕ, ◌+◌, ◌^◌, ◌<◌, ◌≤◌, ◌⊎◌, true, false, cond, ◌||◌, List, [], ◌∷◌, ◌++◌, length, take, drop, Some, None, Ok, Err, ok_or, if◌then◌else◌, refl, sym, ap, ◌∙◌, inl, inr, arith, one-add, zero-add, ℤ, pos, negsuc, ltb, leb, ◌==◌, neg_ℤ}
+use Rattle.std.specs.List.{list_all}
 use Rattle.std.specs.Char.{is_ascii_alphabetic, is_ascii_digit}
 use Rattle.std.specs.Str.Parse.{digits_value}
-use Rattle.std.proofs.lemmas.Bool.{cases_Bool, cases_lt, and_parts, or_cases, both_ways, eqb-true, eqb-false, ne_eqb, lt-ltb, le-ltb, le-leb, lt-leb, leb-true}
+use Rattle.std.proofs.lemmas.Bool.{cases_Bool, cases_lt, and_parts, both_ways, eqb-true, ne_eqb, lt-ltb, le-ltb, le-leb, lt-leb, leb-true}
 use Rattle.std.proofs.lemmas.Bool.Decides.{nat_tests}
 use Rattle.std.proofs.lemmas.Int.{ints}
 use Rattle.std.proofs.lemmas.List.{take_at, drop_at, take-append-drop}
@@ -50,19 +50,19 @@ number_lens text rest number (negative _ digits _ are spelled value) ends = rw s
 
 plain_choice : (n : ℕ) (number : ℤ) → number ≡ pos n → (IsInRange number → cond (ltb n (2 ^ 63)) (Some (pos n)) None ≡ Some number) × (¬ (IsInRange number) → cond (ltb n (2 ^ 63)) (Some (pos n)) None ≡ None)
 plain_choice n number value = elim (cases_lt n (2 ^ 63)) [
-    | inl small ↦
-        let fits : IsInRange number = rw value (omega (arith, ints), omega (arith, ints)) in
-        (λ _. rw (lt-ltb n (2 ^ 63) small) (ap Some (sym value)), λ large. absurd (large fits))
-    | inr big ↦ (λ fits. absurd (omega (arith, ints, fits.1)), λ _. rw (le-ltb n (2 ^ 63) big) refl)
-  ]
+  | inl small ↦
+      let fits : IsInRange number = rw value (omega (arith, ints), omega (arith, ints)) in
+      (λ _. rw (lt-ltb n (2 ^ 63) small) (ap Some (sym value)), λ large. absurd (large fits))
+  | inr big ↦ (λ fits. absurd (omega (arith, ints, fits.1)), λ _. rw (le-ltb n (2 ^ 63) big) refl)
+]
 
 negative_choice : (n : ℕ) (number : ℤ) → number ≡ neg_ℤ (pos n) → (IsInRange number → cond (leb n (2 ^ 63)) (Some (neg_ℤ (pos n))) None ≡ Some number) × (¬ (IsInRange number) → cond (leb n (2 ^ 63)) (Some (neg_ℤ (pos n))) None ≡ None)
 negative_choice n number value = elim (cases_lt (2 ^ 63) n) [
-    | inl big ↦ (λ fits. absurd (omega (arith, ints, fits.0)), λ _. rw (lt-leb n (2 ^ 63) big) refl)
-    | inr small ↦
-        let fits : IsInRange number = rw value (omega (arith, ints), omega (arith, ints)) in
-        (λ _. rw (le-leb n (2 ^ 63) small) (ap Some (sym value)), λ large. absurd (large fits))
-  ]
+  | inl big ↦ (λ fits. absurd (omega (arith, ints, fits.0)), λ _. rw (lt-leb n (2 ^ 63) big) refl)
+  | inr small ↦
+      let fits : IsInRange number = rw value (omega (arith, ints), omega (arith, ints)) in
+      (λ _. rw (le-leb n (2 ^ 63) small) (ap Some (sym value)), λ large. absurd (large fits))
+]
 
 -- a number's value is what the reader makes of its text
 plain_value : (digits : List ℕ) (number : ℤ) → AreDigits digits → number ≡ pos (digits_value 10 digits) → (IsInRange number → number_of digits ≡ Some number) × (¬ (IsInRange number) → number_of digits ≡ None)
@@ -81,13 +81,13 @@ number_value text number (negative _ digits _ are spelled value) = rw spelled (n
 
 pub in_range_or_not : (number : ℤ) → IsInRange number ⊎ (¬ (IsInRange number))
 in_range_or_not (pos n) = elim (cases_lt n (2 ^ 63)) [
-    | inl small ↦ inl (omega (arith, ints), omega (arith, ints))
-    | inr big ↦ inr (λ fits. absurd (omega (arith, ints, fits.1)))
-  ]
+  | inl small ↦ inl (omega (arith, ints), omega (arith, ints))
+  | inr big ↦ inr (λ fits. absurd (omega (arith, ints, fits.1)))
+]
 in_range_or_not (negsuc n) = elim (cases_lt n (2 ^ 63)) [
-    | inl small ↦ inl (omega (arith, ints), omega (arith, ints))
-    | inr big ↦ inr (λ fits. absurd (omega (arith, ints, fits.0)))
-  ]
+  | inl small ↦ inl (omega (arith, ints), omega (arith, ints))
+  | inr big ↦ inr (λ fits. absurd (omega (arith, ints, fits.0)))
+]
 
 -- what the reader says of a number
 number_step : (place : ℕ) (text rest : List ℕ) (number : ℤ) → IsNumber text number → begins_with is_ascii_digit rest ≡ false → number_first place (text ++ rest) ≡ (ok_or (number_of text) (faults.NumberTooLarge place) >>= λ n. if begins_with is_word_byte rest then Err (faults.BadToken (place + length text)) else Ok (kinds.Number n, length text))
@@ -130,16 +130,28 @@ IsLoneMinus bytes = (rest : List ℕ) × (bytes ≡ 45 ∷ rest) × (begins_with
 
 pub number_or_minus : (byte : ℕ) (rest : List ℕ) → (is_ascii_digit byte || is_minus byte) ≡ true → BeginsNumber (byte ∷ rest) ⊎ IsLoneMinus (byte ∷ rest)
 number_or_minus byte rest h = elim (cases_Bool (is_ascii_digit byte)) [
-    | inl digit ↦ inl (take (digits_len (byte ∷ rest)) (byte ∷ rest), drop (digits_len (byte ∷ rest)) (byte ∷ rest), _, sym (take-append-drop (digits_len (byte ∷ rest)) (byte ∷ rest)),
-        plain _ _ (rw (digit, one-add) (omega arith), all-front is_ascii_digit (byte ∷ rest)) refl, ends-front is_ascii_digit (byte ∷ rest))
-    | inr other ↦
-        let dash : byte ≡ 45 = eqb-true byte 45 (rw other at h) in
-        elim (cases_Bool (begins_with is_ascii_digit rest)) [
-          | inl digits ↦ inl (45 ∷ take (digits_len rest) rest, drop (digits_len rest) rest, _, ap (λ b. b ∷ rest) dash ∙ ap (λ b. 45 ∷ b) (sym (take-append-drop (digits_len rest) rest)),
-              negative _ (take (digits_len rest) rest) _ (some_digits rest digits, all-front is_ascii_digit rest) refl refl, ends-front is_ascii_digit rest)
-          | inr none ↦ inr (rest, ap (λ b. b ∷ rest) dash, none)
-        ]
-  ]
+  | inl digit ↦ inl (
+    take (digits_len (byte ∷ rest)) (byte ∷ rest),
+    drop (digits_len (byte ∷ rest)) (byte ∷ rest),
+    _,
+    sym (take-append-drop (digits_len (byte ∷ rest)) (byte ∷ rest)),
+    plain _ _ (rw (digit, one-add) (omega arith), all-front is_ascii_digit (byte ∷ rest)) refl,
+    ends-front is_ascii_digit (byte ∷ rest),
+  )
+  | inr other ↦
+      let dash : byte ≡ 45 = eqb-true byte 45 (rw other at h) in
+      elim (cases_Bool (begins_with is_ascii_digit rest)) [
+        | inl digits ↦ inl (
+          45 ∷ take (digits_len rest) rest,
+          drop (digits_len rest) rest,
+          _,
+          ap (λ b. b ∷ rest) dash ∙ ap (λ b. 45 ∷ b) (sym (take-append-drop (digits_len rest) rest)),
+          negative _ (take (digits_len rest) rest) _ (some_digits rest digits, all-front is_ascii_digit rest) refl refl,
+          ends-front is_ascii_digit rest,
+        )
+        | inr none ↦ inr (rest, ap (λ b. b ∷ rest) dash, none)
+      ]
+]
 
 -- a number begins with a digit or with `-`
 abbrev BeginsDigit : List ℕ → Type 0

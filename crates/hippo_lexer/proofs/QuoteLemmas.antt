@@ -1,5 +1,5 @@
 -- How a quoted text closes.
-use Rattle.std.proofs.Common.{◌≡◌, ◌≢◌, ℕ, zero, suc, ◌+◌, ◌-◌, ◌<◌, ◌≤◌, Bool, true, false, cond, List, [], ◌∷◌, ◌++◌, length, get_or, Option, Some, None, refl, sym, ap, ◌∙◌, arith, eqb}
+use Rattle.std.proofs.Common.{◌≡◌, ◌≢◌, ℕ, suc, ◌+◌, ◌-◌, ◌<◌, ◌≤◌, false, List, [], ◌∷◌, ◌++◌, length, get_or, Option, Some, None, refl, sym, ap, ◌∙◌, arith}
 use Rattle.std.proofs.lemmas.List.{append_assoc, append-nil, length-append}
 use Rattle.std.proofs.lemmas.Bool.{ne_eqb}
 use Rattle.hippo_lexer.specs.Spelling.{is_quote, begins_with}
@@ -74,7 +74,7 @@ closing-found text run after rest behind within told split none last =
     let count : length behind - length rest + length run + 1 ≡ length behind - length after = omega (arith, simp length-append at (ap length split)) in
     ap (λ n. Some (text ++ run, n)) (sym count)
     ∙ (sym (closing-last text run after (length behind - length rest) none (single after last))
-        ∙ (ap (λ bytes. onto text (length behind - length rest) (closing bytes)) (sym split) ∙ told))
+    ∙ (ap (λ bytes. onto text (length behind - length rest) (closing bytes)) (sym split) ∙ told))
 
 -- The reader goes on: a run and two quotes stand there.
 pub closing-more : (text run next rest behind : List ℕ) → length rest ≤ length behind → onto text (length behind - length rest) (closing rest) ≡ closing behind → rest ≡ run ++ 39 ∷ 39 ∷ next → ((i : ℕ) → i < length run → get_or run i 0 ≢ 39) → onto (text ++ run ++ 39 ∷ []) (length behind - length next) (closing next) ≡ closing behind
@@ -82,7 +82,7 @@ closing-more text run next rest behind within told split none =
     let count : length behind - length rest + length run + 2 ≡ length behind - length next = omega (arith, simp length-append at (ap length split)) in
     ap (λ n. onto (text ++ run ++ 39 ∷ []) n (closing next)) (sym count)
     ∙ (sym (closing-step text run next (length behind - length rest) none)
-        ∙ (ap (λ bytes. onto text (length behind - length rest) (closing bytes)) (sym split) ∙ told))
+    ∙ (ap (λ bytes. onto text (length behind - length rest) (closing bytes)) (sym split) ∙ told))
 
 -- It ends: no quote is left.
 pub closing-ends : (text rest behind : List ℕ) (n : ℕ) → onto text n (closing rest) ≡ closing behind → ((i : ℕ) → i < length rest → get_or rest i 0 ≢ 39) → None ≡ closing behind

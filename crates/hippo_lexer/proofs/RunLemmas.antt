@@ -1,13 +1,13 @@
 -- The reader's outcome is the grammar's, for each text.
-use Rattle.std.proofs.Common.{◌≡◌, ℕ, zero, suc, ◌+◌, ◌-◌, ◌<◌, ◌≤◌, ◌⊎◌, Bool, true, false, List, [], ◌∷◌, ◌++◌, length, take, drop, Result, Ok, Err, refl, sym, ap, subst, ◌∙◌, inl, inr, arith, add-one}
+use Rattle.std.proofs.Common.{◌≡◌, ℕ, zero, suc, ◌+◌, ◌-◌, ◌<◌, ◌≤◌, false, List, [], ◌∷◌, ◌++◌, length, Result, Ok, Err, refl, sym, ap, ◌∙◌, inl, inr, arith}
 use Rattle.std.proofs.lemmas.Bool.{cases_Bool}
 use Rattle.std.proofs.lemmas.List.{length-append}
 use Rattle.hippo_lexer.specs.declared.kinds.TokenKind.{TokenKind}
 use Rattle.hippo_lexer.specs.declared.kinds.Token.{Token}
 use Rattle.hippo_lexer.specs.declared.faults.LexFault.{LexFault}
 use Rattle.hippo_lexer.specs.Spelling.{is_blank}
-use Rattle.hippo_lexer.specs.Reading.{◌>>=◌, token_first, tokens_from, with_front}
-use Rattle.hippo_lexer.specs.Grammar.{IsToken, IsFault, IsReading, at_end, at_blank, at_token, at_fault, with_first, IsOutcome}
+use Rattle.hippo_lexer.specs.Reading.{token_first, tokens_from, with_front}
+use Rattle.hippo_lexer.specs.Grammar.{IsReading, at_end, at_blank, at_token, at_fault, with_first, IsOutcome}
 use Rattle.hippo_lexer.proofs.EdgeLemmas.{BeginsPlain, token_begins, fault_begins}
 use Rattle.hippo_lexer.proofs.FirstLemmas.{token_or_fault}
 use Rattle.hippo_lexer.proofs.TokenLemmas.{token-is, fault-is}
@@ -63,17 +63,17 @@ reading_within : (n place : ℕ) (bytes : List ℕ) → length bytes ≤ n → H
 reading_within n place [] small = (Ok [], at_end place)
 reading_within zero place (byte ∷ rest) small = absurd (omega arith)
 reading_within (suc n) place (byte ∷ rest) small = elim (cases_Bool (is_blank byte)) [
-    | inl h ↦ let later = reading_within n (place + 1) rest (omega arith) in (later.0, at_blank place byte rest later.0 h later.1)
-    | inr h ↦ elim (token_or_fault place byte rest h) [
-        | inl found ↦
-            let begins = token_begins found.0 found.1 found.2 found.4 in
-            let cut : suc (length rest) ≡ length found.0 + length found.1 = simp length-append at (ap length found.3) in
-            let some : 0 < length found.0 = rw begins.parts (omega arith) in
-            let later = reading_within n (place + length found.0) found.1 (omega arith) in
-            (_, at_token place (byte ∷ rest) found.0 found.1 found.2 later.0 _ found.4 later.1 found.3 refl)
-        | inr found ↦ (Err found.0, at_fault place (byte ∷ rest) found.0 found.1)
-      ]
+  | inl h ↦ let later = reading_within n (place + 1) rest (omega arith) in (later.0, at_blank place byte rest later.0 h later.1)
+  | inr h ↦ elim (token_or_fault place byte rest h) [
+    | inl found ↦
+        let begins = token_begins found.0 found.1 found.2 found.4 in
+        let cut : suc (length rest) ≡ length found.0 + length found.1 = simp length-append at (ap length found.3) in
+        let some : 0 < length found.0 = rw begins.parts (omega arith) in
+        let later = reading_within n (place + length found.0) found.1 (omega arith) in
+        (_, at_token place (byte ∷ rest) found.0 found.1 found.2 later.0 _ found.4 later.1 found.3 refl)
+    | inr found ↦ (Err found.0, at_fault place (byte ∷ rest) found.0 found.1)
   ]
+]
 
 -- the outcome of a text, and there is no other
 pub outcome_is : (text : List ℕ) → IsOutcome text (tokens_from 0 0 text)

@@ -1,10 +1,10 @@
 -- Signs of one and of two bytes.
-use Rattle.std.proofs.Common.{◌≡◌, ◌≢◌, ℕ, zero, suc, ◌+◌, ◌<◌, ◌≤◌, ◌⊎◌, Bool, true, false, cond, not, ◌&&◌, List, [], ◌∷◌, ◌++◌, length, take, drop, Option, Some, None, refl, sym, ap, ◌∙◌, inl, inr, arith, bytes_eq}
-use Rattle.std.specs.Prelude.{nat_le, nat_lt}
+use Rattle.std.proofs.Common.{◌≡◌, ℕ, ◌<◌, ◌⊎◌, Bool, true, not, ◌&&◌, List, [], ◌∷◌, ◌++◌, length, Option, Some, None, refl, sym, ap, ◌∙◌, inl, inr, arith, bytes_eq}
+use Rattle.std.specs.Prelude.{nat_lt}
 use Rattle.std.specs.Map.{lookup}
 use Rattle.std.specs.List.{list_all}
 use Rattle.std.specs.Char.{is_ascii_alphabetic, is_ascii_digit}
-use Rattle.std.proofs.lemmas.Bool.{cases_Bool, and_parts, both_ways, leb-true, ltb-true}
+use Rattle.std.proofs.lemmas.Bool.{cases_Bool, and_parts, ltb-true}
 use Rattle.std.proofs.lemmas.Slice.Eq.{bytes_eq-Decides}
 use Rattle.hippo_lexer.specs.declared.kinds.Symbol.{Symbol}
 use Rattle.hippo_lexer.specs.Spelling.{is_blank, is_quote, is_minus, begins_with, sign_table, sign_of}
@@ -15,9 +15,9 @@ use Rattle.hippo_lexer.specs.Grammar.{IsLongestSign}
 lookup-passes : {X : Type 0} (table : List (List ℕ × X)) (test : List ℕ → Bool) (text : List ℕ) (found : X) → list_all (λ e. test e.0) table ≡ true → lookup (λ known. bytes_eq known text) table ≡ Some found → test text ≡ true
 lookup-passes [] test text found all h = cc
 lookup-passes (entry ∷ table) test text found all h = elim (cases_Bool (bytes_eq entry.0 text)) [
-    | inl same ↦ ap test (sym ((bytes_eq-Decides entry.0 text).0 same)) ∙ (and_parts _ _ all).0
-    | inr other ↦ lookup-passes table test text found (and_parts _ _ all).1 (rw other at h)
-  ]
+  | inl same ↦ ap test (sym ((bytes_eq-Decides entry.0 text).0 same)) ∙ (and_parts _ _ all).0
+  | inr other ↦ lookup-passes table test text found (and_parts _ _ all).1 (rw other at h)
+]
 
 -- a byte that begins a sign begins no other token
 abbrev begins_sign : ℕ → Bool
@@ -79,13 +79,13 @@ BeginsSign bytes = (text : List ℕ) × (rest : List ℕ) × (sign : Symbol) × 
 
 pub sign_or_none : (byte : ℕ) (rest : List ℕ) → BeginsSign (byte ∷ rest) ⊎ ((sign_of (byte ∷ []) ≡ None) × IsLongestSign (byte ∷ []) rest)
 sign_or_none byte [] = elim (some_or_none (sign_of (byte ∷ []))) [
-    | inl found ↦ inl (byte ∷ [], [], found.0, refl, found.1, longest_at_end byte)
-    | inr none ↦ inr (none, longest_at_end byte)
-  ]
+  | inl found ↦ inl (byte ∷ [], [], found.0, refl, found.1, longest_at_end byte)
+  | inr none ↦ inr (none, longest_at_end byte)
+]
 sign_or_none byte (next ∷ more) = elim (some_or_none (sign_of (byte ∷ next ∷ []))) [
-    | inl two ↦ inl (byte ∷ next ∷ [], more, two.0, refl, two.1, longest_two byte next more)
-    | inr short ↦ elim (some_or_none (sign_of (byte ∷ []))) [
-        | inl one ↦ inl (byte ∷ [], next ∷ more, one.0, refl, one.1, longest_one byte next more short)
-        | inr none ↦ inr (none, longest_one byte next more short)
-      ]
+  | inl two ↦ inl (byte ∷ next ∷ [], more, two.0, refl, two.1, longest_two byte next more)
+  | inr short ↦ elim (some_or_none (sign_of (byte ∷ []))) [
+    | inl one ↦ inl (byte ∷ [], next ∷ more, one.0, refl, one.1, longest_one byte next more short)
+    | inr none ↦ inr (none, longest_one byte next more short)
   ]
+]

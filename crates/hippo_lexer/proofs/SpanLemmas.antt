@@ -1,6 +1,6 @@
 -- Where the tokens of a text stand in it.
-use Rattle.std.proofs.Common.{◌≡◌, ℕ, zero, suc, ◌+◌, ◌-◌, ◌<◌, ◌≤◌, List, [], ◌∷◌, ◌++◌, length, get_or, Result, Ok, Err, IfOk, All, refl, sym, ap, ◌∙◌, arith}
-use Rattle.std.specs.Prelude.{IsUtf8, IsCharBoundary}
+use Rattle.std.proofs.Common.{◌≡◌, ℕ, ◌+◌, ◌-◌, ◌<◌, ◌≤◌, List, [], ◌∷◌, ◌++◌, length, get_or, Result, Ok, Err, IfOk, All, refl, sym, ap, ◌∙◌, arith}
+use Rattle.std.specs.Prelude.{IsUtf8}
 use Rattle.std.specs.List.{AllPairs}
 use Rattle.std.specs.List.{AllByRecursion}
 use Rattle.std.proofs.lemmas.List.{length-append, append_assoc, get_or_at, get_or-append-add, get_or_append_left}
@@ -27,7 +27,7 @@ span_there text front said rest place kind utf8 parts size begins ends =
     let last : place + length said - 1 ≡ length front + (length said - 1) = omega arith in
     let inside : length said - 1 < length said = omega arith in
     let small_end : get_or text (place + length said - 1) 0 < 128 =
-        rw (last, parts, get_or-append-add front (said ++ rest) (length said - 1) 0, get_or_append_left said rest 0 (length said - 1) inside) ends in
+    rw (last, parts, get_or-append-add front (said ++ rest) (length said - 1) 0, get_or_append_left said rest 0 (length said - 1) inside) ends in
     record {
       some = omega arith;
       from = IsCharBoundary-before_ascii text place (omega arith) small_start;

@@ -1,14 +1,13 @@
 -- Which kind of token a word is.
-use Rattle.std.proofs.Common.{◌≡◌, ℕ, suc, ◌+◌, ◌<◌, ◌≤◌, ◌⊎◌, Bool, true, false, cond, not, ◌&&◌, ◌||◌, List, [], ◌∷◌, ◌++◌, length, map, take, drop, Option, Some, None, is_some, refl, sym, ap, ◌∙◌, inl, inr, arith, bytes_eq}
+use Rattle.std.proofs.Common.{◌≡◌, ℕ, ◌<◌, ◌≤◌, ◌⊎◌, Bool, true, false, not, ◌&&◌, ◌||◌, List, [], ◌∷◌, length, map, Option, Some, None, is_some, refl, sym, ap, ◌∙◌, inl, inr, arith, bytes_eq}
 use Rattle.std.specs.Map.{lookup}
 use Rattle.std.specs.List.{list_any, list_all}
 use Rattle.std.specs.Prelude.{nat_le}
-use Rattle.std.proofs.lemmas.Bool.{cases_Bool, and_parts, or_cases, both_ways, leb-true, leb-false, lt-leb, not-true, and_left, and_right}
+use Rattle.std.proofs.lemmas.Bool.{cases_Bool, and_parts, both_ways, leb-true, leb-false, lt-leb, not-true, and_left, and_right}
 use Rattle.std.proofs.lemmas.List.{length-map}
 use Rattle.std.proofs.lemmas.Slice.Eq.{bytes_eq-Decides}
-use Rattle.hippo_values.specs.Names.{folded, keywords, unsupported_words, is_among, is_reserved, is_word, is_name, name_of}
+use Rattle.hippo_values.specs.Names.{folded, keywords, unsupported_words, is_among, is_reserved, is_word, is_name}
 use Rattle.hippo_lexer.specs.declared.kinds.Keyword.{Keyword}
-use Rattle.hippo_lexer.specs.declared.kinds.TokenKind.{TokenKind}
 use Rattle.hippo_lexer.specs.declared.kinds.TokenKind.TheVariants as kinds
 use Rattle.hippo_lexer.specs.Spelling.{keyword_table, keyword_of}
 use Rattle.hippo_lexer.specs.Reading.{word_kind}
@@ -17,9 +16,9 @@ use Rattle.hippo_lexer.specs.Reading.{word_kind}
 lookup-any : {K X : Type 0} (test : K → Bool) (table : List (K × X)) → is_some (lookup test table) ≡ list_any test (map (λ e. e.0) table)
 lookup-any test [] = refl
 lookup-any test (entry ∷ table) = elim (cases_Bool (test entry.0)) [
-    | inl passed ↦ rw passed refl
-    | inr failed ↦ rw failed (lookup-any test table)
-  ]
+  | inl passed ↦ rw passed refl
+  | inr failed ↦ rw failed (lookup-any test table)
+]
 
 -- a word is a keyword where it is among them
 pub keyword-among : (word : List ℕ) → is_some (keyword_of word) ≡ is_among keywords word
@@ -30,9 +29,9 @@ keyword-among word = lookup-any (λ known. bytes_eq (folded known) (folded word)
 among_one : (words : List (List ℕ)) (test : List ℕ → Bool) (word : List ℕ) → list_all test words ≡ true → is_among words word ≡ true → (known : List ℕ) × (folded known ≡ folded word) × (test known ≡ true)
 among_one [] test word all among = absurd (both_ways _ refl among)
 among_one (known ∷ words) test word all among = elim (cases_Bool (bytes_eq (folded known) (folded word))) [
-    | inl same ↦ (known, (bytes_eq-Decides (folded known) (folded word)).0 same, (and_parts _ _ all).0)
-    | inr other ↦ among_one words test word (and_parts _ _ all).1 (rw other at among)
-  ]
+  | inl same ↦ (known, (bytes_eq-Decides (folded known) (folded word)).0 same, (and_parts _ _ all).0)
+  | inr other ↦ among_one words test word (and_parts _ _ all).1 (rw other at among)
+]
 
 same_length : (known word : List ℕ) → folded known ≡ folded word → length known ≡ length word
 same_length known word same = sym (length-map known _) ∙ (ap length same ∙ length-map word _)
@@ -78,9 +77,9 @@ or_false false b h = (refl, h)
 
 not_among : (words : List (List ℕ)) (word : List ℕ) → list_all (λ known. nat_le (length known) 63) words ≡ true → 63 < length word → is_among words word ≡ false
 not_among words word short long = elim (cases_Bool (is_among words word)) [
-    | inl among ↦ let within : length word ≤ 63 = among_short words word short among in absurd (omega arith)
-    | inr other ↦ other
-  ]
+  | inl among ↦ let within : length word ≤ 63 = among_short words word short among in absurd (omega arith)
+  | inr other ↦ other
+]
 
 -- Each kind of word.
 pub kind-keyword : (word : List ℕ) (keyword : Keyword) → keyword_of word ≡ Some keyword → word_kind word ≡ Some (kinds.Keyword keyword)
@@ -90,9 +89,9 @@ kind-keyword word keyword h = rw h refl
 pub kind-refused : (word : List ℕ) → is_among unsupported_words word ≡ true → word_kind word ≡ Some (kinds.Unsupported (folded word))
 unfolding word_kind
 kind-refused word among = elim (cases_Bool (is_among keywords word)) [
-    | inl keyword ↦ absurd (both_ways _ (keyword_not_refused word keyword) among)
-    | inr other ↦ rw (no_keyword word other, among) refl
-  ]
+  | inl keyword ↦ absurd (both_ways _ (keyword_not_refused word keyword) among)
+  | inr other ↦ rw (no_keyword word other, among) refl
+]
 
 pub kind-name : (word : List ℕ) → is_name word ≡ true → word_kind word ≡ Some (kinds.Word (folded word))
 unfolding word_kind
@@ -116,12 +115,12 @@ some_from (Some x) h = (x, refl)
 -- a word is a keyword, a refused word, a name, or too long
 pub word_cases : (word : List ℕ) → is_word word ≡ true → ((keyword : Keyword) × (keyword_of word ≡ Some keyword)) ⊎ ((is_among unsupported_words word ≡ true) ⊎ ((is_name word ≡ true) ⊎ (63 < length word)))
 word_cases word form = elim (cases_Bool (is_among keywords word)) [
-    | inl keyword ↦ inl (some_from (keyword_of word) (keyword-among word ∙ keyword))
-    | inr other ↦ inr (elim (cases_Bool (is_among unsupported_words word)) [
-        | inl refused ↦ inl refused
-        | inr free ↦ inr (elim (cases_Bool (nat_le (length word) 63)) [
-            | inl short ↦ inl (rw (form, short, other, free) refl)
-            | inr long ↦ inr (leb-false (length word) 63 long)
-          ])
-      ])
-  ]
+  | inl keyword ↦ inl (some_from (keyword_of word) (keyword-among word ∙ keyword))
+  | inr other ↦ inr (elim (cases_Bool (is_among unsupported_words word)) [
+    | inl refused ↦ inl refused
+    | inr free ↦ inr (elim (cases_Bool (nat_le (length word) 63)) [
+      | inl short ↦ inl (rw (form, short, other, free) refl)
+      | inr long ↦ inr (leb-false (length word) 63 long)
+    ])
+  ])
+]

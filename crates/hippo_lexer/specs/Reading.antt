@@ -35,7 +35,7 @@ Gives (Err fault) right = Fails fault right
 unfoldable pub word_kind : List ℕ → Option TokenKind
 word_kind word =
     option_or (option_map kinds.Keyword (keyword_of word))
-        (if is_among unsupported_words word then Some (kinds.Unsupported (folded word)) else option_map kinds.Word (name_of word))
+    (if is_among unsupported_words word then Some (kinds.Unsupported (folded word)) else option_map kinds.Word (name_of word))
 
 -- the length of the word, of the digits or of the blanks at the front
 abbrev pub word_len : List ℕ → ℕ
@@ -50,7 +50,6 @@ blanks_len bytes = prefix_len is_blank bytes
 -- What stands first is a kind of token and its length, or a fault.
 abbrev pub First : Type 0
 First = Result (TokenKind × ℕ) LexFault
-
 
 -- the number that digits write, behind a `-` or not; none where it does not fit
 unfoldable pub number_of : List ℕ → Option ℤ
@@ -76,8 +75,8 @@ number_first place bytes =
     if number_len bytes == sign_len bytes then Err (faults.BadToken place) else (do
       number ← ok_or (number_of (take (number_len bytes) bytes)) (faults.NumberTooLarge place)
       if begins_with is_word_byte (drop (number_len bytes) bytes)
-        then Err (faults.BadToken (place + number_len bytes))
-        else Ok (kinds.Number number, number_len bytes))
+          then Err (faults.BadToken (place + number_len bytes))
+          else Ok (kinds.Number number, number_len bytes))
 
 -- a closed text and its length, behind a front of n bytes that stand for `front`
 abbrev pub onto : List ℕ → ℕ → Option (List ℕ × ℕ) → Option (List ℕ × ℕ)
@@ -135,7 +134,7 @@ word_first place bytes = do
 unfoldable pub sign_first : List ℕ → Option (Symbol × ℕ)
 sign_first bytes =
     option_or (option_map (λ sign. (sign, length (take 2 bytes))) (sign_of (take 2 bytes)))
-        (option_map (λ sign. (sign, length (take 1 bytes))) (sign_of (take 1 bytes)))
+    (option_map (λ sign. (sign, length (take 1 bytes))) (sign_of (take 1 bytes)))
 
 abbrev pub quoted_token : ℕ → List ℕ → First
 quoted_token place bytes = ok_or (quoted_first bytes) (faults.BadToken place) >>= λ found. Ok (kinds.Quoted found.0, found.1)

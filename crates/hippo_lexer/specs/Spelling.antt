@@ -1,9 +1,7 @@
 -- How words, signs, numbers and texts are spelled, by bytes.
-use Rattle.std.specs.Prelude.{◌≡◌, ℕ, ◌+◌, ◌-◌, ◌^◌, ◌==◌, Bool, true, false, ◌&&◌, ◌||◌, List, [], ◌∷◌, length, drop, nat_lt, nat_le, codes, bytes_eq, find, ℤ, pos, neg_ℤ, Option, Some, None, option_map, if◌then◌else◌}
+use Rattle.std.specs.Prelude.{ℕ, ◌==◌, Bool, false, ◌||◌, List, [], ◌∷◌, codes, bytes_eq, Option, if◌then◌else◌}
 use Rattle.std.specs.Map.{lookup}
-use Rattle.std.specs.Char.{is_ascii_digit}
-use Rattle.std.specs.Str.Parse.{digits_value}
-use Rattle.hippo_values.specs.Names.{folded, unsupported_words, is_among, name_of}
+use Rattle.hippo_values.specs.Names.{folded}
 use Rattle.hippo_lexer.specs.declared.kinds.Keyword.{Keyword}
 use Rattle.hippo_lexer.specs.declared.kinds.Keyword.TheVariants.{KAnd, KAllow, KAudit, KAuthorize, KBegin, KBetween, KChoice, KCreate, KDate, KDeauthorize, KDelete, KDuring, KExplain, KFor, KFrom, KIn, KInner, KInsert, KInteger, KInto, KIs, KItem, KJoin, KKey, KNo, KNot, KNull, KOn, KOpen, KOpt, KOtherthan, KOut, KPrimary, KPurpose, KRecipient, KRevoke, KSelect, KSet, KShown, KSubject, KTable, KText, KTo, KUpdate, KValues, KWhere, KWith, KYes, KOr}
 use Rattle.hippo_lexer.specs.declared.kinds.Symbol.{Symbol}

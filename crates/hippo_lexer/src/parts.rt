@@ -25,10 +25,7 @@ fn is_blank(byte: u8) -> bool
 fn word_len(bytes: &[u8]) -> usize
     ensures { result ≡ word_len bytes.now }
 {
-    bytes
-        .iter()
-        .take_while(|byte| is_word_byte(**byte))
-        .count()
+    bytes.iter().take_while(|byte| is_word_byte(**byte)).count()
 }
 
 fn digits_len(bytes: &[u8]) -> usize
@@ -181,7 +178,12 @@ fn day_of(text: &Txt) -> Option<DayNumber>
 }
 
 #[tactic(auto, unfolding(crate::specs::Reading::day_first))]
-fn day_first(place: usize, len: usize, quoted: Txt, quoted_len: usize) -> Result<(TokenKind, usize), LexFault>
+fn day_first(
+    place: usize,
+    len: usize,
+    quoted: Txt,
+    quoted_len: usize,
+) -> Result<(TokenKind, usize), LexFault>
     requires { len + quoted_len < 2 ^ 64 }
     ensures { Gives result (day_first place len (quoted, quoted_len)) }
 {
@@ -196,7 +198,12 @@ fn is_date(kind: &TokenKind) -> bool
 }
 
 #[tactic(auto, unfolding(crate::specs::Reading::date_first))]
-fn date_first(alloc: Global, place: usize, len: usize, behind: &str) -> Result<(TokenKind, usize), LexFault>
+fn date_first(
+    alloc: Global,
+    place: usize,
+    len: usize,
+    behind: &str,
+) -> Result<(TokenKind, usize), LexFault>
     requires { len + length behind.now < 2 ^ 64 }
     ensures { Gives result (date_first place len behind.now) }
 {

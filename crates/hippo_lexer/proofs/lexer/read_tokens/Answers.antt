@@ -1,8 +1,6 @@
-use Rattle.std.proofs.Common.{◌≡◌, ◌+◌, ◌-◌, ◌<◌, ◌≤◌, ◌∙◌, ◌++◌, ◌∷◌, [], length, drop, ap, sym, arith, rules, Ok}
-use Rattle.std.proofs.lemmas.List.{length-append, length-drop}
+use Rattle.std.proofs.Common.{◌<◌, ◌≤◌, length, arith, rules}
 use Rattle.std.proofs.lemmas.Result.{err_from_is_err_and}
-use Rattle.hippo_lexer.specs.Spelling.{is_blank, begins_with}
-use Rattle.hippo_lexer.specs.Reading.{token_first, Fails, outcome_of}
+use Rattle.hippo_lexer.specs.Spelling.{is_blank}
 use Rattle.hippo_lexer.proofs.PrefixLemmas.{ends-front}
 use Rattle.hippo_lexer.proofs.ReadLemmas.{cut_token, reads_start, reads_token, reads_fault, reads_end}
 use Rattle.hippo_lexer.proofs.lexer.read_tokens.Goals as goal

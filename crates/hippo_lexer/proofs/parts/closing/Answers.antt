@@ -1,8 +1,6 @@
-use Rattle.std.proofs.Common.{◌≡◌, ◌∙◌, ◌+◌, ◌-◌, ◌≤◌, [], ◌∷◌, ◌++◌, length, ap, sym, arith, rules, Some, None}
+use Rattle.std.proofs.Common.{◌≡◌, ◌∙◌, ◌-◌, ◌≤◌, [], ◌∷◌, ◌++◌, length, ap, arith, rules, Some, None}
 use Rattle.std.proofs.lemmas.List.{length-append}
 use Rattle.std.proofs.lemmas.Str.Pattern.{split_parts, strip_prefix_char}
-use Rattle.std.proofs.lemmas.Str.{IsUtf8-drop}
-use Rattle.hippo_lexer.specs.Reading.{closing, onto}
 use Rattle.hippo_lexer.proofs.QuoteLemmas.{closing-found, closing-more, closing-ends}
 use Rattle.hippo_lexer.proofs.parts.closing.Goals as goal
 
@@ -19,7 +17,7 @@ loop-run-preserved c =
     let next = strip_prefix_char 39 c.in-Some.after.now (Some c.in-Some-strip_prefix.next) c.in-Some-strip_prefix.ensures.cases (omega arith) in
     let split : c.loop-run.rest.now ≡ c.in-Some.run'.now ++ 39 ∷ 39 ∷ c.in-Some-strip_prefix.next.now = parts.0 ∙ ap (λ after. c.in-Some.run'.now ++ 39 ∷ after) next in
     let text : c.append-in-Some-strip_prefix.new.self ≡ c.loop-run.text ++ c.in-Some.run'.now ++ 39 ∷ [] =
-        c.in_ok-append-in-Some-strip_prefix.ensures.ok ∙ ap (λ text. text ++ 39 ∷ []) c.in_ok-append.ensures.ok in
+    c.in_ok-append-in-Some-strip_prefix.ensures.ok ∙ ap (λ text. text ++ 39 ∷ []) c.in_ok-append.ensures.ok in
     let within : length c.loop-run.rest.now ≤ length c.args.behind.now = c.loop-run.invariant.within in
     record {
       utf8 = search rules;
