@@ -1,7 +1,6 @@
-ghost use Rattle.std.specs.Prelude.{◌≡◌, ◌+◌, ◌<◌, ◌≤◌, ◌^◌, Bool, true, length, take, drop, [], IfOk, IfSome, IsTrue, IsCharBoundary};
-ghost use Rattle.std.specs.List.{prefix_len};
+ghost use Rattle.std.specs.Prelude.{◌≡◌, ◌+◌, ◌<◌, ◌≤◌, ◌^◌, length, drop, IfOk, IfSome};
 ghost use Rattle.hippo_values.specs.Names.{is_word_byte, folded};
-ghost use Rattle.hippo_lexer.specs.Spelling.{is_blank, is_minus, begins_with};
+ghost use Rattle.hippo_lexer.specs.Spelling.{is_blank, begins_with};
 ghost use Rattle.hippo_lexer.specs.Reading.{Gives, word_kind, word_len, digits_len, blanks_len, sign_len, number_len, number_of, word_first, number_first, closing, quoted_first, sign_first, IsNumeral, day_of, day_first, is_date, date_first, quoted_token, sign_token, token_first};
 
 use crate::faults::LexFault;
@@ -152,6 +151,7 @@ fn number_len(bytes: &[u8]) -> usize
     sign + digits_len(&bytes[sign..])
 }
 
+// The number at the front, and its length.
 #[tactic(auto, unfolding(crate::specs::Reading::number_first))]
 fn number_first(place: usize, text: &str) -> Result<(TokenKind, usize), LexFault>
     requires { place + length text.now < 2 ^ 64 }
@@ -177,6 +177,7 @@ fn day_of(text: &Txt) -> Option<DayNumber>
     read_day(text.as_str())
 }
 
+// The day of a quoted text behind the word DATE. `len` counts the bytes from that word up to the text.
 #[tactic(auto, unfolding(crate::specs::Reading::day_first))]
 fn day_first(
     place: usize,
@@ -197,6 +198,7 @@ fn is_date(kind: &TokenKind) -> bool
     matches!(kind, TokenKind::Keyword(Keyword::KDate))
 }
 
+// The token of the word DATE, of `len` bytes, and its length.
 #[tactic(auto, unfolding(crate::specs::Reading::date_first))]
 fn date_first(
     alloc: Global,
@@ -214,6 +216,7 @@ fn date_first(
     }
 }
 
+// The token of the word at the front, and its length.
 #[tactic(auto, unfolding(crate::specs::Reading::word_first))]
 fn word_first(alloc: Global, place: usize, text: &str) -> Result<(TokenKind, usize), LexFault>
     ensures { Gives result (word_first place text.now) }

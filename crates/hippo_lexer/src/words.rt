@@ -1,6 +1,6 @@
 ghost use Rattle.std.specs.Prelude.{◌≡◌, ◌+◌, length, take, nat_lt, position};
 ghost use Rattle.std.specs.List.{list_any, range_with_len};
-ghost use Rattle.hippo_lexer.specs.Words.{opens, closes, negates, is_unsupported, count_of, is_steep, is_too_deep, words_check};
+ghost use Rattle.hippo_lexer.specs.Words.{opens, closes, negates, is_unsupported, count_of, is_steep, words_check};
 
 use crate::faults::SyntaxFault;
 use crate::kinds::{Keyword, Symbol, Token, TokenKind, Tokens};
