@@ -1,4 +1,5 @@
--- How a text is cut into tokens, from the left.
+-- How the reader cuts a text into tokens, from the left. What the tokens are is said by the relation `IsOutcome`, and that
+-- `outcome_of` is a text's one outcome by it is proved.
 use Rattle.std.specs.Prelude.{◌≡◌, ℕ, zero, suc, ◌+◌, ◌-◌, ◌^◌, ◌<◌, ◌==◌, Bool, true, false, ◌||◌, List, [], ◌∷◌, length, take, drop, nat_lt, nat_le, bytes_eq, ℤ, pos, negsuc, neg_ℤ, ◌+ℤ◌, ◌++◌, Option, Some, None, Result, Ok, Err, option_map, ok_or, if◌then◌else◌}
 use Rattle.std.specs.Option.{option_or, option_map_or}
 use Rattle.std.specs.List.{prefix_len, list_all}
@@ -70,6 +71,7 @@ number_len bytes = sign_len bytes + digits_len (drop (sign_len bytes) bytes)
 abbrev pub IsNumeral : List ℕ → Type 0
 IsNumeral bytes = (sign_len bytes < length bytes) × (list_all is_ascii_digit (drop (sign_len bytes) bytes) ≡ true)
 
+-- the number at the front
 unfoldable pub number_first : ℕ → List ℕ → First
 number_first place bytes =
     if number_len bytes == sign_len bytes then Err (faults.BadToken place) else (do
@@ -125,6 +127,7 @@ unfoldable pub date_first : ℕ → ℕ → List ℕ → First
 date_first place n behind =
     option_map_or (day_first place (n + blanks_len behind)) (quoted_first (drop (blanks_len behind) behind)) (Ok (kinds.Keyword KDate, n))
 
+-- the token of the word at the front
 unfoldable pub word_first : ℕ → List ℕ → First
 word_first place bytes = do
   kind ← ok_or (word_kind (take (word_len bytes) bytes)) (faults.BadToken place)
@@ -136,6 +139,7 @@ sign_first bytes =
     option_or (option_map (λ sign. (sign, length (take 2 bytes))) (sign_of (take 2 bytes)))
     (option_map (λ sign. (sign, length (take 1 bytes))) (sign_of (take 1 bytes)))
 
+-- the token of the quoted text or of the sign at the front
 abbrev pub quoted_token : ℕ → List ℕ → First
 quoted_token place bytes = ok_or (quoted_first bytes) (faults.BadToken place) >>= λ found. Ok (kinds.Quoted found.0, found.1)
 
