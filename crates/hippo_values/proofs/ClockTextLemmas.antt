@@ -63,3 +63,10 @@ unfolding time_text
 IsAscii-time_text text second below e =
     let h = short-of_second second below in
     IsAscii-same text (time_text second) e (IsAscii-of_bytes (time_text second) (omega arith, (omega (arith, h.hour), (omega arith, (omega arith, (omega (arith, h.minute), (omega arith, (omega arith, (omega (arith, h.second), (omega arith, (omega arith, tt)))))))))))
+
+-- a text is one second of the day at most
+pub time_text_injective : (second other : ℕ) → second < 86400 → other < 86400 → time_text second ≡ time_text other → second ≡ other
+unfolding time_text
+time_text_injective second other h k e =
+    let same = clock_text_injective _ _ _ _ _ _ (short-of_second second h) (short-of_second other k) e in
+    omega (arith, same.0, same.1, same.2)

@@ -84,3 +84,10 @@ date_text-joined c y m d year month day ec ey em ed = rw (ec, ey, em, ed) refl
 pub IsAscii-date_text : (text : List ℕ) (y m d : ℕ) → AreShort y m d → text ≡ date_text y m d → IsAscii text
 IsAscii-date_text text y m d h e =
     IsAscii-same text (date_text y m d) e (IsAscii-of_bytes (date_text y m d) (omega (arith, h.year), (omega arith, (omega arith, (omega arith, (omega arith, (omega (arith, h.month), (omega arith, (omega arith, (omega (arith, h.day), (omega arith, tt)))))))))))
+
+-- a text is one day at most
+pub IsDayText-unique : (text : List ℕ) (day other : ℤ) → IsDayText text day → IsDayText text other → day ≡ other
+IsDayText-unique text day other h k =
+    let own = date_text-of_day text other k in
+    let has = HasDate-of_text text day _ _ _ own.0 own.1 h in
+    sym has.number ∙ (HasDate-of_day other k.0).number

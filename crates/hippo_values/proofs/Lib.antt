@@ -1,8 +1,8 @@
 mod AsciiLemmas
 mod ClockTextLemmas
-mod DateTextLemmas
-mod DatesLemmas
-mod MomentTextLemmas
+pub mod DateTextLemmas
+pub mod DatesLemmas
+pub mod MomentTextLemmas
 mod NamesLemmas
 mod OptionLemmas
-mod PrintingLemmas
+pub mod PrintingLemmas

@@ -1,12 +1,14 @@
 -- A moment is written as its day and its second of the day.
 use borrow.Rule.Slice.PartMut.{put_mid}
-use Rattle.std.proofs.Common.{◌≡◌, ◌≢◌, [], ◌∷◌, ℕ, ◌<◌, List, ◌++◌, length, take, drop, refl, ap, ◌∙◌, arith, ℤ, pos, ◌+ℤ◌, ◌*ℤ◌, unsigned_abs}
+use Rattle.std.proofs.Common.{sym, ◌≤◌, ◌≡◌, ◌≢◌, [], ◌∷◌, ℕ, ◌<◌, List, ◌++◌, length, take, drop, refl, ap, ◌∙◌, arith, ℤ, pos, ◌+ℤ◌, ◌*ℤ◌, unsigned_abs}
 use Rattle.std.specs.Int.{int_div_euclid, int_rem_euclid}
 use Rattle.std.specs.List.{IsSplitAt}
 use Rattle.std.specs.Str.{IsAscii}
 use Rattle.std.proofs.lemmas.Str.{IsAscii-append}
+use Rattle.hippo_values.proofs.DateTextLemmas.{IsDayText-unique}
+use Rattle.hippo_values.proofs.ClockTextLemmas.{time_text_injective}
 use Rattle.hippo_values.proofs.AsciiLemmas.{IsAscii-same}
-use Rattle.std.proofs.lemmas.List.{take-append-drop, length-append}
+use Rattle.std.proofs.lemmas.List.{take-append-drop, length-append, length-take, length-drop}
 use Rattle.std.proofs.Math.Seq.{take-append_seam, drop-append_seam}
 use Rattle.jiff_core.proofs.SignedLemmas.{signed_arith}
 use Rattle.hippo_values.specs.Moments.{IsDayNumber, IsMoment}
@@ -88,3 +90,21 @@ unfolding moment_text
 IsAscii-moment_text text moment day second ed es front back e =
     let joined : text ≡ day_text day ++ time_text second = rw (ed, es) e in
     IsAscii-same text (day_text day ++ time_text second) joined (IsAscii-append (day_text day) (time_text second) front back)
+
+same_moment : (moment other : ℤ) → day_of moment ≡ day_of other → second_of moment ≡ second_of other → moment ≡ other
+same_moment moment other ed es = omega (arith, signed_arith)
+
+-- a text of a moment can be split behind its day
+split_moment : (text : List ℕ) (moment : ℤ) → IsMomentText text moment → IsSplitAt text 10 (take 10 text) (drop 10 text)
+unfolding moment_text
+split_moment text moment h =
+    let within : 10 ≤ length text = omega (arith, ap length h.1, length-append (day_text (day_of moment)) (time_text (second_of moment)), length-day_text (day_of moment)) in
+    (within, refl, refl, omega (arith, length-take 10 text), omega (arith, length-drop 10 text))
+
+-- a text is one moment at most
+pub IsMomentText-unique : (text : List ℕ) (moment other : ℤ) → IsMomentText text moment → IsMomentText text other → moment ≡ other
+IsMomentText-unique text moment other h k =
+    let split = split_moment text moment h in
+    let day = IsDayText-unique (take 10 text) _ _ (IsDayText-of_moment text _ _ split moment h) (IsDayText-of_moment text _ _ split other k) in
+    let time = sym (time_text-of_moment text _ _ split moment h) ∙ time_text-of_moment text _ _ split other k in
+    same_moment moment other day (time_text_injective _ _ (second_of-lt moment) (second_of-lt other) time)

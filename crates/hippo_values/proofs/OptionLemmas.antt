@@ -1,5 +1,5 @@
 -- What a clause says where there is no value.
-use Rattle.std.proofs.Common.{Option, None, Some, IfNone}
+use Rattle.std.proofs.Common.{◌≡◌, Option, None, Some, IfSome, IfNone, ap}
 
 -- what follows from it
 pub IfNone_then : {X : Type 0} (r : Option X) {P Q : Type 0} → IfNone r P → (P → Q) → IfNone r Q
@@ -10,3 +10,8 @@ IfNone_then (Some x) p f = tt
 pub IfNone_always : {X : Type 0} (r : Option X) {P : Type 0} → P → IfNone r P
 IfNone_always None p = p
 IfNone_always (Some x) p = tt
+
+-- an answer that is the one value with a property, and none only where no value has it
+pub Some_of_unique : {X : Type 0} (r : Option X) (P : X → Type 0) → IfSome r P → IfNone r ((x : X) → ¬ (P x)) → ((x y : X) → P x → P y → x ≡ y) → (x : X) → P x → r ≡ Some x
+Some_of_unique None P some none unique x h = absurd (none x h)
+Some_of_unique (Some y) P some none unique x h = ap Some (unique y x some h)

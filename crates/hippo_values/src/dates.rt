@@ -78,6 +78,7 @@ fn day_of_bytes(bytes: &[u8]) -> Option<DayNumber>
 pub fn read_day(text: &str) -> Option<DayNumber>
     ensures some { IfSome result (IsDayText text.now) }
     ensures none { IfNone result ((day : ℤ) → ¬ (IsDayText text.now day)) }
+    ensures inverse { (day : ℤ) → IsDayText text.now day → result ≡ Some day }
 {
     day_of_bytes(text.as_bytes())
 }
@@ -122,16 +123,24 @@ fn moment_at(day: DayNumber, second: u32) -> Option<Moment>
     Moment::new(i64::from(day.day()) * SECONDS_OF_DAY + i64::from(second))
 }
 
+fn moment_of_bytes(bytes: &[u8]) -> Option<Moment>
+    ensures some { IfSome result (IsMomentText bytes.now) }
+    ensures none { IfNone result ((second : ℤ) → ¬ (IsMomentText bytes.now second)) }
+{
+    let (date, time) = bytes.split_at_checked(DAY_LENGTH)?;
+    let day = day_of_bytes(date)?;
+    let second = second_of_bytes(time)?;
+    moment_at(day, second)
+}
+
 /// The moment that a text writes as `YYYY-MM-DDThh:mm:ssZ`; none where it is no moment of the years 0001 to 9999
 /// written so.
 pub fn read_moment(text: &str) -> Option<Moment>
     ensures some { IfSome result (IsMomentText text.now) }
     ensures none { IfNone result ((second : ℤ) → ¬ (IsMomentText text.now second)) }
+    ensures inverse { (second : ℤ) → IsMomentText text.now second → result ≡ Some second }
 {
-    let (date, time) = text.as_bytes().split_at_checked(DAY_LENGTH)?;
-    let day = day_of_bytes(date)?;
-    let second = second_of_bytes(time)?;
-    moment_at(day, second)
+    moment_of_bytes(text.as_bytes())
 }
 
 // The date of a day.
