@@ -1,64 +1,12 @@
--- A text is the text of one day at most, and which one is found among all days.
-use Rattle.std.proofs.Common.{◌≡◌, ℕ, zero, suc, ◌+◌, ◌/◌, ◌%◌, ◌<◌, ◌≤◌, Bool, true, List, Option, Some, None, IfSome, IfNone, refl, sym, ap, ◌∙◌, inl, inr, arith, ℤ, pos, negsuc, ◌-ℤ◌, ◌≤ℤ◌, unsigned_abs, int_le, bytes_eq}
+-- Which day a text writes, found among all days.
+use Rattle.std.proofs.Common.{◌≡◌, ℕ, zero, suc, ◌<◌, ◌≤◌, List, Option, Some, None, IfSome, IfNone, refl, sym, ap, ◌∙◌, inl, inr, arith, ℤ, negsuc, ◌-ℤ◌, unsigned_abs, bytes_eq}
 use Rattle.std.proofs.lemmas.Bool.{cases_Bool, cases_order, both_ways}
 use Rattle.std.proofs.lemmas.Int.{ints}
 use Rattle.std.proofs.lemmas.Slice.Eq.{bytes_eq-Decides}
-use Rattle.jiff_core.specs.Calendar.{days_from_civil}
-use Rattle.jiff_core.proofs.SignedLemmas.{signed_arith}
-use Rattle.jiff_core.proofs.MarchLemmas.{day_count-early}
-use Rattle.jiff_core.proofs.CalendarLemmas.{days_from_civil-day_count}
 use Rattle.hippo_values.specs.Moments.{IsDayNumber}
-use Rattle.hippo_values.specs.Dates.{last_passing, has_begun, year_of, month_of, day_of_month, date_text, day_text, IsDayText}
+use Rattle.hippo_values.specs.Dates.{day_text, IsDayText}
+use Rattle.hippo_values.proofs.DateTextLemmas.{IsDayText-unique}
 use Rattle.hippo_lexer.specs.Reading.{nth_day, day_among, day_of}
-
-last_passes : (test : ℕ → Bool) (n : ℕ) → test 1 ≡ true → test (last_passing test (suc n)) ≡ true
-unfolding last_passing
-last_passes test zero first = rw first first
-last_passes test (suc n) first = elim (cases_Bool (test (suc (suc n)))) [
-  | inl passed ↦ rw passed passed
-  | inr failed ↦ rw failed (last_passes test n first)
-]
-
-first_day : days_from_civil (pos 1) 1 1 ≡ negsuc 719161
-first_day = omega (arith, signed_arith, days_from_civil-day_count, day_count-early (pos 1) 10000 1 1 refl (omega arith) (omega arith) (omega arith))
-
-begun : (first day : ℤ) → first ≤ℤ day → int_le first day ≡ true
-begun first day h = grind (arith, ints)
-
-begun_by : (first day : ℤ) → int_le first day ≡ true → first ≤ℤ day
-begun_by first day h = omega (arith, signed_arith)
-
--- the month of a day has begun
-month_begun : (day : ℤ) → IsDayNumber day → has_begun day (year_of day) (month_of day) ≡ true
-unfolding year_of month_of
-month_begun day h =
-    last_passes (λ month. has_begun day (year_of day) month) 11
-    (last_passes (λ year. has_begun day year 1) 9998 (rw first_day (begun (negsuc 719161) day h.0)))
-
-same_day : (first a b : ℤ) → first ≤ℤ a → first ≤ℤ b → unsigned_abs (a -ℤ first) + 1 ≡ unsigned_abs (b -ℤ first) + 1 → a ≡ b
-same_day first a b h k e = grind (arith, ints)
-
-same_parts : (a b : ℤ) (y m y' m' : ℕ) → y ≡ y' → m ≡ m' → days_from_civil (pos y) m 1 ≤ℤ a → days_from_civil (pos y') m' 1 ≤ℤ b → unsigned_abs (a -ℤ days_from_civil (pos y) m 1) + 1 ≡ unsigned_abs (b -ℤ days_from_civil (pos y') m' 1) + 1 → a ≡ b
-same_parts a b y m y' m' years months begun_a begun_b days =
-    let firsts : days_from_civil (pos y') m' 1 ≡ days_from_civil (pos y) m 1 = cc in
-    same_day (days_from_civil (pos y) m 1) a b begun_a (rw firsts at begun_b) (rw firsts at days)
-
--- the bytes of a date give its numbers
-same_two : (m n : ℕ) → 48 + m / 10 ≡ 48 + n / 10 → 48 + m % 10 ≡ 48 + n % 10 → m ≡ n
-same_two m n h k = omega arith
-
-same_date : (y m d y' m' d' : ℕ) → date_text y m d ≡ date_text y' m' d' → (y ≡ y') × (m ≡ m') × (d ≡ d')
-same_date y m d y' m' d' h =
-    let centuries : y / 100 ≡ y' / 100 = same_two (y / 100) (y' / 100) (cc) (cc) in
-    let years : y % 100 ≡ y' % 100 = same_two (y % 100) (y' % 100) (cc) (cc) in
-    (omega arith, same_two m m' (cc) (cc), same_two d d' (cc) (cc))
-
--- a text is one day's at most
-pub IsDayText-unique : (text : List ℕ) (a b : ℤ) → IsDayText text a → IsDayText text b → a ≡ b
-unfolding day_text day_of_month
-IsDayText-unique text a b is_a is_b =
-    let same = same_date (year_of a) (month_of a) (day_of_month a) (year_of b) (month_of b) (day_of_month b) (sym is_a.1 ∙ is_b.1) in
-    same_parts a b (year_of a) (month_of a) (year_of b) (month_of b) same.0 same.1 (begun_by _ a (month_begun a is_a.0)) (begun_by _ b (month_begun b is_b.0)) same.2
 
 -- what is found among the first n days is the text's day
 found_day : (n : ℕ) (text : List ℕ) → n ≤ 3652059 → IfSome (day_among n text) (IsDayText text)

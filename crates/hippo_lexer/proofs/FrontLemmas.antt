@@ -1,5 +1,5 @@
 -- What stands at the front of a text: where it may be cut, and what its bytes are.
-use Rattle.std.proofs.Common.{◌≡◌, ℕ, zero, suc, ◌+◌, ◌-◌, ◌<◌, ◌≤◌, Bool, true, List, [], ◌∷◌, length, take, get_or, inl, inr, refl, arith, zero-add}
+use Rattle.std.proofs.Common.{leb, ◌≡◌, ℕ, zero, suc, ◌+◌, ◌-◌, ◌<◌, ◌≤◌, Bool, true, List, [], ◌∷◌, length, take, get_or, inl, inr, refl, arith, zero-add}
 use Rattle.std.specs.Prelude.{IsUtf8, IsCharBoundary}
 use Rattle.std.specs.List.{prefix_len, list_all}
 use Rattle.std.specs.Char.{is_ascii_digit}
@@ -21,7 +21,7 @@ boundary-ascii bytes (suc n) utf8 small ascii =
     rw next at (IsCharBoundary-after_ascii bytes n utf8 (omega arith) (rw last at (ascii (omega arith))))
 
 pub small_digit : (byte : ℕ) → is_ascii_digit byte ≡ true → byte < 128
-small_digit byte h = let high : byte ≤ 57 = leb-true byte 57 (and_parts _ _ h).1 in omega arith
+small_digit byte h = let high : byte ≤ 57 = leb-true byte 57 (and_parts (leb 48 byte) (leb byte 57) h).1 in omega arith
 
 pub small_word_byte : (byte : ℕ) → is_word_byte byte ≡ true → byte < 128
 small_word_byte byte h = grind (arith, nat_tests)
