@@ -1,0 +1,99 @@
+use hippo_values::{DayNumber, Name, Sequence, Txt};
+
+/// A word that stands in the grammar, written in whatever case.
+#[derive(Clone, Copy, Debug, PartialEq, Eq)]
+pub enum Keyword {
+    KAnd,
+    KAllow,
+    KAudit,
+    KAuthorize,
+    KBegin,
+    KBetween,
+    KChoice,
+    KCreate,
+    KDate,
+    KDeauthorize,
+    KDelete,
+    KDuring,
+    KExplain,
+    KFor,
+    KFrom,
+    KIn,
+    KInner,
+    KInsert,
+    KInteger,
+    KInto,
+    KIs,
+    KItem,
+    KJoin,
+    KKey,
+    KNo,
+    KNot,
+    KNull,
+    KOn,
+    KOpen,
+    KOpt,
+    KOtherthan,
+    KOut,
+    KPrimary,
+    KPurpose,
+    KRecipient,
+    KRevoke,
+    KSelect,
+    KSet,
+    KShown,
+    KSubject,
+    KTable,
+    KText,
+    KTo,
+    KUpdate,
+    KValues,
+    KWhere,
+    KWith,
+    KYes,
+    KOr,
+}
+
+/// A sign of one or two bytes.
+#[derive(Clone, Copy, Debug, PartialEq, Eq)]
+pub enum Symbol {
+    LeftParen,
+    RightParen,
+    Comma,
+    Dot,
+    Star,
+    Equal,
+    /// `<>` or `!=`.
+    NotEqual,
+    Less,
+    LessEqual,
+    Greater,
+    GreaterEqual,
+    Semicolon,
+}
+
+/// What a token says.
+#[derive(Debug, Drop, PartialEq, Eq)]
+pub enum TokenKind {
+    /// A word that is not reserved.
+    Word(Name),
+    Keyword(Keyword),
+    /// A word of SQL that is refused wherever it stands, in lower case.
+    Unsupported(Txt),
+    Number(i64),
+    /// The text between two `'`, in which each `''` stands for one `'`.
+    Quoted(Txt),
+    Day(DayNumber),
+    Symbol(Symbol),
+}
+
+/// A token and where it stands in the text: from the byte `start` up to the byte before `end`, counted from 0.
+#[derive(Debug, Drop, PartialEq, Eq)]
+pub struct Token {
+    pub kind: TokenKind,
+    pub start: usize,
+    pub end: usize,
+}
+
+/// The tokens of a text, in its order.
+pub type Tokens = Sequence<Token>;
