@@ -1,0 +1,5 @@
+pub mod Answers
+pub mod Conditions
+pub mod Finding
+pub mod Front
+pub mod Lists

@@ -1,0 +1,6 @@
+//! Reads conditions and selects from the tokens of a statement.
+#![tactic(auto)]
+
+mod conditions;
+mod front;
+mod lists;
