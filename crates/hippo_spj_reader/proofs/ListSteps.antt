@@ -3,7 +3,9 @@ use Rattle.std.proofs.Common.{◌≡◌, ℕ, zero, suc, ◌<◌, List, [], ◌�
 use Rattle.std.proofs.lemmas.List.{length-map}
 use Rattle.hippo_lexer.specs.declared.kinds.Token.{Token}
 use Rattle.hippo_lexer.specs.declared.kinds.TokenKind.{TokenKind}
-use Rattle.hippo_spj_reader.specs.Answers.{◌>>=◌}
+use Rattle.hippo_lexer.specs.declared.faults.SyntaxFault.{SyntaxFault}
+use Rattle.hippo_lexer.specs.declared.faults.SyntaxFault.TheVariants as fault
+use Rattle.hippo_spj_reader.specs.Answers.{◌>>=◌, Fails}
 use Rattle.hippo_spj_reader.specs.Front.{kinds}
 use Rattle.hippo_spj_reader.specs.Lists.{parts_at, more_at, list_at, with_front}
 
@@ -56,3 +58,18 @@ module _ {X : Type 0} (part_at : List TokenKind → Option (X × List TokenKind)
       Continues whole longer left
   goes_on front longer rest behind left part so_far next found left_shorter behind_shorter pushed =
       rw pushed (goes_on_at front so_far.fuel rest left (kinds behind) part so_far.enough so_far.same (sym next) found (omega arith))
+
+  breaks_at : {whole : Option (List X × List TokenKind)} (front : List X) (fuel : ℕ) (rest : List Token) (behind : List TokenKind) →
+      length rest < fuel → with_front front (more_at part_at next_at fuel (kinds rest)) ≡ whole →
+      next_at (kinds rest) ≡ Some behind → part_at behind ≡ None → whole ≡ None
+  breaks_at front zero rest behind enough same next found = absurd (omega arith)
+  breaks_at front (suc fuel) rest behind enough same next found = sym same ∙ rw (next, found) refl
+
+  -- where no part stands behind what leads to one, there is no list
+  pub breaks : {Y : Type 0} {whole : Option (List X × List TokenKind)} (made : List X × List TokenKind → Option Y) (e : SyntaxFault) (front : List X) (rest behind : List Token) →
+      Continues whole front rest → Some (kinds behind) ≡ next_at (kinds rest) → Fails e (part_at (kinds behind)) → Fails e (whole >>= made)
+  breaks made fault.TooDeep front rest behind so_far next found = found
+  breaks made (fault.Unsupported place) front rest behind so_far next found = found
+  breaks made fault.BadSyntax front rest behind so_far next found =
+      rw (breaks_at front so_far.fuel rest (kinds behind) so_far.enough so_far.same (sym next) found) refl
+  breaks made fault.Memory front rest behind so_far next found = tt

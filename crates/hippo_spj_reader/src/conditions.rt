@@ -1,4 +1,4 @@
-ghost use Rattle.std.specs.Prelude.{◌≡◌, ℕ, ◌<◌, ◌≤◌, [], ◌∷◌, length, IfOk, IfSome, option_map, MatchResult};
+ghost use Rattle.std.specs.Prelude.{◌≡◌, ◌≢◌, ℕ, ◌<◌, ◌≤◌, [], ◌∷◌, length, IfOk, IfSome, option_map, MatchResult};
 ghost use Rattle.hippo_spj_reader.specs.Answers.{Gives};
 ghost use Rattle.hippo_spj_reader.specs.Front.{kinds};
 ghost use Rattle.hippo_spj_reader.specs.Conditions.{any_of, all_of};
@@ -203,4 +203,98 @@ fn test(
         return comparison(alloc, value, op, behind);
     }
     range(alloc, value, tokens)
+}
+
+// The part of a list that has a single one, else the list again.
+fn single(parts: Sequence<RawCond>) -> Result<RawCond, Sequence<RawCond>>
+    ensures { MatchResult result (λ part. parts ≡ part ∷ [])
+        (λ same. (same ≡ parts) × (length parts ≢ 1)) }
+{
+    let mut members = parts.into_vec();
+    if members.len() == 1
+        && let Some(part) = members.pop()
+    {
+        return Ok(part);
+    }
+    Err(Sequence::from_vec(members))
+}
+
+fn any_of(parts: Sequence<RawCond>) -> RawCond
+    ensures { result ≡ any_of parts }
+{
+    match single(parts) {
+        Ok(part) => part,
+        Err(parts) => CondOf::Any(parts),
+    }
+}
+
+fn all_of(parts: Sequence<RawCond>) -> RawCond
+    ensures { result ≡ all_of parts }
+{
+    match single(parts) {
+        Ok(part) => part,
+        Err(parts) => CondOf::All(parts),
+    }
+}
+
+#[cycle(condition)]
+fn primary(alloc: Global, tokens: &[Token]) -> Result<(RawCond, &[Token]), SyntaxFault>
+    ensures found { (n : ℕ) → length tokens.now ≤ n →
+        Gives (λ x. (x.0, kinds x.1.now)) result (primary_with (negation_at n) (kinds tokens.now)) }
+    ensures shorter { IfOk result (λ x. length x.1.now < length tokens.now) }
+{
+    if let Some(inside) = after_symbol(tokens, Symbol::LeftParen) {
+        let (found, rest) = disjunction(alloc, inside)?;
+        let rest = expect_symbol(rest, Symbol::RightParen)?;
+        return Ok((found, rest));
+    }
+    let (value, rest) = operand(alloc, tokens)?;
+    test(alloc, value, rest)
+}
+
+#[cycle(condition)]
+fn negation(alloc: Global, tokens: &[Token]) -> Result<(RawCond, &[Token]), SyntaxFault>
+    ensures found { (n : ℕ) → length tokens.now < n →
+        Gives (λ x. (x.0, kinds x.1.now)) result (negation_at n (kinds tokens.now)) }
+    ensures shorter { IfOk result (λ x. length x.1.now < length tokens.now) }
+{
+    if let Some(behind) = after_keyword(tokens, Keyword::KNot) {
+        let (part, rest) = negation(alloc, behind)?;
+        return Ok((negated(alloc, part)?, rest));
+    }
+    primary(alloc, tokens)
+}
+
+#[cycle(condition)]
+fn conjunction(alloc: Global, tokens: &[Token]) -> Result<(RawCond, &[Token]), SyntaxFault>
+    ensures found { (n : ℕ) → length tokens.now < n →
+        Gives (λ x. (x.0, kinds x.1.now)) result (conjunction_with (negation_at n) (kinds tokens.now)) }
+    ensures shorter { IfOk result (λ x. length x.1.now < length tokens.now) }
+{
+    let mut parts = Sequence::new(alloc);
+    let (first, mut rest) = negation(alloc, tokens)?;
+    parts.push(first)?;
+    while let Some(behind) = after_keyword(rest, Keyword::KAnd) {
+        let (part, left) = negation(alloc, behind)?;
+        parts.push(part)?;
+        rest = left;
+    }
+    Ok((all_of(parts), rest))
+}
+
+#[cycle(condition)]
+fn disjunction(alloc: Global, tokens: &[Token]) -> Result<(RawCond, &[Token]), SyntaxFault>
+    ensures found { (n : ℕ) → length tokens.now < n →
+        Gives (λ x. (x.0, kinds x.1.now)) result (condition_with (negation_at n) (kinds tokens.now)) }
+    ensures shorter { IfOk result (λ x. length x.1.now < length tokens.now) }
+{
+    let mut parts = Sequence::new(alloc);
+    let (first, mut rest) = conjunction(alloc, tokens)?;
+    parts.push(first)?;
+    while let Some(behind) = after_keyword(rest, Keyword::KOr) {
+        let (part, left) = conjunction(alloc, behind)?;
+        parts.push(part)?;
+        rest = left;
+    }
+    Ok((any_of(parts), rest))
 }
