@@ -1,1 +1,5 @@
+pub mod ConditionTheorem
+pub mod FrontTheorem
 pub mod ListSteps
+pub mod ListTheorem
+pub mod OperandTheorem
