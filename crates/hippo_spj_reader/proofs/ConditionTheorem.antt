@@ -112,6 +112,7 @@ negation_found (suc n) tokens c rest e =
 
 -- what is found is a condition of the grammar
 pub found : (tokens : List TokenKind) (c : RawCond) (rest : List TokenKind) → condition_at tokens ≡ Some (c, rest) → IsCondition tokens c rest
+unfolding condition_at
 found tokens c rest e = condition_found (negation_at (suc (length tokens))) (negation_found (suc (length tokens))) tokens c rest e
 
 operands_complete : (tokens : List TokenKind) (list : List RawOperand) (rest : List TokenKind) → IsListOf IsOperand (Symbol Comma) tokens list (Symbol RightParen ∷ rest) →
@@ -246,4 +247,5 @@ mutual
       rw (no_parenthesis tokens _ _ a, operand_complete tokens _ (Keyword KIs ∷ Keyword KNot ∷ Keyword KNull ∷ rest) a refl, e) refl
 
 pub complete : (tokens : List TokenKind) (c : RawCond) (rest : List TokenKind) → IsCondition tokens c rest → Ends rest → condition_at tokens ≡ Some (c, rest)
+unfolding condition_at
 complete tokens c rest is_condition ends = condition_complete (suc (length tokens)) tokens c rest is_condition ends (omega arith)

@@ -1,5 +1,6 @@
 pub mod ConditionTheorem
 pub mod FrontTheorem
+pub mod JoinSteps
 pub mod ListSteps
 pub mod ListTheorem
 pub mod OperandTheorem

@@ -9,7 +9,7 @@ use Rattle.hippo_spj_reader.specs.Answers.{◌>>=◌, Fails}
 use Rattle.hippo_spj_reader.specs.Front.{kinds}
 use Rattle.hippo_spj_reader.specs.Lists.{parts_at, more_at, list_at, with_front}
 
-append-nil : {X : Type 0} (xs : List X) → xs ++ [] ≡ xs
+pub append-nil : {X : Type 0} (xs : List X) → xs ++ [] ≡ xs
 append-nil [] = refl
 append-nil (x ∷ xs) = ap (λ ys. x ∷ ys) (append-nil xs)
 

@@ -115,5 +115,5 @@ negation_at (suc n) tokens =
     either (after_keyword KNot tokens) (λ behind. negative (negation_at n behind)) (primary_with (negation_at n) tokens)
 
 -- the longest condition that stands first
-abbrev pub condition_at : Finds RawCond
+unfoldable pub condition_at : Finds RawCond
 condition_at tokens = condition_with (negation_at (suc (length tokens))) tokens

@@ -298,3 +298,11 @@ fn disjunction(alloc: Global, tokens: &[Token]) -> Result<(RawCond, &[Token]), S
     }
     Ok((any_of(parts), rest))
 }
+
+/// The condition that has to stand first, as long as it goes on, and the tokens behind it.
+pub fn condition(alloc: Global, tokens: &[Token]) -> Result<(RawCond, &[Token]), SyntaxFault>
+    ensures found { Gives (λ x. (x.0, kinds x.1.now)) result (condition_at (kinds tokens.now)) }
+    ensures shorter { IfOk result (λ x. length x.1.now < length tokens.now) }
+{
+    disjunction(alloc, tokens)
+}

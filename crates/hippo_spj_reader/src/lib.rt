@@ -4,3 +4,4 @@
 mod conditions;
 mod front;
 mod lists;
+mod selects;
