@@ -189,9 +189,9 @@ fn from_list(alloc: Global, tokens: &[Token]) -> Result<(Tables, &[Token]), Synt
     let mut conditions = Sequence::new(alloc);
     let (first, mut rest) = name(alloc, tokens)?;
     names.push(first)?;
-    while let Some((JoinedTable { table, on }, left)) = joined(alloc, rest)? {
-        names.push(table)?;
-        add_condition(&mut conditions, on)?;
+    while let Some((entry, left)) = joined(alloc, rest)? {
+        names.push(entry.table)?;
+        add_condition(&mut conditions, entry.on)?;
         rest = left;
     }
     Ok((Tables { names, conditions }, rest))
