@@ -24,20 +24,6 @@ pub record Joins (whole : Found) (names : List (List ℕ)) (conditions : List Ra
   pub enough : length rest < fuel
   pub same : with_front names conditions (all_joined_at fuel (kinds rest)) ≡ whole
 
-front_of : (table : List ℕ) (found : Found) → with_front (table ∷ []) [] found ≡ found >>= λ others. Some ((table ∷ others.0.0, others.0.1), others.1)
-front_of table None = refl
-front_of table (Some others) = refl
-
-pub begins : (tokens rest : List Token) (first : List ℕ) (none names : List (List ℕ)) (conditions : List RawCond) →
-    name_at (kinds tokens) ≡ Some (first, kinds rest) → none ≡ [] → names ≡ none ++ first ∷ [] → conditions ≡ [] →
-    Joins (tables_at (kinds tokens)) names conditions rest
-unfolding tables_at
-begins tokens rest first none names conditions found empty pushed no_conditions = record {
-  fuel = suc (length (kinds rest));
-  enough = omega (arith, length-map rest (λ (token : Token). token.kind));
-  same = rw (pushed, empty, no_conditions, found) (front_of first (all_joined_at (suc (length (kinds rest))) (kinds rest)));
-}
-
 pushed : (names : List (List ℕ)) (conditions : List RawCond) (table : List ℕ) (on : List RawCond) (found : Found) →
     with_front names conditions (found >>= λ others. Some ((table ∷ others.0.0, on ++ others.0.1), others.1)) ≡ with_front (names ++ table ∷ []) (conditions ++ on) found
 pushed names conditions table on None = refl
@@ -61,26 +47,3 @@ pub goes_on : {whole : Found} (names more_names : List (List ℕ)) (conditions m
     Joins whole more_names more_conditions left
 goes_on names more_names conditions more_conditions rest left table on so_far found shorter names_pushed conditions_pushed =
     rw (names_pushed, conditions_pushed) (goes_on_at names conditions so_far.fuel rest left table on so_far.enough so_far.same found shorter)
-
-ends_at : {whole : Found} (names : List (List ℕ)) (conditions : List RawCond) (fuel : ℕ) (rest : List Token) →
-    length rest < fuel → with_front names conditions (all_joined_at fuel (kinds rest)) ≡ whole →
-    joined_at (kinds rest) ≡ Some None → whole ≡ Some ((names, conditions), kinds rest)
-ends_at names conditions zero rest enough same found = absurd (omega arith)
-ends_at names conditions (suc fuel) rest enough same found = sym (rw found at same) ∙ rw (append-nil names, append-nil conditions) refl
-
-pub ends : {whole : Found} (names : List (List ℕ)) (conditions : List RawCond) (rest : List Token) →
-    Joins whole names conditions rest → joined_at (kinds rest) ≡ Some None → whole ≡ Some ((names, conditions), kinds rest)
-ends names conditions rest so_far found = ends_at names conditions so_far.fuel rest so_far.enough so_far.same found
-
-breaks_at : {whole : Found} (names : List (List ℕ)) (conditions : List RawCond) (fuel : ℕ) (rest : List Token) →
-    length rest < fuel → with_front names conditions (all_joined_at fuel (kinds rest)) ≡ whole →
-    joined_at (kinds rest) ≡ None → whole ≡ None
-breaks_at names conditions zero rest enough same found = absurd (omega arith)
-breaks_at names conditions (suc fuel) rest enough same found = sym (rw found at same)
-
-pub breaks : {whole : Found} (e : SyntaxFault) (names : List (List ℕ)) (conditions : List RawCond) (rest : List Token) →
-    Joins whole names conditions rest → Fails e (joined_at (kinds rest)) → Fails e whole
-breaks fault.TooDeep names conditions rest so_far found = found
-breaks (fault.Unsupported place) names conditions rest so_far found = found
-breaks fault.BadSyntax names conditions rest so_far found = breaks_at names conditions so_far.fuel rest so_far.enough so_far.same found
-breaks fault.Memory names conditions rest so_far found = tt

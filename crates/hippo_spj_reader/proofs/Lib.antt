@@ -4,3 +4,4 @@ pub mod JoinSteps
 pub mod ListSteps
 pub mod ListTheorem
 pub mod OperandTheorem
+pub mod SelectTheorem

@@ -30,7 +30,7 @@ items_at tokens = either (after_symbol Star tokens) (λ rest. Some (item.All ∷
 
 -- behind [INNER] JOIN
 abbrev pub after_join : List TokenKind → Option (List TokenKind)
-after_join tokens = after_keyword KJoin (either (after_keyword KInner tokens) (λ behind. behind) tokens)
+after_join tokens = either (after_keyword KInner tokens) (after_keyword KJoin) (after_keyword KJoin tokens)
 
 abbrev pub joined_by_comma : Finds (List ℕ × Option RawCond)
 joined_by_comma tokens = name_at tokens >>= λ table. Some ((table.0, None), table.1)
