@@ -122,3 +122,81 @@ found tokens s rest e =
     let are_items : AreItems behind items.0 (Keyword KFrom ∷ Word table ∷ joined) = rw (is_from, is_name) at (items_found behind items.0 items.1 items_is) in
     let are_joined : AreJoined joined others.0.0 others.0.1 tables.1 = rw whole.1 at (all_joined_found (suc (length joined)) joined others.0.0 others.0.1 others.1 others_is) in
     rw is_select (read_as IsSelect _ _ _ _ _ e (rw (← whole.0) (select are_items are_joined (where_found tables.1 last.0 last.1 last_is) refl))))))))))
+
+item_complete : (tokens : List TokenKind) (i : RawItem) (rest : List TokenKind) → IsItem tokens i rest → after_symbol Dot rest ≡ None → item_at tokens ≡ Some (i, rest)
+unfolding item_at
+item_complete tokens i rest (one_column bare) no_dot = rw no_dot refl
+item_complete tokens i rest (one_column qualified) no_dot = refl
+item_complete tokens i rest all_of_table no_dot = refl
+
+item_shorter : (tokens : List TokenKind) (i : RawItem) (rest : List TokenKind) → IsItem tokens i rest → length rest < length tokens
+item_shorter tokens i rest (one_column c) = column_shorter tokens _ rest c
+item_shorter tokens i rest all_of_table = omega arith
+
+-- an item does not begin with a star
+item-no_star : (tokens : List TokenKind) (i : RawItem) (rest : List TokenKind) → IsItem tokens i rest → after_symbol Star tokens ≡ None
+item-no_star tokens i rest (one_column bare) = refl
+item-no_star tokens i rest (one_column qualified) = refl
+item-no_star tokens i rest all_of_table = refl
+
+list-no_star : (tokens : List TokenKind) (items : List RawItem) (rest : List TokenKind) → IsListOf IsItem (Symbol Comma) tokens items rest → after_symbol Star tokens ≡ None
+list-no_star tokens items rest (last_part d) = item-no_star tokens _ rest d
+list-no_star tokens items rest (more_parts d ds) = item-no_star tokens _ _ d
+
+items_complete : (tokens : List TokenKind) (items : List RawItem) (rest : List TokenKind) → AreItems tokens items rest → after_symbol Dot rest ≡ None → after_symbol Comma rest ≡ None → items_at tokens ≡ Some (items, rest)
+unfolding items_at
+items_complete tokens items rest star no_dot no_comma = refl
+items_complete tokens items rest (listed ds) no_dot no_comma =
+    rw (list-no_star tokens items rest ds)
+      (list_complete item_at (after_symbol Comma) IsItem (Symbol Comma) (λ rest. after_symbol Dot rest ≡ None) item_complete (λ _. refl) (λ _ _ _ _. refl) item_shorter
+        tokens items rest ds no_dot no_comma)
+
+-- what the tables of FROM and their conditions are not followed by
+pub record JoinsEnd (rest : List TokenKind) : Type 0 where
+  pub condition_ends : Ends rest
+  pub no_comma : after_symbol Comma rest ≡ None
+  pub no_inner : after_keyword KInner rest ≡ None
+  pub no_join : after_keyword KJoin rest ≡ None
+
+-- what a whole select is not followed by
+pub record SelectEnds (rest : List TokenKind) : Type 0 where
+  pub joins_end : JoinsEnd rest
+  pub no_where : after_keyword KWhere rest ≡ None
+
+joined-ends : (tokens : List TokenKind) (tables : List (List ℕ)) (conditions : List RawCond) (rest : List TokenKind) → AreJoined tokens tables conditions rest → JoinsEnd rest → Ends tokens
+joined-ends tokens tables conditions rest no_more ends = ends.condition_ends
+joined-ends tokens tables conditions rest (comma d) ends = record { no_dot = refl; no_and = refl; no_or = refl }
+joined-ends tokens tables conditions rest (join c d) ends = record { no_dot = refl; no_and = refl; no_or = refl }
+joined-ends tokens tables conditions rest (inner_join c d) ends = record { no_dot = refl; no_and = refl; no_or = refl }
+
+all_joined_complete : (n : ℕ) (tokens : List TokenKind) (tables : List (List ℕ)) (conditions : List RawCond) (rest : List TokenKind) → AreJoined tokens tables conditions rest → JoinsEnd rest → length tokens < n →
+    all_joined_at n tokens ≡ Some ((tables, conditions), rest)
+unfolding joined_at
+all_joined_complete zero tokens tables conditions rest d ends enough = absurd (omega arith)
+all_joined_complete (suc n) tokens tables conditions rest no_more ends enough = rw (ends.no_comma, ends.no_inner, ends.no_join) refl
+all_joined_complete (suc n) _ _ conditions rest (comma {tables = tables} {others = others} d) ends enough =
+    rw (all_joined_complete n others tables conditions rest d ends (omega arith)) refl
+all_joined_complete (suc n) _ _ _ rest (join {tables = tables} {condition = c} {conditions = conditions} {on = on} {others = others} is_condition d) ends enough =
+    let shorter : length others < length on = theorem.condition_shorter on c others is_condition in
+    rw (theorem.complete on c others is_condition (joined-ends others tables conditions rest d ends), all_joined_complete n others tables conditions rest d ends (omega (arith, shorter))) refl
+all_joined_complete (suc n) _ _ _ rest (inner_join {tables = tables} {condition = c} {conditions = conditions} {on = on} {others = others} is_condition d) ends enough =
+    let shorter : length others < length on = theorem.condition_shorter on c others is_condition in
+    rw (theorem.complete on c others is_condition (joined-ends others tables conditions rest d ends), all_joined_complete n others tables conditions rest d ends (omega (arith, shorter))) refl
+
+where-ends : (tokens : List TokenKind) (conditions : List RawCond) (rest : List TokenKind) → IsWhere tokens conditions rest → JoinsEnd rest → JoinsEnd tokens
+where-ends tokens conditions rest no_where ends = ends
+where-ends tokens conditions rest (condition d) ends = record { condition_ends = record { no_dot = refl; no_and = refl; no_or = refl }; no_comma = refl; no_inner = refl; no_join = refl }
+
+pub where_complete : (tokens : List TokenKind) (conditions : List RawCond) (rest : List TokenKind) → IsWhere tokens conditions rest → Ends rest → after_keyword KWhere rest ≡ None → where_at tokens ≡ Some (conditions, rest)
+unfolding where_at
+where_complete tokens conditions rest no_where ends no_more_where = rw no_more_where refl
+where_complete _ _ rest (condition {condition = c} {tokens = tokens} d) ends no_more_where = rw (theorem.complete tokens c rest d ends) refl
+
+-- the select is found, whole, where nothing behind it goes on with it
+pub complete : (tokens : List TokenKind) (s : RawSelect) (rest : List TokenKind) → IsSelect tokens s rest → SelectEnds rest → select_at tokens ≡ Some (s, rest)
+unfolding select_at tables_at
+complete _ _ rest (select {items = items} {table = table} {tables = tables} {conditions = conditions} {last = last} {tokens = tokens} {joined = joined} {behind = behind} are_items are_joined is_where is_whole) ends =
+    let joins_end : JoinsEnd behind = where-ends behind last rest is_where ends.joins_end in
+    rw (items_complete tokens items (Keyword KFrom ∷ Word table ∷ joined) are_items refl refl,
+      all_joined_complete (suc (length joined)) joined tables conditions behind are_joined joins_end (omega arith),
+      where_complete behind last rest is_where ends.joins_end.condition_ends ends.no_where, is_whole) refl
