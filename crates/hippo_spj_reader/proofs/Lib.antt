@@ -5,3 +5,4 @@ pub mod ListSteps
 pub mod ListTheorem
 pub mod OperandTheorem
 pub mod SelectTheorem
+pub mod WholeTheorem

@@ -1,5 +1,5 @@
 -- What stands at the front of a list of tokens.
-use Rattle.std.specs.Prelude.{ℕ, Bool, List, [], ◌∷◌, map, Option, Some, None, if◌then◌else◌}
+use Rattle.std.specs.Prelude.{ℕ, Bool, List, [], ◌∷◌, map, Option, Some, None, if◌then◌else◌, slice_range}
 use denote.Enum.Bare.{sameb}
 use Rattle.hippo_values.specs.declared.values.Value.{Value}
 use Rattle.hippo_values.specs.declared.values.Value.TheVariants as value
@@ -15,6 +15,10 @@ use Rattle.hippo_lexer.specs.declared.kinds.TokenKind.TheVariants.{Word, Keyword
 -- what the tokens say, without their places
 abbrev pub kinds : List Token → List TokenKind
 kinds tokens = map (λ token. token.kind) tokens
+
+-- what the tokens say from place first to the place before last
+abbrev pub kinds_between : List Token → ℕ → ℕ → List TokenKind
+kinds_between tokens first last = kinds (slice_range tokens first last)
 
 abbrev pub same_keyword : words.Keyword → words.Keyword → Bool
 same_keyword one other = sameb keywords.the_type one other

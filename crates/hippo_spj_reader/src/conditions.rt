@@ -1,14 +1,14 @@
-ghost use Rattle.std.specs.Prelude.{◌≡◌, ◌≢◌, ℕ, ◌<◌, ◌≤◌, [], ◌∷◌, length, IfOk, IfSome, option_map, MatchResult};
-ghost use Rattle.hippo_spj_reader.specs.Answers.{Gives};
-ghost use Rattle.hippo_spj_reader.specs.Front.{kinds};
-ghost use Rattle.hippo_spj_reader.specs.Conditions.{any_of, all_of};
+ghost use Rattle.std.specs.Prelude.{◌≡◌, ◌≢◌, ℕ, ◌<◌, ◌≤◌, [], ◌∷◌, length, IfOk, IfErr, IfSome, option_map, MatchResult};
+ghost use Rattle.hippo_spj_reader.specs.Answers.{Gives, whole_of, IsFaultOnlyWhere};
+ghost use Rattle.hippo_spj_reader.specs.Front.{kinds, kinds_between};
+ghost use Rattle.hippo_spj_reader.specs.Conditions.{RawCond, any_of, all_of, IsCondition};
 ghost use Rattle.hippo_spj_reader.specs.Finding.{column_at, begins_with_name, operand_at, operator_of, operator_at, comparison_at, between_at, among_at, range_at, null_at, test_at, conjunction_with, condition_with, primary_with, negation_at, condition_at};
 
 use crate::front::{
     after_keyword, after_symbol, expect_keyword, expect_symbol, literal, name, split,
 };
 use crate::lists::{Listed, list};
-use hippo_lexer::{Keyword, Symbol, SyntaxFault, Token, TokenKind};
+use hippo_lexer::{Keyword, Symbol, SyntaxFault, Token, TokenKind, Tokens};
 use hippo_model::{CondOf, RawColumn, RawCond, RawOperand};
 use hippo_values::{Boxed, CompareOp, Sequence};
 use std::alloc::Global;
@@ -305,4 +305,34 @@ pub fn condition(alloc: Global, tokens: &[Token]) -> Result<(RawCond, &[Token]),
     ensures shorter { IfOk result (λ x. length x.1.now < length tokens.now) }
 {
     disjunction(alloc, tokens)
+}
+
+fn whole(alloc: Global, tokens: &[Token]) -> Result<RawCond, SyntaxFault>
+    ensures { Gives (λ condition. condition) result (whole_of (condition_at (kinds tokens.now))) }
+{
+    let (found, rest) = condition(alloc, tokens)?;
+    if rest.is_empty() {
+        Ok(found)
+    } else {
+        Err(SyntaxFault::BadSyntax)
+    }
+}
+
+/// The condition that the tokens from place `first` to the place before `last` are; BadSyntax exactly where they are
+/// no condition, but for want of memory. The depth of the recursion is that of NOT and of parentheses.
+pub fn read_condition(
+    alloc: Global,
+    t: &Tokens,
+    first: usize,
+    last: usize,
+) -> Result<RawCond, SyntaxFault>
+    requires order { first ≤ last }
+    requires within { last ≤ length t.now }
+    ensures found { IfOk result (λ condition. IsCondition (kinds_between t.now first last) condition []) }
+    ensures only { IfOk result (λ condition. (other : RawCond) →
+        IsCondition (kinds_between t.now first last) other [] → other ≡ condition) }
+    ensures errors { IfErr result (IsFaultOnlyWhere ((condition : RawCond) →
+        ¬ IsCondition (kinds_between t.now first last) condition [])) }
+{
+    whole(alloc, &t.as_slice()[first..last])
 }

@@ -1,13 +1,14 @@
-ghost use Rattle.std.specs.Prelude.{◌≡◌, [], ◌∷◌, ◌++◌, ◌<◌, ◌≤◌, length, IfOk, IfSome, OnOk, option_map, option_to_list, Some, None};
-ghost use Rattle.hippo_spj_reader.specs.Answers.{Gives};
-ghost use Rattle.hippo_spj_reader.specs.Front.{kinds};
-ghost use Rattle.hippo_spj_reader.specs.Selects.{own_parts, whole_condition};
+ghost use Rattle.std.specs.Prelude.{◌≡◌, [], ◌∷◌, ◌++◌, ◌<◌, ◌≤◌, length, IfOk, IfErr, IfSome, OnOk, option_map, option_to_list, Some, None};
+ghost use Rattle.hippo_model.specs.declared.statement.RawSelect.{RawSelect};
+ghost use Rattle.hippo_spj_reader.specs.Answers.{Gives, whole_of, IsFaultOnlyWhere};
+ghost use Rattle.hippo_spj_reader.specs.Front.{kinds, kinds_between};
+ghost use Rattle.hippo_spj_reader.specs.Selects.{own_parts, whole_condition, IsSelect};
 ghost use Rattle.hippo_spj_reader.specs.Selecting.{whole_table_at, item_at, items_at, after_join, joined_by_comma, joined_on, joined_at, tables_at, where_at, select_at};
 
 use crate::conditions::{column, condition};
 use crate::front::{after_keyword, after_symbol, expect_keyword, name, split};
 use crate::lists::{Listed, list};
-use hippo_lexer::{Keyword, Symbol, SyntaxFault, Token, TokenKind};
+use hippo_lexer::{Keyword, Symbol, SyntaxFault, Token, TokenKind, Tokens};
 use hippo_model::{CondOf, Names, RawCond, RawItem, RawItems, RawSelect};
 use hippo_values::{Memory, Name, Sequence};
 use std::alloc::Global;
@@ -198,7 +199,8 @@ fn from_list(alloc: Global, tokens: &[Token]) -> Result<(Tables, &[Token]), Synt
 }
 
 #[tactic(auto, unfolding(crate::specs::Selecting::where_at))]
-fn after_where(alloc: Global, tokens: &[Token]) -> Result<(Option<RawCond>, &[Token]), SyntaxFault>
+/// The condition behind WHERE, where that stands first, and the tokens behind it.
+pub fn after_where(alloc: Global, tokens: &[Token]) -> Result<(Option<RawCond>, &[Token]), SyntaxFault>
     ensures found { Gives (λ x. (option_to_list x.0, kinds x.1.now)) result (where_at (kinds tokens.now)) }
     ensures shorter { IfOk result (λ x. length x.1.now ≤ length tokens.now) }
 {
@@ -234,4 +236,34 @@ pub fn select(alloc: Global, tokens: &[Token]) -> Result<(RawSelect, &[Token]), 
         },
         rest,
     ))
+}
+
+fn whole(alloc: Global, tokens: &[Token]) -> Result<RawSelect, SyntaxFault>
+    ensures { Gives (λ select. select) result (whole_of (select_at (kinds tokens.now))) }
+{
+    let (found, rest) = select(alloc, tokens)?;
+    if rest.is_empty() {
+        Ok(found)
+    } else {
+        Err(SyntaxFault::BadSyntax)
+    }
+}
+
+/// The select that the tokens from place `first` to the place before `last` are; BadSyntax exactly where they are no
+/// select, but for want of memory. The depth of the recursion is that of NOT and of parentheses.
+pub fn read_select(
+    alloc: Global,
+    t: &Tokens,
+    first: usize,
+    last: usize,
+) -> Result<RawSelect, SyntaxFault>
+    requires order { first ≤ last }
+    requires within { last ≤ length t.now }
+    ensures found { IfOk result (λ select. IsSelect (kinds_between t.now first last) select []) }
+    ensures only { IfOk result (λ select. (other : RawSelect) →
+        IsSelect (kinds_between t.now first last) other [] → other ≡ select) }
+    ensures errors { IfErr result (IsFaultOnlyWhere ((select : RawSelect) →
+        ¬ IsSelect (kinds_between t.now first last) select [])) }
+{
+    whole(alloc, &t.as_slice()[first..last])
 }
