@@ -1,5 +1,5 @@
 -- What is found at the front of a list of tokens stands there.
-use Rattle.std.proofs.Common.{◌≡◌, ℕ, List, ◌∷◌, Option, Some, None, ◌⊎◌, inl, inr, refl, sym, ap, ◌∙◌}
+use Rattle.std.proofs.Common.{◌≡◌, ℕ, List, ◌∷◌, Option, Some, None, refl}
 use Rattle.std.proofs.lemmas.Option.{cond_some, none-some, some_pair_parts}
 use denote.Enum.Bare.{same_true}
 use Rattle.hippo_lexer.specs.contracts.kinds.Keyword as keywords
@@ -7,7 +7,7 @@ use Rattle.hippo_lexer.specs.contracts.kinds.Symbol as symbols
 use Rattle.hippo_lexer.specs.declared.kinds.Keyword as words
 use Rattle.hippo_lexer.specs.declared.kinds.Symbol as signs
 use Rattle.hippo_lexer.specs.declared.kinds.TokenKind.{TokenKind}
-use Rattle.hippo_lexer.specs.declared.kinds.TokenKind.TheVariants.{Word, Keyword, Unsupported, Number, Quoted, Day, Symbol}
+use Rattle.hippo_lexer.specs.declared.kinds.TokenKind.TheVariants.{Word, Keyword, Symbol}
 use Rattle.hippo_spj_reader.specs.Answers.{◌>>=◌, either}
 use Rattle.hippo_spj_reader.specs.Front.{after_keyword, after_symbol, same_keyword, same_symbol, name_at}
 

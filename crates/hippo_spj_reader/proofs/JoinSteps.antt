@@ -1,15 +1,11 @@
 -- The steps of the loop over the tables of FROM.
-use Rattle.std.proofs.Common.{◌≡◌, ℕ, zero, suc, ◌<◌, List, [], ◌∷◌, ◌++◌, length, Option, Some, None, option_to_list, refl, sym, ◌∙◌, ap, arith, append_assoc}
-use Rattle.std.proofs.lemmas.List.{length-map}
+use Rattle.std.proofs.Common.{◌≡◌, ℕ, zero, suc, ◌<◌, List, [], ◌∷◌, ◌++◌, length, Option, Some, None, option_to_list, refl, sym, ◌∙◌, arith, append_assoc}
 use Rattle.hippo_lexer.specs.declared.kinds.Token.{Token}
 use Rattle.hippo_lexer.specs.declared.kinds.TokenKind.{TokenKind}
-use Rattle.hippo_lexer.specs.declared.faults.SyntaxFault.{SyntaxFault}
-use Rattle.hippo_lexer.specs.declared.faults.SyntaxFault.TheVariants as fault
-use Rattle.hippo_spj_reader.specs.Answers.{◌>>=◌, Fails}
+use Rattle.hippo_spj_reader.specs.Answers.{◌>>=◌}
 use Rattle.hippo_spj_reader.specs.Conditions.{RawCond}
-use Rattle.hippo_spj_reader.specs.Front.{kinds, name_at}
-use Rattle.hippo_spj_reader.specs.Selecting.{joined_at, all_joined_at, tables_at}
-use Rattle.hippo_spj_reader.proofs.ListSteps.{append-nil}
+use Rattle.hippo_spj_reader.specs.Front.{kinds}
+use Rattle.hippo_spj_reader.specs.Selecting.{joined_at, all_joined_at}
 
 abbrev Found : Type 0
 Found = Option ((List (List ℕ) × List RawCond) × List TokenKind)

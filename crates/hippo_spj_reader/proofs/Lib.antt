@@ -3,6 +3,7 @@ pub mod FrontTheorem
 pub mod JoinSteps
 pub mod ListSteps
 pub mod ListTheorem
+pub mod NameTheorem
 pub mod OperandTheorem
 pub mod SelectTheorem
 pub mod WholeTheorem

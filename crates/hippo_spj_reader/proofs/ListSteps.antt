@@ -7,7 +7,7 @@ use Rattle.hippo_lexer.specs.declared.faults.SyntaxFault.{SyntaxFault}
 use Rattle.hippo_lexer.specs.declared.faults.SyntaxFault.TheVariants as fault
 use Rattle.hippo_spj_reader.specs.Answers.{◌>>=◌, Fails}
 use Rattle.hippo_spj_reader.specs.Front.{kinds}
-use Rattle.hippo_spj_reader.specs.Lists.{parts_at, more_at, list_at, with_front}
+use Rattle.hippo_spj_reader.specs.Lists.{more_at, list_at, with_front}
 
 pub append-nil : {X : Type 0} (xs : List X) → xs ++ [] ≡ xs
 append-nil [] = refl

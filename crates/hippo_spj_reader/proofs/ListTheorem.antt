@@ -8,7 +8,6 @@ use Rattle.hippo_spj_reader.proofs.FrontTheorem.{step, choice, read_as}
 
 module _ {X : Type 0} (part_at : List TokenKind → Option (X × List TokenKind)) (next_at : List TokenKind → Option (List TokenKind))
     (IsPart : List TokenKind → X → List TokenKind → Type 0) (separator : TokenKind) where
-
   -- what is found is a list: for any relation that has its two rules
   module _ (AreParts : List TokenKind → List X → List TokenKind → Type 0)
       (part_found : (tokens : List TokenKind) (part : X) (rest : List TokenKind) → part_at tokens ≡ Some (part, rest) → IsPart tokens part rest)
@@ -24,11 +23,11 @@ module _ {X : Type 0} (part_at : List TokenKind → Option (X × List TokenKind)
         (let is_part : IsPart tokens first.0 first.1 = part_found tokens first.0 first.1 found in
         choice (next_at first.1) (λ behind. parts_at part_at next_at n behind) (Some ([], first.1)) _ rest_found
         (λ behind next others_found.
-          let at_separator : IsPart tokens first.0 (separator ∷ behind) = rw (next_found first.1 behind next) at is_part in
-          more tokens behind first.0 others.0 others.1 at_separator (parts_found n behind others.0 others.1 others_found))
+        let at_separator : IsPart tokens first.0 (separator ∷ behind) = rw (next_found first.1 behind next) at is_part in
+        more tokens behind first.0 others.0 others.1 at_separator (parts_found n behind others.0 others.1 others_found))
         (λ none end.
-          let ended = some_pair_parts [] others.0 first.1 others.1 end in
-          rw (← ended.0, ← ended.1) (last tokens first.0 first.1 is_part)))))
+        let ended = some_pair_parts [] others.0 first.1 others.1 end in
+        rw (← ended.0, ← ended.1) (last tokens first.0 first.1 is_part)))))
 
   -- a list is found: whole, where nothing behind it leads to a further part
   module _ (CanFollow : List TokenKind → Type 0)

@@ -11,11 +11,11 @@ use Rattle.hippo_model.specs.declared.statement.RawOperand.TheVariants.{Column, 
 use Rattle.hippo_lexer.specs.contracts.kinds.Keyword as keywords
 use Rattle.hippo_lexer.specs.declared.kinds.Keyword.TheVariants.{KNull, KNot}
 use Rattle.hippo_lexer.specs.declared.kinds.Symbol as signs
-use Rattle.hippo_lexer.specs.declared.kinds.Symbol.TheVariants.{Comma, Dot, LeftParen, Equal, NotEqual, Less, LessEqual, Greater, GreaterEqual}
+use Rattle.hippo_lexer.specs.declared.kinds.Symbol.TheVariants.{Dot, LeftParen, Equal, NotEqual, Less, LessEqual, Greater, GreaterEqual}
 use Rattle.hippo_lexer.specs.declared.kinds.TokenKind.{TokenKind}
-use Rattle.hippo_lexer.specs.declared.kinds.TokenKind.TheVariants.{Word, Keyword, Unsupported, Number, Quoted, Day, Symbol}
+use Rattle.hippo_lexer.specs.declared.kinds.TokenKind.TheVariants.{Keyword, Number, Quoted, Day, Symbol}
 use Rattle.hippo_spj_reader.specs.Answers.{◌>>=◌}
-use Rattle.hippo_spj_reader.specs.Front.{after_keyword, after_symbol, same_keyword, name_at, literal_at}
+use Rattle.hippo_spj_reader.specs.Front.{after_keyword, after_symbol, same_keyword, literal_at}
 use Rattle.hippo_spj_reader.specs.Conditions.{IsColumn, bare, qualified, IsLiteral, number, quoted, day, null, IsOperand, column, literal, IsOperator, equal, not_equal, less, less_equal, greater, greater_equal}
 use Rattle.hippo_spj_reader.specs.Finding.{column_at, begins_with_name, operand_at, operator_of, operator_at}
 use Rattle.hippo_spj_reader.proofs.FrontTheorem.{step, name_step, symbol_choice, read_as}

@@ -7,15 +7,14 @@ use Rattle.hippo_lexer.specs.declared.kinds.Keyword.TheVariants.{KFrom, KInner, 
 use Rattle.hippo_lexer.specs.declared.kinds.Symbol.TheVariants.{Comma, Dot, Star}
 use Rattle.hippo_lexer.specs.declared.kinds.TokenKind.{TokenKind}
 use Rattle.hippo_lexer.specs.declared.kinds.TokenKind.TheVariants.{Word, Keyword, Symbol}
-use Rattle.hippo_spj_reader.specs.Answers.{either}
-use Rattle.hippo_spj_reader.specs.Front.{after_keyword, after_symbol, name_at}
-use Rattle.hippo_spj_reader.specs.Lists.{IsListOf, last_part, more_parts, list_at}
+use Rattle.hippo_spj_reader.specs.Front.{after_keyword, after_symbol}
+use Rattle.hippo_spj_reader.specs.Lists.{IsListOf, last_part, more_parts}
 use Rattle.hippo_spj_reader.specs.Conditions.{RawCond, bare, qualified, IsCondition}
 use Rattle.hippo_spj_reader.specs.Finding.{column_at, condition_at}
 use Rattle.hippo_spj_reader.specs.Selects.{IsItem, one_column, all_of_table, AreItems, star, listed, AreJoined, no_more, comma, join, inner_join, IsWhere, no_where, condition, IsSelect, select}
 use Rattle.hippo_spj_reader.specs.Selecting.{whole_table_at, item_at, items_at, after_join, joined_by_comma, joined_on, joined_at, all_joined_at, tables_at, where_at, select_at}
 use Rattle.hippo_spj_reader.proofs.FrontTheorem.{step, choice, keyword_step, symbol_step, name_step, keyword_choice, symbol_choice, after_keyword-some, after_symbol-some, read_as}
-use Rattle.hippo_spj_reader.proofs.ListTheorem.{parts_found, list_complete, list_shorter}
+use Rattle.hippo_spj_reader.proofs.ListTheorem.{parts_found, list_complete}
 use Rattle.hippo_spj_reader.proofs.OperandTheorem.{column_found, column_shorter}
 use Rattle.hippo_spj_reader.proofs.ConditionTheorem as theorem
 use Rattle.hippo_spj_reader.proofs.ConditionTheorem.{Ends}
@@ -25,11 +24,11 @@ unfolding item_at
 item_found tokens i rest e =
     choice (whole_table_at tokens) _ _ _ e
     (λ table found e.
-      name_step tokens _ _ found (λ name behind is_name found.
-      symbol_step Dot behind _ _ found (λ after is_dot found.
-      symbol_step Star after _ _ found (λ left is_star found.
-      let whole = some_pair_parts name table.0 left table.1 found in
-      rw (is_name, is_dot, is_star, whole.0, whole.1) (read_as IsItem _ _ _ _ _ e all_of_table)))))
+    name_step tokens _ _ found (λ name behind is_name found.
+    symbol_step Dot behind _ _ found (λ after is_dot found.
+    symbol_step Star after _ _ found (λ left is_star found.
+    let whole = some_pair_parts name table.0 left table.1 found in
+    rw (is_name, is_dot, is_star, whole.0, whole.1) (read_as IsItem _ _ _ _ _ e all_of_table)))))
     (λ _ e. step (column_at tokens) _ _ e (λ c found e. read_as IsItem tokens _ _ _ _ e (one_column (column_found tokens c.0 c.1 found))))
 
 items_found : (tokens : List TokenKind) (items : List RawItem) (rest : List TokenKind) → items_at tokens ≡ Some (items, rest) → AreItems tokens items rest
@@ -38,7 +37,7 @@ items_found tokens items rest e =
     symbol_choice Star tokens _ _ _ e
     (λ left is_star e. rw is_star (read_as AreItems _ _ _ _ _ e star))
     (λ _ e. listed (parts_found item_at (after_symbol Comma) IsItem (Symbol Comma) (IsListOf IsItem (Symbol Comma)) item_found (after_symbol-some Comma)
-      (λ _ _ _ d. last_part d) (λ _ _ _ _ _ d ds. more_parts d ds) (suc (length tokens)) tokens items rest e))
+    (λ _ _ _ d. last_part d) (λ _ _ _ _ _ d ds. more_parts d ds) (suc (length tokens)) tokens items rest e))
 
 on_found : {P : Type 0} (tokens : List TokenKind) (table : List ℕ) (on : Option RawCond) (left : List TokenKind) → joined_on tokens ≡ Some ((table, on), left) →
     ((behind : List TokenKind) (c : RawCond) → tokens ≡ Word table ∷ Keyword KOn ∷ behind → IsCondition behind c left → on ≡ Some c → P) → P
@@ -71,17 +70,17 @@ unfolding joined_at
 joined_found tokens left table on e tables conditions rest others =
     symbol_choice Comma tokens _ _ _ e
     (λ behind is_comma e. step (joined_by_comma behind) _ _ e (λ one found e.
-      name_step behind _ _ found (λ name after is_name found.
-      let whole = some_pair_parts (name, None) (table, on) after left (found_is found (same_Some _ _ e)) in
-      let is_none : None ≡ on = ap (λ (x : List ℕ × Option RawCond). x.1) whole.0 in
-      let is_table : name ≡ table = ap (λ (x : List ℕ × Option RawCond). x.0) whole.0 in
-      rw (is_comma, is_name, is_table, whole.1, ← is_none) (comma others))))
+    name_step behind _ _ found (λ name after is_name found.
+    let whole = some_pair_parts (name, None) (table, on) after left (found_is found (same_Some _ _ e)) in
+    let is_none : None ≡ on = ap (λ (x : List ℕ × Option RawCond). x.1) whole.0 in
+    let is_table : name ≡ table = ap (λ (x : List ℕ × Option RawCond). x.0) whole.0 in
+    rw (is_comma, is_name, is_table, whole.1, ← is_none) (comma others))))
     (λ _ e. choice (after_join tokens) _ _ _ e
     (λ behind is_join e. step (joined_on behind) _ _ e (λ one found e.
-      on_found behind table on left (found_is found (same_Some _ _ e)) (λ after c is_on is_condition is.
-      after_join_found tokens behind is_join
-      (λ is_join. rw (is_join, is_on, is) (join is_condition others))
-      (λ is_join. rw (is_join, is_on, is) (inner_join is_condition others)))))
+    on_found behind table on left (found_is found (same_Some _ _ e)) (λ after c is_on is_condition is.
+    after_join_found tokens behind is_join
+    (λ is_join. rw (is_join, is_on, is) (join is_condition others))
+    (λ is_join. rw (is_join, is_on, is) (inner_join is_condition others)))))
     (λ _ e. absurd (none_found _ (same_Some _ _ e))))
 
 all_joined_found : (n : ℕ) (tokens : List TokenKind) (tables : List (List ℕ)) (conditions : List RawCond) (rest : List TokenKind) → all_joined_at n tokens ≡ Some ((tables, conditions), rest) → AreJoined tokens tables conditions rest
@@ -89,16 +88,16 @@ all_joined_found zero tokens tables conditions rest e = absurd (none-some _ e)
 all_joined_found (suc n) tokens tables conditions rest e =
     step (joined_at tokens) _ _ e (λ found is e. choice found _ _ _ e
     (λ one is_one e. step (all_joined_at n one.1) _ _ e (λ others others_found e.
-      let whole = some_pair_parts (one.0.0 ∷ others.0.0, option_to_list one.0.1 ++ others.0.1) (tables, conditions) others.1 rest e in
-      let is_tables : one.0.0 ∷ others.0.0 ≡ tables = ap (λ (x : List (List ℕ) × List RawCond). x.0) whole.0 in
-      let is_conditions : option_to_list one.0.1 ++ others.0.1 ≡ conditions = ap (λ (x : List (List ℕ) × List RawCond). x.1) whole.0 in
-      rw (← is_tables, ← is_conditions, ← whole.1)
-        (joined_found tokens one.1 one.0.0 one.0.1 (rw is_one at is) others.0.0 others.0.1 others.1 (all_joined_found n one.1 others.0.0 others.0.1 others.1 others_found))))
+    let whole = some_pair_parts (one.0.0 ∷ others.0.0, option_to_list one.0.1 ++ others.0.1) (tables, conditions) others.1 rest e in
+    let is_tables : one.0.0 ∷ others.0.0 ≡ tables = ap (λ (x : List (List ℕ) × List RawCond). x.0) whole.0 in
+    let is_conditions : option_to_list one.0.1 ++ others.0.1 ≡ conditions = ap (λ (x : List (List ℕ) × List RawCond). x.1) whole.0 in
+    rw (← is_tables, ← is_conditions, ← whole.1)
+    (joined_found tokens one.1 one.0.0 one.0.1 (rw is_one at is) others.0.0 others.0.1 others.1 (all_joined_found n one.1 others.0.0 others.0.1 others.1 others_found))))
     (λ none e.
-      let whole = some_pair_parts ([], []) (tables, conditions) tokens rest e in
-      let is_tables : [] ≡ tables = ap (λ (x : List (List ℕ) × List RawCond). x.0) whole.0 in
-      let is_conditions : [] ≡ conditions = ap (λ (x : List (List ℕ) × List RawCond). x.1) whole.0 in
-      rw (← is_tables, ← is_conditions, whole.1) no_more))
+    let whole = some_pair_parts ([], []) (tables, conditions) tokens rest e in
+    let is_tables : [] ≡ tables = ap (λ (x : List (List ℕ) × List RawCond). x.0) whole.0 in
+    let is_conditions : [] ≡ conditions = ap (λ (x : List (List ℕ) × List RawCond). x.1) whole.0 in
+    rw (← is_tables, ← is_conditions, whole.1) no_more))
 
 pub where_found : (tokens : List TokenKind) (conditions : List RawCond) (rest : List TokenKind) → where_at tokens ≡ Some (conditions, rest) → IsWhere tokens conditions rest
 unfolding where_at
@@ -148,8 +147,8 @@ unfolding items_at
 items_complete tokens items rest star no_dot no_comma = refl
 items_complete tokens items rest (listed ds) no_dot no_comma =
     rw (list-no_star tokens items rest ds)
-      (list_complete item_at (after_symbol Comma) IsItem (Symbol Comma) (λ rest. after_symbol Dot rest ≡ None) item_complete (λ _. refl) (λ _ _ _ _. refl) item_shorter
-        tokens items rest ds no_dot no_comma)
+    (list_complete item_at (after_symbol Comma) IsItem (Symbol Comma) (λ rest. after_symbol Dot rest ≡ None) item_complete (λ _. refl) (λ _ _ _ _. refl) item_shorter
+    tokens items rest ds no_dot no_comma)
 
 -- what the tables of FROM and their conditions are not followed by
 pub record JoinsEnd (rest : List TokenKind) : Type 0 where
@@ -197,6 +196,9 @@ pub complete : (tokens : List TokenKind) (s : RawSelect) (rest : List TokenKind)
 unfolding select_at tables_at
 complete _ _ rest (select {items = items} {table = table} {tables = tables} {conditions = conditions} {last = last} {tokens = tokens} {joined = joined} {behind = behind} are_items are_joined is_where is_whole) ends =
     let joins_end : JoinsEnd behind = where-ends behind last rest is_where ends.joins_end in
-    rw (items_complete tokens items (Keyword KFrom ∷ Word table ∷ joined) are_items refl refl,
+    rw (
+      items_complete tokens items (Keyword KFrom ∷ Word table ∷ joined) are_items refl refl,
       all_joined_complete (suc (length joined)) joined tables conditions behind are_joined joins_end (omega arith),
-      where_complete behind last rest is_where ends.joins_end.condition_ends ends.no_where, is_whole) refl
+      where_complete behind last rest is_where ends.joins_end.condition_ends ends.no_where,
+      is_whole,
+    ) refl

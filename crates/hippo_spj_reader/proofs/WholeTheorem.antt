@@ -1,5 +1,5 @@
 -- A reader of all of its tokens answers the one reading that the grammar has for them.
-use Rattle.std.proofs.Common.{◌≡◌, List, [], ◌∷◌, Option, Some, None, Result, Ok, Err, refl, sym, ◌∙◌, ap}
+use Rattle.std.proofs.Common.{◌≡◌, List, [], ◌∷◌, Option, Some, Result, Ok, Err, refl, sym, ◌∙◌, ap}
 use Rattle.std.specs.Result.{IfOk, IfErr}
 use Rattle.std.proofs.lemmas.Option.{none-some, same_Some}
 use Rattle.hippo_lexer.specs.declared.kinds.TokenKind.{TokenKind}
@@ -11,7 +11,6 @@ use Rattle.hippo_spj_reader.proofs.FrontTheorem.{step}
 module _ {X : Type 0} (part_at : List TokenKind → Option (X × List TokenKind)) (IsPart : List TokenKind → X → List TokenKind → Type 0) (tokens : List TokenKind)
     (found : (x : X) (rest : List TokenKind) → part_at tokens ≡ Some (x, rest) → IsPart tokens x rest)
     (complete : (x : X) → IsPart tokens x [] → part_at tokens ≡ Some (x, [])) where
-
   ended_found : (x : X) (one : X × List TokenKind) → ended one ≡ Some x → one ≡ (x, [])
   ended_found x (y, []) e = ap (λ (z : X). (z, [])) (same_Some y x e)
   ended_found x (y, first ∷ rest) e = absurd (none-some x e)

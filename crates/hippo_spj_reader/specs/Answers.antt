@@ -5,7 +5,6 @@ use Rattle.hippo_lexer.specs.declared.faults.SyntaxFault.TheVariants as fault
 use Rattle.hippo_lexer.specs.declared.kinds.TokenKind.{TokenKind}
 
 infixl 10 ◌>>=◌
-
 -- one step and then the next, where both find something
 abbrev pub ◌>>=◌ : {A B : Type 0} → Option A → (A → Option B) → Option B
 found >>= next = option_and_then next found

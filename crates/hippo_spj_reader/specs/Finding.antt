@@ -1,5 +1,5 @@
 -- The condition that can be found at the front of a list of tokens, step by step: the longest one.
-use Rattle.std.specs.Prelude.{ℕ, zero, suc, Bool, true, false, List, [], ◌∷◌, length, Option, Some, None, if◌then◌else◌}
+use Rattle.std.specs.Prelude.{ℕ, zero, suc, Bool, true, false, List, ◌∷◌, length, Option, Some, None, if◌then◌else◌}
 use Rattle.hippo_values.specs.declared.truths.CompareOp.{CompareOp}
 use Rattle.hippo_values.specs.declared.truths.CompareOp.TheVariants.{Eq, Ne, Lt, Le, Gt, Ge}
 use Rattle.hippo_model.specs.declared.query.CondOf.{Not, Compare, Between, Among, Missing}
@@ -80,8 +80,8 @@ null_at v tokens =
     either (after_keyword KNot tokens) (λ behind. do
       rest ← after_keyword KNull behind
       Some (Not (Missing v), rest)) (do
-      rest ← after_keyword KNull tokens
-      Some (Missing v, rest))
+        rest ← after_keyword KNull tokens
+        Some (Missing v, rest))
 
 abbrev pub negative : Option (RawCond × List TokenKind) → Option (RawCond × List TokenKind)
 negative found = found >>= λ part. Some (Not part.0, part.1)
@@ -105,8 +105,8 @@ module _ (deeper : Finds RawCond) where
         found ← condition_with inside
         rest ← after_symbol RightParen found.1
         Some (found.0, rest)) (do
-        v ← operand_at tokens
-        test_at v.0 v.1)
+          v ← operand_at tokens
+          test_at v.0 v.1)
 
 -- NOT and parentheses at most this deep
 abbrev pub negation_at : ℕ → Finds RawCond

@@ -1,5 +1,5 @@
 -- What stands at the front of a list of tokens.
-use Rattle.std.specs.Prelude.{ℕ, Bool, List, [], ◌∷◌, map, Option, Some, None, if◌then◌else◌, slice_range}
+use Rattle.std.specs.Prelude.{ℕ, Bool, List, ◌∷◌, map, Option, Some, None, if◌then◌else◌, slice_range}
 use denote.Enum.Bare.{sameb}
 use Rattle.hippo_values.specs.declared.values.Value.{Value}
 use Rattle.hippo_values.specs.declared.values.Value.TheVariants as value
@@ -10,7 +10,7 @@ use Rattle.hippo_lexer.specs.declared.kinds.Keyword.TheVariants.{KNull}
 use Rattle.hippo_lexer.specs.declared.kinds.Symbol as signs
 use Rattle.hippo_lexer.specs.declared.kinds.Token.{Token}
 use Rattle.hippo_lexer.specs.declared.kinds.TokenKind.{TokenKind}
-use Rattle.hippo_lexer.specs.declared.kinds.TokenKind.TheVariants.{Word, Keyword, Unsupported, Number, Quoted, Day, Symbol}
+use Rattle.hippo_lexer.specs.declared.kinds.TokenKind.TheVariants.{Word, Keyword, Number, Quoted, Day, Symbol}
 
 -- what the tokens say, without their places
 abbrev pub kinds : List Token → List TokenKind

@@ -1,7 +1,12 @@
 -- Lists of parts with a separator between them.
 use Rattle.std.specs.Prelude.{ℕ, zero, suc, List, [], ◌∷◌, ◌++◌, length, Option, Some, None}
 use Rattle.hippo_lexer.specs.declared.kinds.TokenKind.{TokenKind}
+use Rattle.hippo_lexer.specs.declared.kinds.TokenKind.TheVariants.{Word}
 use Rattle.hippo_spj_reader.specs.Answers.{◌>>=◌, either}
+
+-- a name
+pub data IsName : List TokenKind → List ℕ → List TokenKind → Type 0 where
+  name : {n : List ℕ} {rest : List TokenKind} → IsName (Word n ∷ rest) n rest
 
 -- part {separator part}: the tokens begin with such a list, these are its parts, and this follows it
 pub data IsListOf {X : Type 0} (IsPart : List TokenKind → X → List TokenKind → Type 0) (separator : TokenKind) : List TokenKind → List X → List TokenKind → Type 0 where

@@ -52,8 +52,8 @@ joined_at tokens =
 abbrev pub all_joined_at : ℕ → Finds (List (List ℕ) × List RawCond)
 all_joined_at zero tokens = None
 all_joined_at (suc n) tokens = joined_at tokens >>= λ found. either found (λ one. do
-    others ← all_joined_at n one.1
-    Some ((one.0.0 ∷ others.0.0, option_to_list one.0.1 ++ others.0.1), others.1)) (Some (([], []), tokens))
+  others ← all_joined_at n one.1
+  Some ((one.0.0 ∷ others.0.0, option_to_list one.0.1 ++ others.0.1), others.1)) (Some (([], []), tokens))
 
 unfoldable pub tables_at : Finds (List (List ℕ) × List RawCond)
 tables_at tokens = do

@@ -21,7 +21,13 @@ pub fn column(alloc: Global, tokens: &[Token]) -> Result<(RawColumn, &[Token]), 
     let (first, rest) = name(alloc, tokens)?;
     let Some(behind) = after_symbol(rest, Symbol::Dot) else {
         let table = None;
-        return Ok((RawColumn { table, column: first }, rest));
+        return Ok((
+            RawColumn {
+                table,
+                column: first,
+            },
+            rest,
+        ));
     };
     let (column, rest) = name(alloc, behind)?;
     let table = Some(first);

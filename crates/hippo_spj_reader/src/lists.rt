@@ -3,8 +3,9 @@ ghost use Rattle.hippo_spj_reader.specs.Answers.{Gives};
 ghost use Rattle.hippo_spj_reader.specs.Front.{kinds};
 ghost use Rattle.hippo_spj_reader.specs.Lists.{list_at};
 
-use hippo_lexer::{SyntaxFault, Token};
-use hippo_values::Sequence;
+use crate::front::{after_symbol, name};
+use hippo_lexer::{Symbol, SyntaxFault, Token};
+use hippo_values::{Name, Sequence};
 use std::alloc::Global;
 
 /// A rule of the grammar whose parts stand in a list.
@@ -47,4 +48,26 @@ pub fn list<L: Listed>(
         rest = left;
     }
     Ok((parts, rest))
+}
+
+/// The rule of lists of names with commas between them.
+pub struct NameList;
+
+impl Listed for NameList {
+    ghost use Rattle.hippo_lexer.specs.declared.kinds.Symbol.TheVariants.{Comma};
+    ghost use Rattle.hippo_spj_reader.specs.Front.{after_symbol, name_at};
+
+    type Part = Name;
+
+    ghost part_at = { name_at };
+
+    ghost next_at = { after_symbol Comma };
+
+    fn part(alloc: Global, tokens: &[Token]) -> Result<(Name, &[Token]), SyntaxFault> {
+        name(alloc, tokens)
+    }
+
+    fn next(tokens: &[Token]) -> Option<&[Token]> {
+        after_symbol(tokens, Symbol::Comma)
+    }
 }

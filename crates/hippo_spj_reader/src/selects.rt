@@ -198,9 +198,12 @@ fn from_list(alloc: Global, tokens: &[Token]) -> Result<(Tables, &[Token]), Synt
     Ok((Tables { names, conditions }, rest))
 }
 
-#[tactic(auto, unfolding(crate::specs::Selecting::where_at))]
 /// The condition behind WHERE, where that stands first, and the tokens behind it.
-pub fn after_where(alloc: Global, tokens: &[Token]) -> Result<(Option<RawCond>, &[Token]), SyntaxFault>
+#[tactic(auto, unfolding(crate::specs::Selecting::where_at))]
+pub fn after_where(
+    alloc: Global,
+    tokens: &[Token],
+) -> Result<(Option<RawCond>, &[Token]), SyntaxFault>
     ensures found { Gives (λ x. (option_to_list x.0, kinds x.1.now)) result (where_at (kinds tokens.now)) }
     ensures shorter { IfOk result (λ x. length x.1.now ≤ length tokens.now) }
 {

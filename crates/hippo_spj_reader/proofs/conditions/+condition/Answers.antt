@@ -1,10 +1,9 @@
 -- The first part begins the list; each further part is the next of it.
-use Rattle.std.proofs.Common.{◌≡◌, ℕ, zero, suc, ◌<◌, ◌≤◌, length, Option, None, Some, Result, List, Bor, option_map, arith, sym}
+use Rattle.std.proofs.Common.{◌≡◌, ℕ, zero, suc, ◌<◌, ◌≤◌, length, None, Some, Result, List, Bor, arith, sym}
 use Rattle.std.proofs.lemmas.Result.{err_from_is_err_and}
 use Rattle.hippo_lexer.specs.declared.faults.SyntaxFault.{SyntaxFault}
 use Rattle.hippo_lexer.specs.declared.kinds.Keyword.TheVariants.{KAnd, KNot, KOr}
 use Rattle.hippo_lexer.specs.declared.kinds.Token.{Token}
-use Rattle.hippo_lexer.specs.declared.kinds.TokenKind.{TokenKind}
 use Rattle.hippo_spj_reader.specs.Answers.{Gives}
 use Rattle.hippo_spj_reader.specs.Conditions.{RawCond, any_of, all_of}
 use Rattle.hippo_spj_reader.specs.Front.{kinds, after_keyword}
@@ -29,7 +28,7 @@ pub conjunction-returns-in_err-part-clause-found : goal.conjunction-returns-in_e
 conjunction-returns-in_err-part-clause-found t c n enough =
     let p = err_from_is_err_and c.from_residual-in_err-part.result c.from_residual-in_err-part.ensures.1 in
     rw (p.1, p.2) (breaks (negation_at n) (after_keyword KAnd) (λ parts. Some (all_of parts.0, parts.1)) _ c.loop-behind.parts c.loop-behind.rest.now c.in-Some.behind.now
-      (c.loop-behind.invariant.so_far n enough) c.in-Some.ensures.rest (c.in_err-part.ensures.found n (omega (arith, c.in-Some.ensures.shorter))))
+    (c.loop-behind.invariant.so_far n enough) c.in-Some.ensures.rest (c.in_err-part.ensures.found n (omega (arith, c.in-Some.ensures.shorter))))
 
 pub disjunction-loop-behind-init : goal.disjunction-loop-behind-init
 disjunction-loop-behind-init t c = record {
@@ -48,7 +47,7 @@ pub disjunction-returns-in_err-part-clause-found : goal.disjunction-returns-in_e
 disjunction-returns-in_err-part-clause-found t c n enough =
     let p = err_from_is_err_and c.from_residual-in_err-part.result c.from_residual-in_err-part.ensures.1 in
     rw (p.1, p.2) (breaks (conjunction_with (negation_at n)) (after_keyword KOr) (λ parts. Some (any_of parts.0, parts.1)) _ c.loop-behind.parts c.loop-behind.rest.now c.in-Some.behind.now
-      (c.loop-behind.invariant.so_far n enough) c.in-Some.ensures.rest (c.in_err-part.ensures.found n (omega (arith, c.in-Some.ensures.shorter))))
+    (c.loop-behind.invariant.so_far n enough) c.in-Some.ensures.rest (c.in_err-part.ensures.found n (omega (arith, c.in-Some.ensures.shorter))))
 
 -- where no NOT stands first, a negation is a primary
 plain : (result : Result (RawCond × Bor (List Token)) SyntaxFault) (tokens : List Token) (n : ℕ) → length tokens < n → None ≡ after_keyword KNot (kinds tokens) →
