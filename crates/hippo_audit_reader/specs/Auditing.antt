@@ -1,10 +1,9 @@
 -- The audit expression that can be found at the front of a list of tokens, step by step: the longest one.
-use Rattle.std.specs.Prelude.{ℕ, false, List, [], ◌∷◌, Option, Some, None}
+use Rattle.std.specs.Prelude.{ℕ, false, List, [], ◌∷◌, Some, None}
 use Rattle.hippo_model.specs.declared.audit.Pair.{Pair}
 use Rattle.hippo_model.specs.declared.statement.RawAudit.{RawAudit}
 use Rattle.hippo_lexer.specs.declared.kinds.Keyword.TheVariants.{KAudit, KDuring, KFrom, KOtherthan, KTo}
 use Rattle.hippo_lexer.specs.declared.kinds.Symbol.TheVariants.{Comma, LeftParen, RightParen}
-use Rattle.hippo_lexer.specs.declared.kinds.TokenKind.{TokenKind}
 use Rattle.hippo_lexer.specs.declared.kinds.TokenKind.TheVariants.{Quoted}
 use Rattle.hippo_spj_reader.specs.Answers.{◌>>=◌, either}
 use Rattle.hippo_spj_reader.specs.Finding.{Finds, column_at}

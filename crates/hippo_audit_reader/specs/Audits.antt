@@ -32,4 +32,4 @@ pub data IsAudit : List TokenKind → RawAudit → List TokenKind → Type 0 whe
       IsWhere behind conditions rest →
       whole ≡ whole_condition conditions →
       IsAudit (Keyword KDuring ∷ Quoted start ∷ Keyword KTo ∷ Quoted end ∷ tokens)
-        (record { from = start; to = end; exempt = exempt; shown = false; columns = columns; tables = tables; cond = whole }) rest
+      (record { from = start; to = end; exempt = exempt; shown = false; columns = columns; tables = tables; cond = whole }) rest
