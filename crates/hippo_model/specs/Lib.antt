@@ -1,0 +1,12 @@
+pub mod Values
+pub mod Histories
+pub mod Rows
+pub mod RowSets
+pub mod Rules
+pub mod Verdicts
+pub mod Views
+pub mod Conditions
+pub mod Answers
+pub mod Bags
+pub mod Columns
+pub mod Audits

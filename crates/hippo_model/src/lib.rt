@@ -6,6 +6,7 @@ mod cells;
 mod entry;
 mod policy;
 mod query;
+mod row_set;
 mod schema;
 mod statement;
 
@@ -14,6 +15,7 @@ pub use cells::{Answer, Cell, CellRow, Cells};
 pub use entry::{Act, Entry, History, ItemKind};
 pub use policy::{Authorization, Gate, Gates, RuleAt, RulesInForce, TableRules, Verdict};
 pub use query::{CondOf, Expr, Exprs, Guard, Guards, Masked, Operand, Operands, Query, Ref, Refs};
+pub use row_set::RowSet;
 pub use schema::{Column, ColumnKind, Columns, Names, Places, Schema, Schemas};
 pub use statement::{
     RawAudit, RawColumn, RawColumns, RawCond, RawItem, RawItems, RawOperand, RawSelect, Stmt,

@@ -1,4 +1,6 @@
+pub mod Dates
 pub mod Moments
 pub mod Names
+pub mod Printing
 pub mod Truths
 pub mod formers

@@ -2,19 +2,31 @@
 #![tactic(auto)]
 
 mod boxed;
+mod dates;
 mod memory;
 mod moments;
 mod names;
+mod printing;
 mod sequence;
+#[cfg(test)]
+mod tests;
 mod texts;
 mod truths;
 mod values;
 
 pub use boxed::Boxed;
+pub use dates::{day_text, moment_text, read_day, read_moment};
 pub use memory::{Duplicate, Memory};
 pub use moments::{DayNumber, Moment};
 pub use names::{Name, is_keyword, is_name, is_unsupported_word};
+pub use printing::print_value;
 pub use sequence::Sequence;
 pub use texts::Txt;
 pub use truths::{CompareOp, Truth, compare, truth_and, truth_not, truth_or};
 pub use values::Value;
+
+/// Bytes of any kind.
+pub type Bytes = Sequence<u8>;
+
+/// Numbers of calls, counted from 1.
+pub type Calls = Sequence<u64>;

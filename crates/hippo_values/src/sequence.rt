@@ -1,4 +1,4 @@
-ghost use Rattle.std.specs.Prelude.{◌≡◌, [], ◌∷◌, ◌++◌, ◌<◌, ◌↔◌, length, slice_get, Some, IsTrue, IfOk, OnOk, OnErr};
+ghost use Rattle.std.specs.Prelude.{◌≡◌, [], ◌∷◌, ◌++◌, ◌<◌, ◌↔◌, length, take, slice_get, Some, IsTrue, IfOk, OnOk, OnErr};
 ghost use Rattle.std.specs.Cmp.{on_equiv, on_total, on_po, on_per};
 ghost use Rattle.std.specs.Cmp.Lexicographic.{pointwise, slice_cmp, slice_partial_cmp, lists_per, lists_equiv, lists_po, lists_total, lists_agrees, lists_ties};
 
@@ -76,6 +76,17 @@ impl<T> Sequence<T> {
     }
 }
 
+impl<T: Copy> Sequence<T> {
+    /// A list with the same members.
+    pub fn from_slice(alloc: Global, members: &[T]) -> Result<Sequence<T>, Memory>
+        ensures { IfOk result (λ made. made ≡ members.now) }
+    {
+        Ok(Sequence {
+            members: Vec::from_slice(alloc, members)?,
+        })
+    }
+}
+
 impl<T: Drop> Sequence<T> {
     /// Adds a member at the end.
     pub fn push(&mut self, member: T) -> Result<(), Memory>
@@ -84,6 +95,13 @@ impl<T: Drop> Sequence<T> {
     {
         self.members.push(member)?;
         Ok(())
+    }
+
+    /// Keeps the first so many members.
+    pub fn truncate(&mut self, len: usize)
+        ensures { self.new ≡ take len self.old }
+    {
+        self.members.truncate(len);
     }
 
     /// Takes all members out; the room stays.

@@ -1,4 +1,6 @@
-ghost use Rattle.std.specs.Prelude.{◌≡◌, [], ◌++◌, length, nat_eq, refl, string_bytes, Some, IfOk, OnOk, OnErr};
+ghost use Rattle.std.specs.Prelude.{◌≡◌, [], ◌++◌, length, take, nat_eq, refl, string_bytes, Some, IfOk, OnOk, OnErr};
+ghost use Rattle.std.specs.Char.{encode_utf8};
+ghost use Rattle.std.specs.Str.{IsUtf8};
 ghost use Rattle.std.specs.Ordering.{nat_cmp};
 ghost use Rattle.std.specs.Cmp.{partial_equiv_from_equiv};
 ghost use Rattle.std.specs.Cmp.Lexicographic.{pointwise, slice_cmp, nat_list_eq_equiv, nat_list_cmp_total, texts_ties, texts_po};
@@ -67,6 +69,23 @@ impl Txt {
     {
         self.text.push_str(text)?;
         Ok(())
+    }
+
+    /// Adds a character at the end.
+    pub fn push(&mut self, character: char) -> Result<(), Memory>
+        ensures ok { OnOk result (self.new ≡ self.old ++ encode_utf8 character) }
+        ensures err { OnErr result (self.new ≡ self.old) }
+    {
+        self.text.push(character)?;
+        Ok(())
+    }
+
+    /// Takes away what follows the first `length` bytes.
+    pub fn truncate(&mut self, length: usize)
+        requires { IsUtf8 (take length self.old) }
+        ensures { self.new ≡ take length self.old }
+    {
+        self.text.truncate(length);
     }
 
     /// Takes all bytes out; the room stays.

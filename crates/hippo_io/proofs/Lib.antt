@@ -1,0 +1,7 @@
+mod CutLemmas
+mod FeedLemmas
+mod HandedLemmas
+mod LineLemmas
+mod NextLemmas
+mod ReadLemmas
+mod ToldLemmas

@@ -1,0 +1,25 @@
+-- Whatever was handed out is so still, and no line feed is among the bytes that were searched.
+use Rattle.std.proofs.Common.{◌≡◌, ℕ, ◌-◌, ◌≤◌, List, length, take}
+use Rattle.std.specs.Prelude.{Option}
+use Rattle.hippo_io.specs.Lines.{feeds}
+use Rattle.hippo_io.specs.Position.{Position}
+use Rattle.hippo_io.specs.Reading.{consumed}
+use Rattle.hippo_io.specs.Steps.{IsGoing, KeepsHandedOut}
+use Rattle.hippo_io.proofs.lines.LineReader.find_line.Given as goal
+
+pub record IsSearching (before reader : Position) (left_before left : Option (List ℕ)) (faults_before faults_now searched : ℕ) : Type 0 where
+  pub going : IsGoing reader
+  pub kept : KeepsHandedOut before reader left_before left
+  pub same : consumed reader ≡ consumed before
+  pub within : searched ≤ length reader.waiting
+  pub clear : feeds (take searched reader.waiting) ≡ 0
+  pub faults : faults_before ≤ faults_now
+
+abbrev pub invariant-loop-length : goal.invariant-loop-length
+invariant-loop-length g l =
+    let left = g.S.Source.left in
+    let faults = g.S.Source.faults in
+    IsSearching l.fn.self l.self (left l.fn.source) (left l.source) (faults l.fn.source) (faults l.source) l.searched
+
+abbrev pub decreases-loop-length : goal.decreases-loop-length
+decreases-loop-length g l = 65537 - length l.self.waiting

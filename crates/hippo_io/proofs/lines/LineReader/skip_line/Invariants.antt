@@ -1,0 +1,25 @@
+-- The reader is inside of the line, and no line feed waits.
+use Rattle.std.proofs.Common.{◌≡◌, ℕ, ◌-◌, ◌<◌, ◌≤◌, List}
+use Rattle.std.specs.Prelude.{Option}
+use Rattle.hippo_io.specs.Lines.{LineText, feeds}
+use Rattle.hippo_io.specs.Position.{Position}
+use Rattle.hippo_io.specs.Reading.{input_limit, consumed, HasHandedOut}
+use Rattle.hippo_io.specs.Steps.{IsGoing}
+use Rattle.hippo_io.proofs.HandedLemmas.{IsSkipping}
+use Rattle.hippo_io.proofs.lines.LineReader.skip_line.Given as goal
+
+pub record IsInside (before reader : Position) (left_before left : Option (List ℕ)) (faults_before faults_now : ℕ) : Type 0 where
+  pub going : IsGoing reader
+  pub clear : feeds reader.waiting ≡ 0
+  pub skipping : (input : List ℕ) (handed : List LineText) → HasHandedOut input handed before left_before → IsSkipping input handed reader left
+  pub later : consumed before < reader.taken
+  pub faults : faults_before ≤ faults_now
+
+abbrev pub invariant-loop-self : goal.invariant-loop-self
+invariant-loop-self g l =
+    let left = g.S.Source.left in
+    let faults = g.S.Source.faults in
+    IsInside l.fn.self l.self (left l.fn.source) (left l.source) (faults l.fn.source) (faults l.source)
+
+abbrev pub decreases-loop-self : goal.decreases-loop-self
+decreases-loop-self g l = input_limit - l.self.taken

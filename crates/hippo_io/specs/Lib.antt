@@ -1,0 +1,10 @@
+pub mod Adapters
+pub mod Faults
+pub mod LineTexts
+pub mod Lines
+pub mod Playback
+pub mod Position
+pub mod Reading
+pub mod Steps
+pub mod Told
+pub mod Window

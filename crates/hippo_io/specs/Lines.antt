@@ -1,0 +1,48 @@
+-- The cut of an input into lines.
+use Rattle.std.specs.Prelude.{ℕ, List, [], ◌∷◌, map, length, count_by, ◌==◌, nat_lt, if◌then◌else◌}
+use Rattle.std.specs.Str.{is_utf8}
+use Rattle.std.specs.Io.BufRead.{strip_last}
+
+-- the byte that ends a line
+abbrev pub line_feed : ℕ
+line_feed = 10
+
+-- the byte that is dropped at a line's end
+abbrev pub carriage_return : ℕ
+carriage_return = 13
+
+-- how many bytes a line may have before its line feed
+abbrev pub line_limit : ℕ
+line_limit = 65536
+
+-- the byte in front of the first piece
+abbrev pub with_first : ℕ → List (List ℕ) → List (List ℕ)
+with_first byte [] = (byte ∷ []) ∷ []
+with_first byte (piece ∷ others) = (byte ∷ piece) ∷ others
+
+-- the pieces before the line feeds, and a last piece where bytes stand behind the last line feed
+abbrev pub pieces : List ℕ → List (List ℕ)
+pieces [] = []
+pieces (byte ∷ bytes) = if byte == line_feed then [] ∷ pieces bytes else with_first byte (pieces bytes)
+
+-- a line: its bytes, or why it is no text
+pub data LineText : Type 0 where
+  text_line : List ℕ → LineText
+  too_long_line : LineText
+  not_utf8_line : LineText
+
+-- bytes that are a line unless they are not UTF-8
+abbrev pub text_or_not : List ℕ → LineText
+text_or_not bytes = if is_utf8 bytes then text_line bytes else not_utf8_line
+
+-- the line of a piece: one carriage return at its end is dropped, but counts for the limit
+abbrev pub line_of : List ℕ → LineText
+line_of piece = if nat_lt line_limit (length piece) then too_long_line else text_or_not (strip_last carriage_return piece)
+
+-- the lines of an input
+abbrev pub lines : List ℕ → List LineText
+lines input = map line_of (pieces input)
+
+-- how many line feeds there are
+abbrev pub feeds : List ℕ → ℕ
+feeds bytes = count_by (λ byte. byte == line_feed) bytes

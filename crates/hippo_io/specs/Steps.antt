@@ -1,0 +1,83 @@
+-- The steps from one line to the next.
+use Rattle.std.specs.Prelude.{◌≡◌, ℕ, ◌+◌, ◌-◌, ◌<◌, ◌≤◌, min, IsFalse, List, [], ◌∷◌, ◌++◌, length, take, drop, slice_index, Option, Some, None}
+use Rattle.hippo_io.specs.Lines.{LineText, too_long_line, line_feed, line_limit, feeds}
+use Rattle.hippo_io.specs.Position.{Position}
+use Rattle.hippo_io.specs.Reading.{input_limit, consumed, HasHandedOut, HasGivenUp}
+use Rattle.hippo_io.specs.Told.{TakesBehind}
+use Rattle.hippo_io.specs.declared.lines.Found.{Found}
+use Rattle.hippo_io.specs.declared.lines.Found.TheVariants.{Whole, Rest, Skipped}
+use Rattle.hippo_io.specs.declared.lines.LineFault.{LineFault}
+
+-- the bytes begin with n bytes and a line feed, which is the first one
+pub record BeginsWithLine (bytes : List ℕ) (n : ℕ) : Type 0 where
+  pub inside : n < length bytes
+  pub before : feeds (take n bytes) ≡ 0
+  pub feed : slice_index bytes n ≡ line_feed
+
+-- neither at the end of the input nor stopped by a fault
+pub record IsGoing (reader : Position) : Type 0 where
+  pub unended : IsFalse reader.ended
+  pub sound : reader.failure ≡ None
+
+-- n more bytes wait
+pub record Refills (before after : Position) (left_before left_after : Option (List ℕ)) (n : ℕ) : Type 0 where
+  pub going : IsGoing after
+  pub waiting : TakesBehind left_before left_after n before.waiting after.waiting
+  pub front : take (length before.waiting) after.waiting ≡ before.waiting
+  pub count : length after.waiting ≡ length before.waiting + n
+  pub taken : after.taken ≡ before.taken + n
+  pub limit : after.taken ≤ input_limit
+
+-- whatever bytes the old one tells, the new one tells the others than the first n
+abbrev pub Loses : Option (List ℕ) → Option (List ℕ) → ℕ → Type 0
+Loses old new n = (told : List ℕ) → old ≡ Some told → (n ≤ length told) × (new ≡ Some (drop n told))
+
+-- no more bytes wait: of those up to the limit, none was taken
+pub record FailsToRefill (before after : Position) (left_before left_after : Option (List ℕ)) (fault : LineFault) : Type 0 where
+  pub failure : after.failure ≡ Some fault
+  pub limit : min after.taken input_limit ≡ before.taken
+  pub later : before.taken ≤ after.taken
+  pub left : Loses left_before left_after (after.taken - before.taken)
+
+-- whatever was handed out is so still
+abbrev pub KeepsHandedOut : Position → Position → Option (List ℕ) → Option (List ℕ) → Type 0
+KeepsHandedOut before after left_before left_after = (input : List ℕ) (handed : List LineText)
+    → HasHandedOut input handed before left_before → HasHandedOut input handed after left_after
+
+-- one more line, which is too long, is handed out
+abbrev pub SkipsLine : Position → Position → Option (List ℕ) → Option (List ℕ) → Type 0
+SkipsLine before after left_before left_after = (input : List ℕ) (handed : List LineText)
+    → HasHandedOut input handed before left_before → HasHandedOut input (handed ++ too_long_line ∷ []) after left_after
+
+-- the reader gives up, whatever was handed out
+abbrev pub GivesUp : Position → Position → Option (List ℕ) → Option (List ℕ) → Type 0
+GivesUp before after left_before left_after = (input : List ℕ) (handed : List LineText)
+    → HasHandedOut input handed before left_before → HasGivenUp input handed after left_after
+
+-- a whole line waits
+pub record FindsWhole (before after : Position) (left_before left_after : Option (List ℕ)) (n : ℕ) : Type 0 where
+  pub going : IsGoing after
+  pub kept : KeepsHandedOut before after left_before left_after
+  pub line : BeginsWithLine after.waiting n
+  pub short : n ≤ line_limit
+  pub same : consumed after ≡ consumed before
+
+-- the input ends behind the bytes that wait
+pub record FindsRest (before after : Position) (left_before left_after : Option (List ℕ)) : Type 0 where
+  pub going : IsGoing after
+  pub kept : KeepsHandedOut before after left_before left_after
+  pub end : (input : List ℕ) (handed : List LineText) → HasHandedOut input handed before left_before → drop after.taken input ≡ []
+  pub unfed : feeds after.waiting ≡ 0
+  pub short : length after.waiting ≤ line_limit
+  pub same : consumed after ≡ consumed before
+
+-- a line that is too long was skipped
+pub record FindsSkipped (before after : Position) (left_before left_after : Option (List ℕ)) : Type 0 where
+  pub sound : after.failure ≡ None
+  pub skipped : SkipsLine before after left_before left_after
+  pub later : consumed before < consumed after
+
+abbrev pub Finds : Position → Position → Option (List ℕ) → Option (List ℕ) → Found → Type 0
+Finds before after left_before left_after (Whole n) = FindsWhole before after left_before left_after n
+Finds before after left_before left_after Rest = FindsRest before after left_before left_after
+Finds before after left_before left_after Skipped = FindsSkipped before after left_before left_after

@@ -1,0 +1,58 @@
+ghost use Rattle.std.specs.Prelude.{◌≡◌, ◌≤◌};
+ghost use Rattle.hippo_io.specs.Faults.{counted};
+ghost use Rattle.hippo_io.specs.Playback.{new_tally, fails_next, after_call, after_fault};
+
+use hippo_values::Calls;
+use std::marker::Model;
+
+/// Counts calls and faults, and knows by their numbers which calls are to fail.
+#[derive(Debug, Drop)]
+pub(crate) struct CallCounter {
+    failing: Calls,
+    made: u64,
+    faults: u64,
+}
+
+impl Model for CallCounter {
+    ghost use Rattle.hippo_io.specs.Playback.{Tally};
+
+    ghost Value = { Tally };
+
+    ghost view = { λ a. record { failing = a.failing; made = a.made; faults = a.faults } };
+}
+
+// A count that stands still at its last value.
+pub(crate) fn one_more(count: u64) -> u64
+    ensures { result ≡ counted count }
+{
+    count.saturating_add(1)
+}
+
+impl CallCounter {
+    pub(crate) fn new(failing: Calls) -> CallCounter
+        ensures { result ≡ new_tally failing }
+    {
+        CallCounter {
+            failing,
+            made: 0,
+            faults: 0,
+        }
+    }
+
+    /// Counts a call, and answers whether it is to fail.
+    pub(crate) fn begin_call(&mut self) -> bool
+        ensures fails { result ≡ fails_next self.old }
+        ensures counted { self.new ≡ after_call self.old }
+    {
+        self.made = one_more(self.made);
+        let number = self.made;
+        self.failing.as_slice().iter().any(|call| *call == number)
+    }
+
+    pub(crate) fn count_fault(&mut self)
+        ensures counted { self.new ≡ after_fault self.old }
+        ensures rises { self.old.faults ≤ self.new.faults }
+    {
+        self.faults = one_more(self.faults);
+    }
+}

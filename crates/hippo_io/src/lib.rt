@@ -1,0 +1,19 @@
+//! Where bytes come from and go to, and the cut of the input into lines.
+#![tactic(auto)]
+
+mod counts;
+mod lines;
+mod memory_sink;
+mod memory_source;
+mod sink;
+mod source;
+mod std_sink;
+mod std_source;
+
+pub use lines::{Line, LineFault, LineReader};
+pub use memory_sink::MemorySink;
+pub use memory_source::MemorySource;
+pub use sink::{Sink, write_whole};
+pub use source::{Failed, Source};
+pub use std_sink::StdSink;
+pub use std_source::StdSource;

@@ -1,0 +1,316 @@
+ghost use Rattle.std.specs.Prelude.{◌≡◌, ℕ, List, ◌+◌, ◌-◌, ◌<◌, ◌≤◌, ◌↔◌, ◌⊎◌, length, take, drop, slice_range, true, [], Some, None, OnOk, OnErr, IfOk, IfErr, IsErrOf, IsSome, IsTrue, MatchOption, position, ◌==◌};
+ghost use Rattle.std.specs.Borrow.{sem};
+ghost use Rattle.std.specs.Io.BufRead.{Rests, strip_last};
+ghost use Rattle.hippo_io.specs.Faults.{HasRisen};
+ghost use Rattle.hippo_io.specs.Lines.{line_of, line_feed, carriage_return, line_limit, feeds};
+ghost use Rattle.hippo_io.specs.LineTexts.{line_text};
+ghost use Rattle.hippo_io.specs.Steps.{BeginsWithLine};
+ghost use Rattle.hippo_io.specs.Told.{Keeps, IsAtEnd, TakesBehind};
+
+use crate::source::{Failed, Source};
+use hippo_values::Memory;
+use std::alloc::Global;
+use std::marker::Model;
+
+// How many bytes a line may have before its line feed.
+const LINE_LIMIT: usize = 65_536;
+
+// How many bytes are read at most.
+const INPUT_LIMIT: u64 = 1 << 40;
+
+/// A line of the input, without its end.
+#[derive(Clone, Copy, Debug, PartialEq, Eq)]
+pub enum Line<'a> {
+    Text(&'a str),
+    /// More than 65,536 bytes stand before the line feed or the end of the input.
+    TooLong,
+    NotUtf8,
+    /// There is no further line.
+    End,
+}
+
+/// Why no further line can be read.
+#[derive(Clone, Copy, Debug, PartialEq, Eq)]
+pub enum LineFault {
+    /// The source failed.
+    Read,
+    /// The input has more than 2^40 bytes.
+    TooMuch,
+}
+
+/// Cuts the bytes of a source into lines. A line ends at a line feed or at the end of the input, and one carriage return
+/// at its end is dropped.
+#[derive(Debug, Drop)]
+pub struct LineReader {
+    // `buffer[start..end]` was taken from the source and not yet handed out.
+    buffer: Vec<u8>,
+    start: usize,
+    end: usize,
+    taken: u64,
+    ended: bool,
+    failure: Option<LineFault>,
+}
+
+impl Model for LineReader {
+    ghost use Rattle.std.specs.Prelude.{◌≡◌, ◌-◌, ◌≤◌, ◌<◌, ◌↔◌, Some, vec_len, slice_range};
+    ghost use Rattle.hippo_io.specs.Position.{Position};
+
+    ghost Value = { Position };
+
+    ghost use Rattle.hippo_io.specs.Window.{position_of, IsWindow};
+
+    ghost view = { position_of };
+
+    ghost invariant = { IsWindow };
+}
+
+// What waits behind the lines that were handed out.
+#[derive(Clone, Copy)]
+enum Found {
+    // A line of so many bytes, and its line feed.
+    Whole(usize),
+    // The bytes before the end of the input.
+    Rest,
+    // A line that was too long stood there, and was skipped.
+    Skipped,
+}
+
+// Moves the bytes from `start` to `end` to the front.
+fn move_to_front(buffer: &mut [u8], start: usize, end: usize)
+    requires ordered { start ≤ end }
+    requires in_buffer { end ≤ length buffer.old }
+    ensures { take (end - start) buffer.new ≡ slice_range buffer.old start end }
+{
+    buffer.copy_within(start..end, 0);
+}
+
+// Reads at most so many bytes into the buffer, behind those that fill it so far.
+fn read_behind<S: Source>(
+    source: &mut S,
+    buffer: &mut [u8],
+    filled: usize,
+    most: usize,
+) -> Result<usize, Failed>
+    requires room { filled < length buffer.old }
+    requires some { 0 < most }
+    ensures count { IfOk result (λ n. (n ≤ most) × (filled + n ≤ length buffer.old)) }
+    ensures taken { IfOk result (λ n. TakesBehind (S.left source.old) (S.left source.new) n (take filled buffer.old) (take (filled + n) buffer.new)) }
+    ensures end { IfOk result (λ n. n ≡ 0 → IsAtEnd (S.left source.old)) }
+    ensures failed { OnErr result (Keeps (S.left source.old) (S.left source.new)) }
+    ensures kept { take filled buffer.new ≡ take filled buffer.old }
+    ensures cause { OnErr result (HasRisen (S.faults source.old) (S.faults source.new)) }
+    ensures faults { S.faults source.old ≤ S.faults source.new }
+{
+    let room = buffer.len() - filled;
+    let wanted = room.min(most);
+    source.read(&mut buffer[filled..filled + wanted])
+}
+
+fn feed_place(bytes: &[u8]) -> Option<usize>
+    ensures { result ≡ position (λ byte. byte == line_feed) bytes.now }
+{
+    bytes.iter().position(|byte| *byte == b'\n')
+}
+
+// The place of the first line feed; none stands among the bytes that were searched before.
+fn find_feed(bytes: &[u8], searched: usize) -> Option<usize>
+    requires searched { searched ≤ length bytes.now }
+    requires none { feeds (take searched bytes.now) ≡ 0 }
+    ensures { MatchOption result (feeds bytes.now ≡ 0) (BeginsWithLine bytes.now) }
+{
+    let place = feed_place(&bytes[searched..])?;
+    Some(searched + place)
+}
+
+fn without_return(piece: &[u8]) -> &[u8]
+    ensures { result.now ≡ strip_last carriage_return piece.now }
+{
+    match piece {
+        [front @ .., b'\r'] => front,
+        _ => piece,
+    }
+}
+
+// The line of a piece of the input that is not too long.
+fn text_of(piece: &[u8]) -> Line<'_>
+    requires { length piece.now ≤ line_limit }
+    ensures { line_text result ≡ Some (line_of piece.now) }
+{
+    match str::from_utf8(without_return(piece)) {
+        Ok(text) => Line::Text(text),
+        Err(_) => Line::NotUtf8,
+    }
+}
+
+impl LineReader {
+    ghost use Rattle.hippo_io.specs.Reading.{at_beginning, NextLine, HasHandedOut, HasGivenUp, input_limit, consumed};
+    ghost use Rattle.hippo_io.specs.Steps.{IsGoing, Refills, FailsToRefill, SkipsLine, GivesUp, Finds};
+    ghost use Rattle.std.specs.Result.{result_err};
+    ghost use Rattle.hippo_io.specs.contracts.lines.LineReader.{the_row};
+    ghost use Rattle.hippo_io.specs.declared.lines.LineFault.TheVariants.{Read, TooMuch};
+
+    /// A reader with room for the longest line.
+    pub fn new(alloc: Global) -> Result<LineReader, Memory>
+        ensures position { IfOk result (λ reader. reader ≡ at_beginning) }
+        ensures handed { IfOk result (λ reader. (input : List ℕ) → HasHandedOut input [] reader (Some input)) }
+    {
+        Ok(LineReader {
+            buffer: vec![in alloc; 0; LINE_LIMIT + 1]?,
+            start: 0,
+            end: 0,
+            taken: 0,
+            ended: false,
+            failure: None,
+        })
+    }
+
+    fn waiting(&self) -> &[u8]
+        ensures bytes { result.now ≡ self.now.waiting }
+        ensures taken { length self.now.waiting ≤ self.now.taken }
+        ensures room { length self.now.waiting ≤ 65537 }
+        ensures limit { (self.now.failure ≡ Some TooMuch) ↔ (input_limit < self.now.taken) }
+    {
+        &self.buffer[self.start..self.end]
+    }
+
+    // The first bytes that wait are handed out or skipped.
+    fn let_go(&mut self, count: usize)
+        requires { count ≤ length self.old.waiting }
+        ensures { self.new ≡ record self.old { waiting = drop count self.old.waiting } }
+    {
+        self.start += count;
+    }
+
+    fn skip_waiting(&mut self)
+        ensures { self.new ≡ record self.old { waiting = [] } }
+    {
+        self.start = self.end;
+    }
+
+    fn end(&mut self)
+        ensures { self.new ≡ record self.old { ended = true } }
+    {
+        self.ended = true;
+    }
+
+    // Reads once, and answers how many bytes came: none only at the end of the input.
+    fn refill<S: Source>(&mut self, source: &mut S) -> Result<usize, LineFault>
+        requires going { IsGoing self.old }
+        requires room { length self.old.waiting < 65537 }
+        ensures more { IfOk result (Refills self.old self.new (S.left source.old) (S.left source.new)) }
+        ensures end { IfOk result (λ n. n ≡ 0 → (self.new ≡ self.old) × IsAtEnd (S.left source.old)) }
+        ensures failed { IfErr result (FailsToRefill self.old self.new (S.left source.old) (S.left source.new)) }
+        ensures limit { (self.new.failure ≡ Some TooMuch) ↔ (input_limit < self.new.taken) }
+        ensures cause { IsErrOf result LineFault.Read → HasRisen (S.faults source.old) (S.faults source.new) }
+        ensures faults { S.faults source.old ≤ S.faults source.new }
+    {
+        move_to_front(self.buffer.as_mut_slice(), self.start, self.end);
+        self.end -= self.start;
+        self.start = 0;
+        let most = (INPUT_LIMIT - self.taken).max(1) as usize;
+        match read_behind(source, self.buffer.as_mut_slice(), self.end, most) {
+            Ok(n) => {
+                self.end += n;
+                self.taken += n as u64;
+                if self.taken > INPUT_LIMIT {
+                    self.failure = Some(LineFault::TooMuch);
+                    return Err(LineFault::TooMuch);
+                }
+                Ok(n)
+            }
+            Err(Failed) => {
+                self.failure = Some(LineFault::Read);
+                Err(LineFault::Read)
+            }
+        }
+    }
+
+    // Skips the bytes that wait, and the others up to the next line feed or the end of the input.
+    fn skip_line<S: Source>(&mut self, source: &mut S) -> Result<(), LineFault>
+        requires going { IsGoing self.old }
+        requires clear { feeds self.old.waiting ≡ 0 }
+        requires long { line_limit < length self.old.waiting }
+        requires taken { length self.old.waiting ≤ self.old.taken }
+        ensures skipped { OnOk result (SkipsLine self.old self.new (S.left source.old) (S.left source.new)) }
+        ensures gives_up { OnErr result (GivesUp self.old self.new (S.left source.old) (S.left source.new)) }
+        ensures failure { self.new.failure ≡ result_err result }
+        ensures later { OnOk result (consumed self.old < consumed self.new) }
+        ensures limit { (self.new.failure ≡ Some TooMuch) ↔ (input_limit < self.new.taken) }
+        ensures cause { IsErrOf result LineFault.Read → HasRisen (S.faults source.old) (S.faults source.new) }
+        ensures faults { S.faults source.old ≤ S.faults source.new }
+    {
+        loop {
+            self.skip_waiting();
+            if self.refill(source)? == 0 {
+                self.end();
+                return Ok(());
+            }
+            if let Some(place) = find_feed(self.waiting(), 0) {
+                self.let_go(place + 1);
+                return Ok(());
+            }
+        }
+    }
+
+    // Reads until a whole line waits, or the input has ended, or a line that is too long was skipped.
+    fn find_line<S: Source>(&mut self, source: &mut S) -> Result<Found, LineFault>
+        requires going { IsGoing self.old }
+        ensures found { IfOk result (Finds self.old self.new (S.left source.old) (S.left source.new)) }
+        ensures gives_up { OnErr result (GivesUp self.old self.new (S.left source.old) (S.left source.new)) }
+        ensures failure { self.new.failure ≡ result_err result }
+        ensures limit { (self.new.failure ≡ Some TooMuch) ↔ (input_limit < self.new.taken) }
+        ensures cause { IsErrOf result LineFault.Read → HasRisen (S.faults source.old) (S.faults source.new) }
+        ensures faults { S.faults source.old ≤ S.faults source.new }
+    {
+        let mut searched = 0;
+        loop {
+            let waiting = self.waiting();
+            if let Some(length) = find_feed(waiting, searched) {
+                return Ok(Found::Whole(length));
+            }
+            searched = waiting.len();
+            if searched > LINE_LIMIT {
+                self.skip_line(source)?;
+                return Ok(Found::Skipped);
+            }
+            if self.refill(source)? == 0 {
+                return Ok(Found::Rest);
+            }
+        }
+    }
+
+    /// The next line. After a fault it answers the same again and does not read.
+    pub fn next_line<S: Source>(&mut self, source: &mut S) -> Result<Line<'_>, LineFault>
+        ensures* next { sem 𝓛 (Rests the_row self.entry (λ new.
+            NextLine self.old new (S.left source.old) (S.left source.new) result)) }
+        ensures cause { IsErrOf result LineFault.Read →
+            (self.old.failure ≡ Some LineFault.Read) ⊎ HasRisen (S.faults source.old) (S.faults source.new) }
+        ensures faults { S.faults source.old ≤ S.faults source.new }
+        ensures after_end { IsTrue self.old.ended → source.new ≡ source.old }
+        ensures after_fault { IsSome self.old.failure → source.new ≡ source.old }
+    {
+        if let Some(fault) = self.failure {
+            return Err(fault);
+        }
+        if self.ended {
+            return Ok(Line::End);
+        }
+        match self.find_line(source)? {
+            Found::Whole(length) => {
+                let from = self.start;
+                self.start = from + (length + 1);
+                Ok(text_of(&self.buffer[from..from + length]))
+            }
+            Found::Rest => {
+                let from = self.start;
+                self.start = self.end;
+                self.ended = true;
+                if from == self.end {
+                    return Ok(Line::End);
+                }
+                Ok(text_of(&self.buffer[from..self.end]))
+            }
+            Found::Skipped => Ok(Line::TooLong),
+        }
+    }
+}

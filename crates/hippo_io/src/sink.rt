@@ -1,0 +1,38 @@
+ghost use Rattle.std.specs.Prelude.{◌≡◌, ℕ, ◌<◌, ◌≤◌, List, Option, length, take, IfOk, OnOk, OnErr};
+ghost use Rattle.hippo_io.specs.Faults.{HasRisen};
+ghost use Rattle.hippo_io.specs.Told.{Keeps, Appends, AppendsFront};
+
+use crate::source::Failed;
+
+/// Where bytes go to.
+pub trait Sink {
+    // The bytes written so far, where the sink tells them.
+    ghost written: { Self → Option (List ℕ) };
+
+    // How often a write failed; the count stands still at its last value.
+    ghost faults: { Self → ℕ };
+
+    /// Writes the first bytes of the piece, and answers how many; none only where the piece is empty. A write that failed
+    /// wrote none.
+    fn write(&mut self, piece: &[u8]) -> Result<usize, Failed>
+        ensures count { IfOk result (λ n. n ≤ length piece.now) }
+        ensures some { IfOk result (λ n. 0 < length piece.now → 0 < n) }
+        ensures appended { IfOk result (λ n. Appends (written self.old) (written self.new) (take n piece.now)) }
+        ensures failed { OnErr result (Keeps (written self.old) (written self.new)) }
+        ensures cause { OnErr result (HasRisen (faults self.old) (faults self.new)) }
+        ensures faults { faults self.old ≤ faults self.new };
+}
+
+/// Writes all bytes. Where a write fails, the bytes before it are written.
+pub fn write_whole<K: Sink>(sink: &mut K, bytes: &[u8]) -> Result<(), Failed>
+    ensures ok { OnOk result (Appends (K.written sink.old) (K.written sink.new) bytes.now) }
+    ensures failed { OnErr result (AppendsFront (K.written sink.old) (K.written sink.new) bytes.now) }
+    ensures cause { OnErr result (HasRisen (K.faults sink.old) (K.faults sink.new)) }
+    ensures faults { K.faults sink.old ≤ K.faults sink.new }
+{
+    let mut done = 0;
+    while done < bytes.len() {
+        done += sink.write(&bytes[done..])?;
+    }
+    Ok(())
+}

@@ -1,0 +1,43 @@
+-- Which columns a query names.
+use Rattle.std.specs.Prelude.{ℕ, Bool, ◌&&◌, ◌==◌, List, [], ◌∷◌, ◌++◌, map, flat_map, slice_index_or, bytes_eq}
+use Rattle.std.specs.List.{list_any, list_all}
+use Rattle.hippo_model.specs.declared.query.Ref.{Ref}
+use Rattle.hippo_model.specs.declared.query.Operand.{Operand}
+use Rattle.hippo_model.specs.declared.query.Operand.TheVariants.{Column, Literal}
+use Rattle.hippo_model.specs.declared.query.CondOf.{CondOf, CondOf-F, fold-CondOf}
+use Rattle.hippo_model.specs.declared.query.CondOf.TheOpen.{All, Any, Not, Compare, Between, Among, Missing}
+use Rattle.hippo_model.specs.declared.query.Query.{Query}
+use Rattle.hippo_model.specs.declared.audit.Audit.{Audit}
+
+abbrev pub columns_in : Operand → List Ref
+columns_in (Column column) = column ∷ []
+columns_in (Literal value) = []
+
+-- the columns of a condition, where those of its parts are known
+abbrev pub columns_step : CondOf-F Operand (List Ref) → List Ref
+columns_step (All parts) = flat_map (λ columns. columns) parts
+columns_step (Any parts) = flat_map (λ columns. columns) parts
+columns_step (Not part) = part
+columns_step (Compare op left right) = columns_in left ++ columns_in right
+columns_step (Between operand low high) = columns_in operand ++ columns_in low ++ columns_in high
+columns_step (Among operand list) = columns_in operand ++ flat_map columns_in list
+columns_step (Missing operand) = columns_in operand
+
+abbrev pub condition_columns : CondOf Operand → List Ref
+condition_columns condition = fold-CondOf Operand (List Ref) columns_step condition
+
+-- a column by its table's name and its place there
+abbrev pub named_column : List (List ℕ) → Ref → List ℕ × ℕ
+named_column tables column = (slice_index_or tables column.table [], column.column)
+
+-- the columns that stand anywhere in a query: in its items, in ON or in WHERE
+abbrev pub named : Query → List (List ℕ × ℕ)
+named query = map (named_column query.tables) (query.items ++ condition_columns query.cond)
+
+abbrev pub same_column : List ℕ × ℕ → List ℕ × ℕ → Bool
+same_column a b = bytes_eq a.0 b.0 && a.1 == b.1
+
+-- whether a query names every audited column
+abbrev pub names_all : Query → Audit → Bool
+names_all query audit =
+    list_all (λ column. list_any (same_column (named_column audit.tables column)) (named query)) audit.columns

@@ -1,0 +1,73 @@
+-- Which rows a table has (the backlog tables of Agrawal and others, Auditing Compliance with a Hippocratic Database,
+-- VLDB 2004).
+use Rattle.std.specs.Prelude.{ℕ, ℤ, Bool, true, false, ◌&&◌, List, [], ◌∷◌, map, filter_map, Option, Some, None, unwrap_or, option_map, option_and_then, slice_index_or, bytes_eq}
+use Rattle.std.specs.Ordering.{match_ordering}
+use Rattle.hippo_values.specs.declared.values.Value.{Value}
+use Rattle.hippo_values.specs.declared.values.Value.TheVariants.{Null}
+use Rattle.hippo_model.specs.declared.schema.Schema.{Schema}
+use Rattle.hippo_model.specs.declared.entry.Act.{Act}
+use Rattle.hippo_model.specs.declared.entry.Act.TheVariants.{Insert, Update, Delete}
+use Rattle.hippo_model.specs.declared.entry.Entry.{Entry}
+use Rattle.hippo_model.specs.Values.{cells_cmp, same_cells}
+use Rattle.hippo_model.specs.Histories.{said, last_word}
+
+-- the value in a row's column
+abbrev pub cell_at : List Value → ℕ → Value
+cell_at row place = slice_index_or row place Null
+
+-- a row's values in the key's columns, in the key's order
+abbrev pub key_of : List ℕ → List Value → List Value
+key_of places row = map (cell_at row) places
+
+-- the key that a change of the table names
+abbrev pub key_named : Schema → Act → Option (List Value)
+key_named schema (Insert table row) = said (bytes_eq table schema.name) (key_of schema.key row)
+key_named schema (Update table row) = said (bytes_eq table schema.name) (key_of schema.key row)
+key_named schema (Delete table key) = said (bytes_eq table schema.name) key
+key_named schema act = None
+
+-- the row that a change leaves: its own, or none where it deletes
+abbrev pub row_left : Act → Option (List Value)
+row_left (Insert table row) = Some row
+row_left (Update table row) = Some row
+row_left act = None
+
+abbrev pub names_key : Schema → List Value → Entry → Bool
+names_key schema key entry = unwrap_or (option_map (λ named. same_cells named key) (key_named schema entry.act)) false
+
+-- the row with a key is that of the last change that names the key
+abbrev pub row_at : Schema → List Entry → List Value → Option (List Value)
+row_at schema history key =
+    option_and_then (λ left. left) (last_word (λ entry. said (names_key schema key entry) (row_left entry.act)) history)
+
+-- the number of the last change that names the key
+abbrev pub last_at : Schema → List Entry → List Value → Option ℕ
+last_at schema history key = last_word (λ entry. said (names_key schema key entry) entry.seq) history
+
+abbrev pub is_insert : Act → Bool
+is_insert (Insert table row) = true
+is_insert act = false
+
+-- the moment of the last Insert of the key
+abbrev pub born_at : Schema → List Entry → List Value → Option ℤ
+born_at schema history key =
+    last_word (λ entry. said (is_insert entry.act && names_key schema key entry) entry.moment) history
+
+-- a key put in its place among others, once
+abbrev pub insert_key : List Value → List (List Value) → List (List Value)
+insert_key key [] = key ∷ []
+insert_key key (first ∷ rest) =
+    match_ordering (cells_cmp key first) (key ∷ first ∷ rest) (first ∷ rest) (first ∷ insert_key key rest)
+
+abbrev pub with_key : Option (List Value) → List (List Value) → List (List Value)
+with_key None keys = keys
+with_key (Some key) keys = insert_key key keys
+
+-- the keys that changes of the table name, in ascending order
+abbrev pub keys_named : Schema → List Entry → List (List Value)
+keys_named schema [] = []
+keys_named schema (entry ∷ later) = with_key (key_named schema entry.act) (keys_named schema later)
+
+-- the rows of a table, in ascending order of their keys
+abbrev pub table_rows : Schema → List Entry → List (List Value)
+table_rows schema history = filter_map (row_at schema history) (keys_named schema history)

@@ -1,0 +1,174 @@
+ghost use Rattle.std.specs.Prelude.{◌≡◌, ◌<◌, ◌↔◌, [], length, map, slice_get, Some, IsTrue, OnOk, OnErr, IsOk, IsSome, IfSome};
+ghost use Rattle.std.specs.List.Sorted.{IsSearchInRange, IsBinarySearchResult};
+ghost use Rattle.hippo_model.specs.Values.{value_cmp, cells_cmp};
+ghost use Rattle.hippo_model.specs.Rows.{cell_at, key_of};
+ghost use Rattle.hippo_model.specs.RowSets.{IsAscending, with_row, without_row, find_row};
+
+use crate::cells::Cells;
+use crate::schema::Places;
+use hippo_values::{Memory, Moment, Value};
+use std::alloc::Global;
+use std::cmp::Ordering;
+use std::marker::Model;
+
+// The value in a row's column, which is null past the row's end, against another value.
+fn cell_order(row: &[Value], place: usize, other: &Value) -> Ordering
+    ensures { result ≡ value_cmp (cell_at row.now place) other.now }
+{
+    row.get(place).unwrap_or(&Value::Null).cmp(other)
+}
+
+// A row's key against another.
+fn key_order(places: &[usize], row: &[Value], key: &[Value]) -> Ordering
+    ensures { result ≡ cells_cmp (key_of places.now row.now) key.now }
+{
+    for (place, value) in places.iter().zip(key) {
+        let order = cell_order(row, *place, value);
+        if order.is_ne() {
+            return order;
+        }
+    }
+    places.len().cmp(&key.len())
+}
+
+// Two rows by their keys.
+fn row_order(places: &[usize], row: &[Value], other: &[Value]) -> Ordering
+    ensures { result ≡ cells_cmp (key_of places.now row.now) (key_of places.now other.now) }
+{
+    for place in places {
+        let order = cell_order(row, *place, other.get(*place).unwrap_or(&Value::Null));
+        if order.is_ne() {
+            return order;
+        }
+    }
+    Ordering::Equal
+}
+
+// A row, and the moment at which it was born.
+#[derive(Debug, Drop)]
+struct BornRow {
+    row: Cells,
+    born: Moment,
+}
+
+// The place of the row with a key among rows that stand by their keys, or else where it would stand.
+fn search_key(rows: &[BornRow], places: &[usize], key: &[Value]) -> Result<usize, usize>
+    ensures range { IsSearchInRange result (length rows.now) }
+    ensures place { IsBinarySearchResult (λ kept. cells_cmp (key_of places.now kept.row) key.now) rows.now result }
+{
+    rows.binary_search_by(|kept| key_order(places, kept.row.as_slice(), key))
+}
+
+// The same for another row's key.
+fn search_row(rows: &[BornRow], places: &[usize], row: &[Value]) -> Result<usize, usize>
+    ensures range { IsSearchInRange result (length rows.now) }
+    ensures place { IsBinarySearchResult (λ kept. cells_cmp (key_of places.now kept.row) (key_of places.now row.now)) rows.now result }
+{
+    rows.binary_search_by(|kept| row_order(places, kept.row.as_slice(), row))
+}
+
+/// The rows of a table in the order of their keys, each with the moment at which it was born.
+#[derive(Debug, Drop)]
+pub struct RowSet {
+    key: Places,
+    rows: Vec<BornRow>,
+}
+
+impl Model for RowSet {
+    ghost use Rattle.std.specs.Prelude.{map};
+    ghost use Rattle.hippo_model.specs.Rows.{key_of};
+    ghost use Rattle.hippo_model.specs.RowSets.{KeyedRows, IsAscending};
+
+    ghost Value = { KeyedRows };
+
+    ghost view = { λ set. record {
+      key = set.key;
+      rows = map (λ kept. kept.row) set.rows.items;
+      births = map (λ kept. kept.born) set.rows.items;
+    } };
+
+    ghost invariant = { λ set. IsAscending (map (key_of set.key) (map (λ kept. kept.row) set.rows.items)) };
+}
+
+impl RowSet {
+    /// No rows, for a table whose key has these places; takes no memory.
+    pub fn new(alloc: Global, key: Places) -> RowSet
+        ensures { result ≡ record { key = key; rows = []; births = [] } }
+    {
+        RowSet {
+            key,
+            rows: Vec::new(alloc),
+        }
+    }
+
+    /// Puts a row at its place in the order of keys, instead of a row with its key. The set is unchanged where memory is
+    /// short, which it never is over a row with the key.
+    pub fn put(&mut self, row: Cells, born: Moment) -> Result<(), Memory>
+        ensures ok { OnOk result (self.new ≡ with_row row born self.old) }
+        ensures err { OnErr result (self.new ≡ self.old) }
+        ensures replaces { IsSome (find_row self.old.key (key_of self.old.key row) self.old.rows) → IsOk result }
+    {
+        match search_row(&self.rows, self.key.as_slice(), row.as_slice()) {
+            Ok(place) => {
+                self.rows[place] = BornRow { row, born };
+                Ok(())
+            }
+            Err(place) => Ok(self.rows.insert(place, BornRow { row, born })?),
+        }
+    }
+
+    /// Takes away the row with a key, if there is one.
+    pub fn take(&mut self, key: &Cells)
+        ensures { self.new ≡ without_row key.now self.old }
+    {
+        if let Ok(place) = search_key(&self.rows, self.key.as_slice(), key.as_slice()) {
+            self.rows.remove(place);
+        }
+    }
+
+    /// The place of the row with a key, none exactly where no row has it.
+    pub fn find(&self, key: &Cells) -> Option<usize>
+        ensures place { result ≡ find_row self.now.key key.now self.now.rows }
+        ensures range { IfSome result (λ place. place < length self.now.rows) }
+    {
+        search_key(&self.rows, self.key.as_slice(), key.as_slice()).ok()
+    }
+
+    /// The number of rows.
+    pub fn len(&self) -> usize
+        ensures rows { result ≡ length self.now.rows }
+        ensures births { result ≡ length self.now.births }
+        ensures order { IsAscending (map (key_of self.now.key) self.now.rows) }
+    {
+        self.rows.len()
+    }
+
+    pub fn is_empty(&self) -> bool
+        ensures { IsTrue result ↔ (self.now.rows ≡ []) }
+    {
+        self.rows.is_empty()
+    }
+
+    /// The places of the key's columns.
+    pub fn key(&self) -> &Places
+        ensures { result.now ≡ self.now.key }
+    {
+        &self.key
+    }
+
+    /// The row at a place, counted from 0.
+    pub fn row(&self, place: usize) -> &Cells
+        requires { place < length self.now.rows }
+        ensures { slice_get self.now.rows place ≡ Some result.now }
+    {
+        &self.rows[place].row
+    }
+
+    /// The moment at which the row at a place was born.
+    pub fn born(&self, place: usize) -> Moment
+        requires { place < length self.now.rows }
+        ensures { slice_get self.now.births place ≡ Some result }
+    {
+        self.rows[place].born
+    }
+}

@@ -1,0 +1,10 @@
+//! The database as a service of lines: each line of the input is answered before the next is read.
+#![tactic(auto)]
+
+mod clinic;
+mod columns;
+mod cuts;
+mod entries;
+mod printing;
+mod requests;
+mod world;

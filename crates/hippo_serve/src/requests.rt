@@ -1,0 +1,145 @@
+ghost use Rattle.std.specs.Prelude.{◌≡◌, ◌==◌, ◌&&◌, not, nat_le, [], ◌∷◌, option_map};
+ghost use Rattle.std.specs.List.{list_all};
+ghost use Rattle.hippo_model.specs.Values.{keeps_text_rule};
+ghost use Rattle.hippo_serve.specs.Forms.{text_cell, number_cell, cells_from_phone, cells_of, insert_of, all_differ, allow_of, select_of, meaning_of};
+ghost use Rattle.hippo_serve.specs.Requests.{text_value, number_value, patient_cells, meaning};
+
+use crate::columns::{ColumnList, columns};
+use crate::cuts::{after, around_comma, around_quote, before, number};
+
+/// The cells of a new patient, in the order of the columns; texts are the line's own.
+pub struct NewPatient<'a> {
+    pub pid: i64,
+    pub name: Option<&'a str>,
+    pub phone: Option<&'a str>,
+    pub zip: Option<i64>,
+}
+
+/// What a line asks for.
+pub enum Request<'a> {
+    Allow(ColumnList),
+    Insert(NewPatient<'a>),
+    /// The text from the word SELECT on, and its columns.
+    Select(&'a str, ColumnList),
+}
+
+/// How many columns the table has.
+const TABLE_COLUMNS: usize = 4;
+
+/// The longest text that a cell takes, in bytes.
+const TEXT_LIMIT: usize = 4096;
+
+fn is_plain(byte: u8) -> bool
+    ensures { result ≡ (nat_le 32 byte && not (byte == 127)) }
+{
+    byte >= 32 && byte != 127
+}
+
+fn are_plain(bytes: &[u8]) -> bool
+    ensures { result ≡ list_all (λ byte. nat_le 32 byte && not (byte == 127)) bytes.now }
+{
+    bytes.iter().all(|byte| is_plain(*byte))
+}
+
+fn keeps_text_rule(text: &str) -> bool
+    ensures { result ≡ keeps_text_rule text.now }
+{
+    let bytes = text.as_bytes();
+    bytes.len() <= TEXT_LIMIT && are_plain(bytes)
+}
+
+// A text between quotes or NULL, and what stands behind it.
+fn text_cell(text: &str) -> Option<(Option<&str>, &str)>
+    ensures { option_map (λ found. (text_value found.0, found.1.now)) result ≡ text_cell text.now }
+{
+    if let Some(rest) = after(text, "NULL") {
+        return Some((None, rest));
+    }
+    let (inner, rest) = around_quote(after(text, "'")?)?;
+    if keeps_text_rule(inner) { Some((Some(inner), rest)) } else { None }
+}
+
+// A number or NULL.
+fn number_cell(text: &str) -> Option<Option<i64>>
+    ensures { option_map number_value result ≡ number_cell text.now }
+{
+    match number(text) {
+        Some(number) => Some(Some(number)),
+        None if text == "NULL" => Some(None),
+        None => None,
+    }
+}
+
+// The phone and the zip, with a comma and a space between them.
+fn cells_from_phone(text: &str) -> Option<(Option<&str>, Option<i64>)>
+    ensures { option_map (λ found. text_value found.0 ∷ number_value found.1 ∷ []) result ≡ cells_from_phone text.now }
+{
+    let (phone, rest) = text_cell(text)?;
+    let zip = number_cell(after(rest, ", ")?)?;
+    Some((phone, zip))
+}
+
+fn cells_of(text: &str) -> Option<NewPatient<'_>>
+    ensures { option_map patient_cells result ≡ cells_of text.now }
+{
+    let (pid_text, rest) = around_comma(text)?;
+    let pid = number(pid_text)?;
+    let (name, rest) = text_cell(after(rest, " ")?)?;
+    let (phone, zip) = cells_from_phone(after(rest, ", ")?)?;
+    Some(NewPatient {
+        pid,
+        name,
+        phone,
+        zip,
+    })
+}
+
+fn insert_of(line: &str) -> Option<Request<'_>>
+    ensures { option_map meaning result ≡ insert_of line.now }
+{
+    let inner = after(line, "0 INSERT INTO patient VALUES (")?;
+    Some(Request::Insert(cells_of(before(inner, ")")?)?))
+}
+
+fn all_differ(places: &[usize]) -> bool
+    ensures { result ≡ all_differ places.now }
+{
+    match places {
+        [] => true,
+        [first, rest @ ..] => !rest.contains(first) && all_differ(rest),
+    }
+}
+
+fn allow_of(line: &str) -> Option<Request<'_>>
+    ensures { option_map meaning result ≡ allow_of line.now }
+{
+    let list = after(line, "0 ALLOW treatment TO nurse ON patient (")?;
+    let places = columns(before(list, ")")?)?;
+    if places.len() <= TABLE_COLUMNS && all_differ(places.as_slice()) {
+        Some(Request::Allow(places))
+    } else {
+        None
+    }
+}
+
+fn select_of(line: &str) -> Option<Request<'_>>
+    ensures { option_map meaning result ≡ select_of line.now }
+{
+    let text = after(line, "1 ")?;
+    let list = after(text, "SELECT ")?;
+    let places = columns(before(list, " FROM patient")?)?;
+    Some(Request::Select(text, places))
+}
+
+/// What a line asks for; none where it has none of the three forms.
+pub fn request_of(line: &str) -> Option<Request<'_>>
+    ensures { option_map meaning result ≡ meaning_of line.now }
+{
+    if let Some(request) = allow_of(line) {
+        return Some(request);
+    }
+    if let Some(request) = insert_of(line) {
+        return Some(request);
+    }
+    select_of(line)
+}

@@ -1,0 +1,68 @@
+-- A text is printed in pieces, from one quote to the next.
+use Rattle.std.proofs.Common.{◌≡◌, ◌≢◌, ℕ, suc, ◌+◌, ◌/◌, ◌%◌, ◌^◌, ◌<◌, ◌≤◌, List, [], ◌∷◌, ◌++◌, length, get_or, refl, ap, ◌∙◌, arith, append_assoc}
+use Rattle.std.specs.Fmt.{decimal}
+use Rattle.std.specs.Char.{encode_utf8}
+use Rattle.std.proofs.lemmas.Fmt.{decimal_step, decimal_digit}
+use Rattle.std.proofs.lemmas.Str.{encode_ascii}
+use Rattle.std.proofs.lemmas.List.{length-take, take-append-le}
+use Rattle.std.proofs.lemmas.Grind.{flat_map-append}
+use Rattle.std.proofs.lemmas.Bool.Decides.{nat_tests}
+use Rattle.hippo_values.specs.Printing.{quoted_byte, doubled_quotes, KeepsFront}
+
+-- the text has no quote
+abbrev pub HasNoQuote : List ℕ → Type 0
+HasNoQuote text = (i : ℕ) → i < length text → get_or text i 0 ≢ 39
+
+quoted_byte-other : (byte : ℕ) → byte ≢ 39 → quoted_byte byte ≡ byte ∷ []
+quoted_byte-other byte h = grind (arith, nat_tests)
+
+pub doubled_quotes-without : (text : List ℕ) → HasNoQuote text → doubled_quotes text ≡ text
+unfolding doubled_quotes
+doubled_quotes-without [] h = refl
+doubled_quotes-without (b ∷ bs) h =
+    rw (quoted_byte-other b (h 0 (omega arith))) (ap (λ t. b ∷ t) (doubled_quotes-without bs (λ i lt. h (suc i) (omega arith))))
+
+doubled_quotes-append : (xs ys : List ℕ) → doubled_quotes (xs ++ ys) ≡ doubled_quotes xs ++ doubled_quotes ys
+unfolding doubled_quotes
+doubled_quotes-append xs ys = flat_map-append quoted_byte xs ys
+
+doubled_quotes-quote : (rest : List ℕ) → doubled_quotes (39 ∷ rest) ≡ 39 ∷ 39 ∷ doubled_quotes rest
+unfolding doubled_quotes
+doubled_quotes-quote rest = refl
+
+pub doubled_quotes-split : (text before after : List ℕ) → text ≡ before ++ (39 ∷ after) → HasNoQuote before → doubled_quotes text ≡ before ++ (39 ∷ 39 ∷ doubled_quotes after)
+doubled_quotes-split text before after e none =
+    rw (e, doubled_quotes-append, doubled_quotes-without before none, doubled_quotes-quote) refl
+
+-- what is added at the end keeps the front
+pub KeepsFront-append : (old new more : List ℕ) → KeepsFront old new → KeepsFront old (new ++ more)
+KeepsFront-append old new more h =
+    let within : length old ≤ length new = omega (arith, length-take (length old) new, ap length h) in
+    take-append-le (length old) new more within ∙ h
+
+-- one more quote is printed
+pub doubled_quotes-step : (initial text out rest before after first second : List ℕ) → out ++ doubled_quotes rest ≡ initial ++ doubled_quotes text → (rest ≡ before ++ (39 ∷ after)) × HasNoQuote before → first ≡ out ++ before → second ≡ first ++ (39 ∷ 39 ∷ []) → second ++ doubled_quotes after ≡ initial ++ doubled_quotes text
+doubled_quotes-step initial text out rest before after first second whole split ef es =
+    let e = doubled_quotes-split rest before after split.0 split.1 in
+    rw (es, ef, ← whole, e) (simp append_assoc)
+
+-- and the rest, which has none
+pub doubled_quotes-last : (initial text out rest new : List ℕ) → out ++ doubled_quotes rest ≡ initial ++ doubled_quotes text → HasNoQuote rest → new ≡ out ++ rest → new ≡ initial ++ doubled_quotes text
+doubled_quotes-last initial text out rest new whole none e = e ∙ rw (← whole, doubled_quotes-without rest none) refl
+
+-- the last digit after those before it
+pub decimal-last : (old front new : List ℕ) (n digit : ℕ) → n < 2 ^ 64 → 10 ≤ n → digit ≡ 48 + n % 10 → front ≡ old ++ decimal (n / 10) → new ≡ front ++ encode_utf8 digit → new ≡ old ++ decimal n
+decimal-last old front new n digit small h ed ef e =
+    let ascii : digit < 128 = omega arith in
+    e ∙ rw (encode_ascii digit ascii, ed, ef, decimal_step n h small) (append_assoc old (decimal (n / 10)) ((48 + n % 10) ∷ []))
+
+-- or alone
+pub decimal-alone : (old front new : List ℕ) (n digit : ℕ) → n < 10 → digit ≡ 48 + n % 10 → front ≡ old → new ≡ front ++ encode_utf8 digit → new ≡ old ++ decimal n
+decimal-alone old front new n digit h ed ef e =
+    let ascii : digit < 128 = omega arith in
+    let last : n % 10 ≡ n = omega arith in
+    e ∙ rw (encode_ascii digit ascii, ef, ed, last, decimal_digit n h) refl
+
+pub KeepsFront-step : (old out before first second : List ℕ) → KeepsFront old out → first ≡ out ++ before → second ≡ first ++ (39 ∷ 39 ∷ []) → KeepsFront old second
+KeepsFront-step old out before first second h ef es =
+    rw (es, ef) (KeepsFront-append old (out ++ before) (39 ∷ 39 ∷ []) (KeepsFront-append old out before h))
