@@ -1,0 +1,4 @@
+pub mod Spelling
+pub mod Words
+pub mod Reading
+pub mod Grammar

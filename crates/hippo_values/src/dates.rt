@@ -13,6 +13,8 @@ const DAY_LENGTH: usize = 10;
 // The bytes of a time as it is written after a day.
 const TIME_LENGTH: usize = 10;
 
+const LAST_HOUR: u8 = 23;
+
 const SECONDS_OF_DAY: i64 = 86_400;
 
 // Days before 1970-01-01 that the calendar of `jiff_core` has.
@@ -107,7 +109,7 @@ fn second_of_bytes(bytes: &[u8]) -> Option<u32>
     ensures none { IfNone result ((second : ℕ) → second < 86400 → bytes.now ≢ time_text second) }
 {
     let (hour, minute, second) = clock_parts(bytes)?;
-    if hour > 23 || minute > 59 || second > 59 {
+    if hour > LAST_HOUR || minute > 59 || second > 59 {
         return None;
     }
     Some(u32::from(hour) * 3600 + u32::from(minute) * 60 + u32::from(second))

@@ -2,24 +2,24 @@ use Rattle.std.proofs.Common.{arith}
 use Rattle.hippo_values.proofs.OptionLemmas.{IfNone_always}
 use Rattle.hippo_values.proofs.ClockTextLemmas.{AreShort, IsTime, time_text-of_clock, no_time-without_clock, no_time-of_clock}
 use Rattle.hippo_values.proofs.dates.second_of_bytes.Goals as goal
-use Rattle.hippo_values.proofs.dates.second_of_bytes.Goals.{then-hour-gt23-via-then-hour-gt23, then-hour-gt23-via-else-hour-gt23+then-minute-gt59, then-hour-gt23-via-else-hour-gt23+else-minute-gt59+then-second-gt59}
+use Rattle.hippo_values.proofs.dates.second_of_bytes.Goals.{then-hour-gt-LAST_HOUR-via-then-hour-gt-LAST_HOUR, then-hour-gt-LAST_HOUR-via-else-hour-gt-LAST_HOUR+then-minute-gt59, then-hour-gt-LAST_HOUR-via-else-hour-gt-LAST_HOUR+else-minute-gt59+then-second-gt59}
 
 pub returns-in_err-hour-clause-none : goal.returns-in_err-hour-clause-none
 returns-in_err-hour-clause-none c =
     IfNone_always _ (no_time-without_clock c.args.bytes.now c.in_err-hour.ensures.none)
 
-pub returns-then-hour-gt23-clause-none : goal.returns-then-hour-gt23-clause-none
-returns-then-hour-gt23-clause-none c =
+pub returns-then-hour-gt-LAST_HOUR-clause-none : goal.returns-then-hour-gt-LAST_HOUR-clause-none
+returns-then-hour-gt-LAST_HOUR-clause-none c =
     let h = c.in_ok-hour.hour in
     let m = c.in_ok-hour.minute in
     let s = c.in_ok-hour.second in
     let parts = c.in_ok-hour.ensures.some in
     let short : AreShort h m s = record { hour = parts.0; minute = parts.1; second = parts.2 } in
     let none : ¬ (IsTime h m s) = λ t.
-    elim c.then-hour-gt23.branch [
-      | then-hour-gt23-via-then-hour-gt23 w ↦ omega (arith, t.hour)
-      | then-hour-gt23-via-else-hour-gt23+then-minute-gt59 w ↦ omega (arith, t.minute)
-      | then-hour-gt23-via-else-hour-gt23+else-minute-gt59+then-second-gt59 w ↦ omega (arith, t.second)
+    elim c.then-hour-gt-LAST_HOUR.branch [
+      | then-hour-gt-LAST_HOUR-via-then-hour-gt-LAST_HOUR w ↦ omega (arith, t.hour)
+      | then-hour-gt-LAST_HOUR-via-else-hour-gt-LAST_HOUR+then-minute-gt59 w ↦ omega (arith, t.minute)
+      | then-hour-gt-LAST_HOUR-via-else-hour-gt-LAST_HOUR+else-minute-gt59+then-second-gt59 w ↦ omega (arith, t.second)
     ] in
     no_time-of_clock c.args.bytes.now h m s short parts.3 none
 

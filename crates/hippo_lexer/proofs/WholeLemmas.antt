@@ -1,0 +1,86 @@
+-- Whole words, and days behind the word DATE.
+use Rattle.std.proofs.Common.{◌≡◌, ◌≢◌, ℕ, zero, suc, ◌+◌, ◌<◌, ◌≤◌, ◌⊎◌, Bool, true, false, cond, ◌&&◌, ◌||◌, List, [], ◌∷◌, ◌++◌, length, take, drop, Option, Some, None, Ok, Err, ok_or, if◌then◌else◌, refl, sym, ap, ◌∙◌, inl, inr, arith, one-add}
+use Rattle.std.specs.List.{prefix_len, list_all}
+use Rattle.std.specs.Char.{is_ascii_alphabetic}
+use Rattle.std.proofs.lemmas.Bool.{cases_Bool, and_parts, and_from, both_ways, eqb-true}
+use Rattle.std.proofs.lemmas.Bool.Decides.{nat_tests}
+use Rattle.std.proofs.lemmas.List.{take_at, drop_at, take-append-drop}
+use Rattle.hippo_values.specs.Names.{is_word_byte, is_word}
+use Rattle.hippo_lexer.specs.declared.kinds.Keyword.{Keyword}
+use Rattle.hippo_lexer.specs.declared.kinds.Keyword.TheVariants.{KDate}
+use Rattle.hippo_lexer.specs.declared.kinds.TokenKind.TheVariants as kinds
+use Rattle.hippo_lexer.specs.declared.faults.LexFault.TheVariants as faults
+use Rattle.hippo_lexer.specs.Spelling.{is_blank, is_quote, begins_with, keyword_of, doubled}
+use Rattle.hippo_lexer.specs.Reading.{◌>>=◌, word_len, blanks_len, word_kind, is_date, quoted_first, day_first, date_first, word_first}
+use Rattle.hippo_lexer.specs.Grammar.{IsWholeWord, IsQuotedBehind, OpensDay, quoted}
+use Rattle.hippo_lexer.proofs.PrefixLemmas.{all-front, ends-front, len-front}
+use Rattle.hippo_lexer.proofs.QuotedLemmas.{quoted_first-is, quoted_first-unclosed, quoted_or_open}
+use Rattle.hippo_lexer.proofs.WordLemmas.{kind-keyword}
+
+letter_in_word : (byte : ℕ) → is_ascii_alphabetic byte ≡ true → is_word_byte byte ≡ true
+letter_in_word byte h = grind (arith, nat_tests)
+
+-- a whole word is what the reader cuts off
+pub whole-begins : (word rest : List ℕ) → IsWholeWord word rest → begins_with is_ascii_alphabetic (word ++ rest) ≡ true
+whole-begins [] rest h = absurd (both_ways _ refl h.form)
+whole-begins (byte ∷ word) rest h = (and_parts _ _ h.form).0
+
+whole-len : (word rest : List ℕ) → IsWholeWord word rest → word_len (word ++ rest) ≡ length word
+whole-len word rest h = len-front is_word_byte word rest (and_parts _ _ h.form).1 h.ends
+
+-- and what it cuts off is one
+pub cut_whole : (byte : ℕ) (rest : List ℕ) → is_ascii_alphabetic byte ≡ true → IsWholeWord (take (word_len (byte ∷ rest)) (byte ∷ rest)) (drop (word_len (byte ∷ rest)) (byte ∷ rest))
+cut_whole byte rest letter = record {
+  form = and_from _ _ (rw (letter_in_word byte letter, one-add) letter) (all-front is_word_byte (byte ∷ rest));
+  ends = ends-front is_word_byte (byte ∷ rest);
+}
+
+-- what the reader says of a word
+pub word_step : (place : ℕ) (word rest : List ℕ) → IsWholeWord word rest → word_first place (word ++ rest) ≡ (ok_or (word_kind word) (faults.BadToken place) >>= λ kind. if is_date kind then date_first place (length word) rest else Ok (kind, length word))
+unfolding word_first
+word_step place word rest h = rw (whole-len word rest h, take_at word rest (length word) refl, drop_at word rest (length word) refl) refl
+
+-- a quoted text behind blanks is found
+quoted_len : (behind blanks text rest : List ℕ) → IsQuotedBehind behind blanks text rest → blanks_len behind ≡ length blanks
+quoted_len behind blanks text rest h = rw h.parts (len-front is_blank blanks (quoted text ++ rest) h.gap refl)
+
+pub quoted_there : (behind blanks text rest : List ℕ) → IsQuotedBehind behind blanks text rest → quoted_first (drop (blanks_len behind) behind) ≡ Some (text, length (quoted text))
+quoted_there behind blanks text rest h =
+    rw (quoted_len behind blanks text rest h, h.parts, drop_at blanks (quoted text ++ rest) (length blanks) refl) (quoted_first-is text rest h.ends)
+
+-- or none stands there
+quoted_at : (bytes : List ℕ) → ((text : List ℕ) × (rest : List ℕ) × (bytes ≡ quoted text ++ rest) × (begins_with is_quote rest ≡ false)) ⊎ (quoted_first bytes ≡ None)
+unfolding quoted_first
+quoted_at [] = inr refl
+quoted_at (byte ∷ rest) = elim (cases_Bool (is_quote byte)) [
+    | inl quote ↦
+        let same : byte ∷ rest ≡ 39 ∷ rest = ap (λ b. b ∷ rest) (eqb-true byte 39 quote) in
+        elim (quoted_or_open rest) [
+          | inl found ↦ inl (found.0, found.1, same ∙ found.2, found.3)
+          | inr stays ↦ inr (ap quoted_first (same ∙ stays.1) ∙ quoted_first-unclosed stays.0)
+        ]
+    | inr other ↦ inr (rw other refl)
+  ]
+
+pub quoted_or_none : (behind : List ℕ) → ((text : List ℕ) × (rest : List ℕ) × IsQuotedBehind behind (take (blanks_len behind) behind) text rest) ⊎ (quoted_first (drop (blanks_len behind) behind) ≡ None)
+quoted_or_none behind = elim (quoted_at (drop (blanks_len behind) behind)) [
+    | inl found ↦ inl (found.0, found.1, record {
+        gap = all-front is_blank behind;
+        parts = sym (take-append-drop (blanks_len behind) behind) ∙ ap (λ b. take (blanks_len behind) behind ++ b) found.2;
+        ends = found.3;
+      })
+    | inr none ↦ inr none
+  ]
+
+-- The word DATE, before a quoted text and without one.
+pub date-day : (place n : ℕ) (behind blanks text rest : List ℕ) → IsQuotedBehind behind blanks text rest → date_first place n behind ≡ day_first place (n + length blanks) (text, length (quoted text))
+unfolding date_first
+date-day place n behind blanks text rest h =
+    rw (quoted_there behind blanks text rest h, quoted_len behind blanks text rest h) refl
+
+pub date-alone : (place n : ℕ) (behind : List ℕ) → ((blanks text rest : List ℕ) → ¬ (IsQuotedBehind behind blanks text rest)) → date_first place n behind ≡ Ok (kinds.Keyword KDate, n)
+unfolding date_first
+date-alone place n behind none = elim (quoted_or_none behind) [
+    | inl found ↦ absurd (none _ found.0 found.1 found.2)
+    | inr alone ↦ rw alone refl
+  ]

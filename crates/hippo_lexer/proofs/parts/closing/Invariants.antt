@@ -1,0 +1,16 @@
+use Rattle.std.proofs.Common.{◌≡◌, ◌≤◌, ◌-◌, length}
+use denote.Text.{Utf8}
+use denote.Shadow.{shadow}
+use Rattle.hippo_lexer.specs.Reading.{closing, onto}
+use Rattle.hippo_lexer.proofs.parts.closing.Given as goal
+
+-- what is left, behind the text so far, has the answer
+abbrev pub invariant-loop-run : goal.invariant-loop-run
+invariant-loop-run l = record {
+  utf8 : shadow (Utf8 l.rest);
+  within : length l.rest ≤ length l.behind;
+  told : onto l.text (length l.behind - length l.rest) (closing l.rest) ≡ closing l.behind;
+}
+
+abbrev pub decreases-loop-run : goal.decreases-loop-run
+decreases-loop-run l = length l.rest

@@ -1,0 +1,121 @@
+-- The tokens of a text: how each is spelled, that the longest is taken, and which fault a text has where it has none.
+use Rattle.std.specs.Prelude.{◌≡◌, ℕ, ◌+◌, ◌^◌, ◌<◌, ◌⊎◌, ◌↔◌, Bool, true, false, ◌||◌, List, [], ◌∷◌, ◌++◌, length, ℤ, pos, neg_ℤ, ◌≤ℤ◌, ◌<ℤ◌, IsCharBoundary, Option, Some, None, Result, Ok, Err}
+use Rattle.std.specs.List.{list_all}
+use Rattle.std.specs.Char.{is_ascii_alphabetic, is_ascii_digit}
+use Rattle.std.specs.Str.Parse.{digits_value}
+use Rattle.hippo_values.specs.Names.{folded, unsupported_words, is_among, is_word_byte, is_word, is_name}
+use Rattle.hippo_values.specs.Dates.{IsDayText}
+use Rattle.hippo_lexer.specs.declared.kinds.Keyword.{Keyword}
+use Rattle.hippo_lexer.specs.declared.kinds.Keyword.TheVariants.{KDate}
+use Rattle.hippo_lexer.specs.declared.kinds.Symbol.{Symbol}
+use Rattle.hippo_lexer.specs.declared.kinds.TokenKind.{TokenKind}
+use Rattle.hippo_lexer.specs.declared.kinds.TokenKind.TheVariants as kinds
+use Rattle.hippo_lexer.specs.declared.kinds.Token.{Token}
+use Rattle.hippo_lexer.specs.declared.faults.LexFault.{LexFault}
+use Rattle.hippo_lexer.specs.declared.faults.LexFault.TheVariants as faults
+use Rattle.hippo_lexer.specs.Spelling.{is_blank, is_quote, is_minus, begins_with, keyword_of, sign_of, doubled}
+
+-- a word, and what stands behind does not go on with it
+pub record IsWholeWord (word behind : List ℕ) : Type 0 where
+  pub form : is_word word ≡ true
+  pub ends : begins_with is_word_byte behind ≡ false
+
+-- digits, one or more
+abbrev pub AreDigits : List ℕ → Type 0
+AreDigits digits = (0 < length digits) × (list_all is_ascii_digit digits ≡ true)
+
+-- digits, with a `-` directly before them or not, and the number that they write, however large
+pub data IsNumber : List ℕ → ℤ → Type 0 where
+  plain : (digits : List ℕ) (number : ℤ) → AreDigits digits → number ≡ pos (digits_value 10 digits) → IsNumber digits number
+  negative : (text digits : List ℕ) (number : ℤ) → AreDigits digits → text ≡ 45 ∷ digits → number ≡ neg_ℤ (pos (digits_value 10 digits)) → IsNumber text number
+
+-- from -9223372036854775808 to 9223372036854775807
+abbrev pub IsInRange : ℤ → Type 0
+IsInRange number = (neg_ℤ (pos (2 ^ 63)) ≤ℤ number) × (number <ℤ pos (2 ^ 63))
+
+-- a text between quotes, in which each `'` is written twice
+abbrev pub quoted : List ℕ → List ℕ
+quoted text = 39 ∷ (doubled text ++ 39 ∷ [])
+
+-- behind blanks or none a quoted text, and then what does not go on with it
+pub record IsQuotedBehind (behind blanks text rest : List ℕ) : Type 0 where
+  pub gap : list_all is_blank blanks ≡ true
+  pub parts : behind ≡ blanks ++ (quoted text ++ rest)
+  pub ends : begins_with is_quote rest ≡ false
+
+-- the word DATE, behind which a quoted text stands
+pub record OpensDay (word behind blanks text rest : List ℕ) : Type 0 where
+  pub whole : IsWholeWord word behind
+  pub date : keyword_of word ≡ Some KDate
+  pub quotation : IsQuotedBehind behind blanks text rest
+
+-- no byte more makes a longer sign of it
+abbrev pub IsLongestSign : List ℕ → List ℕ → Type 0
+IsLongestSign text rest = (byte : ℕ) (more : List ℕ) → rest ≡ byte ∷ more → sign_of (text ++ byte ∷ []) ≡ None
+
+-- The text is a token of this kind where `rest` stands behind it.
+pub data IsToken : List ℕ → TokenKind → List ℕ → Type 0 where
+  a_keyword : (word rest : List ℕ) (keyword : Keyword) → IsWholeWord word rest → keyword_of word ≡ Some keyword
+      → (keyword ≡ KDate → (blanks text more : List ℕ) → ¬ (IsQuotedBehind rest blanks text more)) → IsToken word (kinds.Keyword keyword) rest
+  a_refused_word : (word rest : List ℕ) → IsWholeWord word rest → is_among unsupported_words word ≡ true → IsToken word (kinds.Unsupported (folded word)) rest
+  a_name : (word rest : List ℕ) → IsWholeWord word rest → is_name word ≡ true → IsToken word (kinds.Word (folded word)) rest
+  a_number : (text rest : List ℕ) (number : ℤ) → IsNumber text number → IsInRange number → begins_with is_word_byte rest ≡ false
+      → IsToken text (kinds.Number number) rest
+  a_quoted_text : (written text rest : List ℕ) → written ≡ quoted text → begins_with is_quote rest ≡ false → IsToken written (kinds.Quoted text) rest
+  a_day : (written word behind blanks text rest : List ℕ) (day : ℤ) → OpensDay word behind blanks text rest → IsDayText text day
+      → written ≡ word ++ (blanks ++ quoted text) → IsToken written (kinds.Day day) rest
+  a_sign : (text rest : List ℕ) (sign : Symbol) → sign_of text ≡ Some sign → IsLongestSign text rest → IsToken text (kinds.Symbol sign) rest
+
+-- a byte with which nothing begins
+pub record IsStray (byte : ℕ) (rest : List ℕ) : Type 0 where
+  pub blank : is_blank byte ≡ false
+  pub letter : is_ascii_alphabetic byte ≡ false
+  pub digit : is_ascii_digit byte ≡ false
+  pub minus : is_minus byte ≡ false
+  pub quote : is_quote byte ≡ false
+  pub sign : sign_of (byte ∷ []) ≡ None
+  pub longer : IsLongestSign (byte ∷ []) rest
+
+-- No token stands first in this text, which stands at the place, and this is why.
+pub data IsFault : ℕ → List ℕ → LexFault → Type 0 where
+  long_word : (place : ℕ) (bytes word rest : List ℕ) → IsWholeWord word rest → 63 < length word → bytes ≡ word ++ rest → IsFault place bytes (faults.BadToken place)
+  letter_behind : (place at : ℕ) (bytes text rest : List ℕ) (number : ℤ) → IsNumber text number → IsInRange number
+      → begins_with is_ascii_digit rest ≡ false → begins_with is_word_byte rest ≡ true → bytes ≡ text ++ rest → at ≡ place + length text
+      → IsFault place bytes (faults.BadToken at)
+  large : (place : ℕ) (bytes text rest : List ℕ) (number : ℤ) → IsNumber text number → ¬ (IsInRange number)
+      → begins_with is_ascii_digit rest ≡ false → bytes ≡ text ++ rest → IsFault place bytes (faults.NumberTooLarge place)
+  lone_minus : (place : ℕ) (bytes rest : List ℕ) → begins_with is_ascii_digit rest ≡ false → bytes ≡ 45 ∷ rest → IsFault place bytes (faults.BadToken place)
+  unclosed : (place : ℕ) (bytes text : List ℕ) → bytes ≡ 39 ∷ doubled text → IsFault place bytes (faults.BadToken place)
+  no_day : (place : ℕ) (bytes word behind blanks text rest : List ℕ) → OpensDay word behind blanks text rest → ((day : ℤ) → ¬ (IsDayText text day))
+      → bytes ≡ word ++ behind → IsFault place bytes (faults.BadDate place)
+  stray : (place byte : ℕ) (bytes rest : List ℕ) → IsStray byte rest → bytes ≡ byte ∷ rest → IsFault place bytes (faults.BadToken place)
+
+-- a token in front of what comes of the rest
+abbrev pub with_first : Token → Result (List Token) LexFault → Result (List Token) LexFault
+with_first token (Ok tokens) = Ok (token ∷ tokens)
+with_first token (Err fault) = Err fault
+
+-- The text, which stands at the place, has these tokens, or this is its first fault: blanks are passed over, then the token
+-- or the fault that stands first counts.
+pub data IsReading : ℕ → List ℕ → Result (List Token) LexFault → Type 0 where
+  at_end : (place : ℕ) → IsReading place [] (Ok [])
+  at_blank : (place byte : ℕ) (rest : List ℕ) (outcome : Result (List Token) LexFault) → is_blank byte ≡ true → IsReading (place + 1) rest outcome
+      → IsReading place (byte ∷ rest) outcome
+  at_token : (place : ℕ) (bytes text rest : List ℕ) (kind : TokenKind) (later outcome : Result (List Token) LexFault) → IsToken text kind rest
+      → IsReading (place + length text) rest later → bytes ≡ text ++ rest
+      → outcome ≡ with_first (record { kind = kind; start = place; end = place + length text }) later → IsReading place bytes outcome
+  at_fault : (place : ℕ) (bytes : List ℕ) (fault : LexFault) → IsFault place bytes fault → IsReading place bytes (Err fault)
+
+-- what comes of a whole text
+abbrev pub IsOutcome : List ℕ → Result (List Token) LexFault → Type 0
+IsOutcome text outcome = IsReading 0 text outcome
+
+-- this comes of the text, and nothing else does
+abbrev pub IsOnlyOutcome : List ℕ → Result (List Token) LexFault → Type 0
+IsOnlyOutcome text outcome = IsOutcome text outcome × ((other : Result (List Token) LexFault) → IsOutcome text other → other ≡ outcome)
+
+-- the token stands in the text, and is cut out at the bounds of characters
+pub record IsSpan (text : List ℕ) (token : Token) : Type 0 where
+  pub some : token.start < token.end
+  pub from : IsCharBoundary text token.start
+  pub to : IsCharBoundary text token.end

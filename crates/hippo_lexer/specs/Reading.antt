@@ -1,0 +1,168 @@
+-- How a text is cut into tokens, from the left.
+use Rattle.std.specs.Prelude.{◌≡◌, ℕ, zero, suc, ◌+◌, ◌-◌, ◌^◌, ◌<◌, ◌==◌, Bool, true, false, ◌||◌, List, [], ◌∷◌, length, take, drop, nat_lt, nat_le, bytes_eq, ℤ, pos, negsuc, neg_ℤ, ◌+ℤ◌, ◌++◌, Option, Some, None, Result, Ok, Err, option_map, ok_or, if◌then◌else◌}
+use Rattle.std.specs.Option.{option_or, option_map_or}
+use Rattle.std.specs.List.{prefix_len, list_all}
+use Rattle.std.specs.Char.{is_ascii_alphabetic, is_ascii_digit}
+use Rattle.std.specs.Str.Parse.{digits_value}
+use Rattle.hippo_values.specs.Names.{folded, unsupported_words, is_among, is_word_byte, name_of}
+use Rattle.hippo_values.specs.Dates.{day_text}
+use Rattle.hippo_lexer.specs.declared.kinds.Keyword.TheVariants.{KDate}
+use Rattle.hippo_lexer.specs.declared.kinds.Symbol.{Symbol}
+use Rattle.hippo_lexer.specs.declared.kinds.TokenKind.{TokenKind}
+use Rattle.hippo_lexer.specs.declared.kinds.TokenKind.TheVariants as kinds
+use Rattle.hippo_lexer.specs.declared.kinds.Token.{Token}
+use Rattle.hippo_lexer.specs.declared.faults.LexFault.{LexFault}
+use Rattle.hippo_lexer.specs.declared.faults.LexFault.TheVariants as faults
+use Rattle.hippo_lexer.specs.Spelling.{is_blank, is_quote, is_minus, begins_with, keyword_of, sign_of}
+
+infixl 10 ◌>>=◌
+abbrev pub ◌>>=◌ : {A B : Type 0} → Result A LexFault → (A → Result B LexFault) → Result B LexFault
+(Ok x) >>= f = f x
+(Err fault) >>= f = Err fault
+
+-- A call's answer is this one, or want of memory.
+abbrev pub Fails : {A : Type 0} → LexFault → Result A LexFault → Type 0
+Fails faults.Memory right = Unit {0}
+Fails (faults.BadToken place) right = right ≡ Err (faults.BadToken place)
+Fails (faults.NumberTooLarge place) right = right ≡ Err (faults.NumberTooLarge place)
+Fails (faults.BadDate place) right = right ≡ Err (faults.BadDate place)
+
+abbrev pub Gives : {A : Type 0} → Result A LexFault → Result A LexFault → Type 0
+Gives (Ok x) right = right ≡ Ok x
+Gives (Err fault) right = Fails fault right
+
+-- what a word says: a keyword, a refused word or a name; none where it is too long for each
+unfoldable pub word_kind : List ℕ → Option TokenKind
+word_kind word =
+    option_or (option_map kinds.Keyword (keyword_of word))
+        (if is_among unsupported_words word then Some (kinds.Unsupported (folded word)) else option_map kinds.Word (name_of word))
+
+-- the length of the word, of the digits or of the blanks at the front
+abbrev pub word_len : List ℕ → ℕ
+word_len bytes = prefix_len is_word_byte bytes
+
+abbrev pub digits_len : List ℕ → ℕ
+digits_len bytes = prefix_len is_ascii_digit bytes
+
+abbrev pub blanks_len : List ℕ → ℕ
+blanks_len bytes = prefix_len is_blank bytes
+
+-- What stands first is a kind of token and its length, or a fault.
+abbrev pub First : Type 0
+First = Result (TokenKind × ℕ) LexFault
+
+
+-- the number that digits write, behind a `-` or not; none where it does not fit
+unfoldable pub number_of : List ℕ → Option ℤ
+number_of [] = None
+number_of (first ∷ rest) =
+    if is_minus first
+    then (if nat_le (digits_value 10 rest) (2 ^ 63) then Some (neg_ℤ (pos (digits_value 10 rest))) else None)
+    else (if nat_lt (digits_value 10 (first ∷ rest)) (2 ^ 63) then Some (pos (digits_value 10 (first ∷ rest))) else None)
+
+-- the length of the `-` at the front, and that of the number with it
+abbrev pub sign_len : List ℕ → ℕ
+sign_len bytes = if begins_with is_minus bytes then 1 else 0
+
+abbrev pub number_len : List ℕ → ℕ
+number_len bytes = sign_len bytes + digits_len (drop (sign_len bytes) bytes)
+
+-- digits, one or more, behind a `-` or not
+abbrev pub IsNumeral : List ℕ → Type 0
+IsNumeral bytes = (sign_len bytes < length bytes) × (list_all is_ascii_digit (drop (sign_len bytes) bytes) ≡ true)
+
+unfoldable pub number_first : ℕ → List ℕ → First
+number_first place bytes =
+    if number_len bytes == sign_len bytes then Err (faults.BadToken place) else (do
+      number ← ok_or (number_of (take (number_len bytes) bytes)) (faults.NumberTooLarge place)
+      if begins_with is_word_byte (drop (number_len bytes) bytes)
+        then Err (faults.BadToken (place + number_len bytes))
+        else Ok (kinds.Number number, number_len bytes))
+
+-- a closed text and its length, behind a front of n bytes that stand for `front`
+abbrev pub onto : List ℕ → ℕ → Option (List ℕ × ℕ) → Option (List ℕ × ℕ)
+onto front n closed = option_map (λ found. (front ++ found.0, n + found.1)) closed
+
+-- behind an opening quote: the text up to the closing one, and the length with that one
+unfoldable pub closing : List ℕ → Option (List ℕ × ℕ)
+closing [] = None
+closing (byte ∷ []) = if is_quote byte then Some ([], 1) else None
+closing (byte ∷ next ∷ rest) =
+    if is_quote byte
+    then (if is_quote next then onto (39 ∷ []) 2 (closing rest) else Some ([], 1))
+    else onto (byte ∷ []) 1 (closing (next ∷ rest))
+
+-- the text in quotes at the front, and its length with them
+unfoldable pub quoted_first : List ℕ → Option (List ℕ × ℕ)
+quoted_first [] = None
+quoted_first (byte ∷ rest) = if is_quote byte then onto [] 1 (closing rest) else None
+
+-- the n-th day, from the first one on
+abbrev pub nth_day : ℕ → ℤ
+nth_day n = negsuc 719161 +ℤ pos n
+
+-- the day that a text writes, among so many of them
+unfoldable pub day_among : ℕ → List ℕ → Option ℤ
+day_among zero text = None
+day_among (suc n) text = if bytes_eq text (day_text (nth_day n)) then Some (nth_day n) else day_among n text
+
+-- the day that a text writes as YYYY-MM-DD, among all
+unfoldable pub day_of : List ℕ → Option ℤ
+day_of text = day_among 3652059 text
+
+-- whether a word is DATE
+abbrev pub is_date : TokenKind → Bool
+is_date (kinds.Keyword KDate) = true
+is_date _ = false
+
+-- the day in quotes behind the word DATE, with the n bytes of the word and the blanks before it
+unfoldable pub day_first : ℕ → ℕ → List ℕ × ℕ → First
+day_first place n quoted = do
+  day ← ok_or (day_of quoted.0) (faults.BadDate place)
+  Ok (kinds.Day day, n + quoted.1)
+
+-- the token of the word DATE of n bytes, with what stands behind it
+unfoldable pub date_first : ℕ → ℕ → List ℕ → First
+date_first place n behind =
+    option_map_or (day_first place (n + blanks_len behind)) (quoted_first (drop (blanks_len behind) behind)) (Ok (kinds.Keyword KDate, n))
+
+unfoldable pub word_first : ℕ → List ℕ → First
+word_first place bytes = do
+  kind ← ok_or (word_kind (take (word_len bytes) bytes)) (faults.BadToken place)
+  if is_date kind then date_first place (word_len bytes) (drop (word_len bytes) bytes) else Ok (kind, word_len bytes)
+
+-- the longest sign at the front, and its length
+unfoldable pub sign_first : List ℕ → Option (Symbol × ℕ)
+sign_first bytes =
+    option_or (option_map (λ sign. (sign, length (take 2 bytes))) (sign_of (take 2 bytes)))
+        (option_map (λ sign. (sign, length (take 1 bytes))) (sign_of (take 1 bytes)))
+
+abbrev pub quoted_token : ℕ → List ℕ → First
+quoted_token place bytes = ok_or (quoted_first bytes) (faults.BadToken place) >>= λ found. Ok (kinds.Quoted found.0, found.1)
+
+abbrev pub sign_token : ℕ → List ℕ → First
+sign_token place bytes = ok_or (sign_first bytes) (faults.BadToken place) >>= λ found. Ok (kinds.Symbol found.0, found.1)
+
+-- what stands first in a text that begins with no blank
+unfoldable pub token_first : ℕ → List ℕ → First
+token_first place bytes =
+    if begins_with is_ascii_alphabetic bytes then word_first place bytes else
+    (if begins_with is_ascii_digit bytes || begins_with is_minus bytes then number_first place bytes else
+    (if begins_with is_quote bytes then quoted_token place bytes else sign_token place bytes))
+
+-- tokens in front of others
+abbrev pub with_front : List Token → Result (List Token) LexFault → Result (List Token) LexFault
+with_front tokens others = others >>= λ more. Ok (tokens ++ more)
+
+-- the tokens of what stands at a place, once so many bytes are passed over, or the first fault
+unfoldable pub tokens_from : ℕ → ℕ → List ℕ → Result (List Token) LexFault
+tokens_from place skip [] = Ok []
+tokens_from place (suc skip) (byte ∷ rest) = tokens_from (place + 1) skip rest
+tokens_from place zero (byte ∷ rest) =
+    if is_blank byte then tokens_from (place + 1) 0 rest else (do
+      found ← token_first place (byte ∷ rest)
+      with_front (record { kind = found.0; start = place; end = place + found.1 } ∷ []) (tokens_from (place + 1) (found.1 - 1) rest))
+
+-- the tokens of a whole text, or its first fault
+unfoldable pub outcome_of : List ℕ → Result (List Token) LexFault
+outcome_of text = tokens_from 0 0 text

@@ -1,0 +1,54 @@
+-- What is refused before the grammar is read: tokens that nest too deep, and words of SQL that it lacks.
+use Rattle.std.specs.Prelude.{ℕ, ◌+◌, Bool, true, false, ◌||◌, List, length, take, count_by, position, nat_lt, Option, Some, None, Result, Ok, Err, if◌then◌else◌}
+use Rattle.std.specs.List.{list_any, range_with_len}
+use Rattle.hippo_lexer.specs.declared.kinds.Keyword.TheVariants.{KNot}
+use Rattle.hippo_lexer.specs.declared.kinds.Symbol.TheVariants.{LeftParen, RightParen}
+use Rattle.hippo_lexer.specs.declared.kinds.TokenKind.TheVariants as kinds
+use Rattle.hippo_lexer.specs.declared.kinds.TokenKind.{TokenKind}
+use Rattle.hippo_lexer.specs.declared.kinds.Token.{Token}
+use Rattle.hippo_lexer.specs.declared.faults.SyntaxFault.{SyntaxFault}
+use Rattle.hippo_lexer.specs.declared.faults.SyntaxFault.TheVariants.{TooDeep, Unsupported}
+
+-- whether a token is `(`
+abbrev pub opens : TokenKind → Bool
+opens (kinds.Symbol LeftParen) = true
+opens _ = false
+
+-- whether a token is `)`
+abbrev pub closes : TokenKind → Bool
+closes (kinds.Symbol RightParen) = true
+closes _ = false
+
+-- whether a token is NOT
+abbrev pub negates : TokenKind → Bool
+negates (kinds.Keyword KNot) = true
+negates _ = false
+
+-- whether a token is a word of SQL that is refused
+abbrev pub is_unsupported : TokenKind → Bool
+is_unsupported (kinds.Unsupported _) = true
+is_unsupported _ = false
+
+-- how many tokens pass a test
+abbrev pub count_of : (TokenKind → Bool) → List Token → ℕ
+count_of test tokens = count_by (λ token. test token.kind) tokens
+
+-- whether `(` outnumbers `)` by more than 64
+abbrev pub is_steep : List Token → Bool
+is_steep tokens = nat_lt (count_of closes tokens + 64) (count_of opens tokens)
+
+-- whether some prefix of the tokens is such, or more than 64 tokens are NOT
+abbrev pub is_too_deep : List Token → Bool
+is_too_deep tokens =
+    list_any (λ n. is_steep (take n tokens)) (range_with_len 0 (length tokens + 1))
+    || nat_lt 64 (count_of negates tokens)
+
+-- the first refused word, as a fault
+abbrev pub support_of : Option ℕ → Result (Unit {0}) SyntaxFault
+support_of None = Ok tt
+support_of (Some place) = Err (Unsupported place)
+
+-- what the words of a statement are refused for: its depth, else its first refused word
+unfoldable pub words_check : List Token → Result (Unit {0}) SyntaxFault
+words_check tokens =
+    if is_too_deep tokens then Err TooDeep else support_of (position (λ token. is_unsupported token.kind) tokens)

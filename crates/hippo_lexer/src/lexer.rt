@@ -1,0 +1,52 @@
+//! Texts are cut into tokens.
+
+ghost use Rattle.std.specs.Prelude.{◌≡◌, ◌≤◌, ◌⊎◌, List, All, AllPairs, Result, IfOk, IfErr};
+ghost use Rattle.hippo_lexer.specs.declared.kinds.Token.{Token};
+ghost use Rattle.hippo_lexer.specs.declared.faults.LexFault.{LexFault};
+ghost use Rattle.hippo_lexer.specs.Grammar.{IsOutcome, IsOnlyOutcome, IsSpan};
+ghost use Rattle.hippo_lexer.specs.Reading.{Gives, outcome_of};
+
+use crate::faults::LexFault;
+use crate::kinds::{Token, Tokens};
+use crate::parts::{token_first, without_blanks};
+use hippo_values::Sequence;
+use std::alloc::Global;
+
+fn read_tokens(alloc: Global, text: &str) -> Result<Tokens, LexFault>
+    ensures { Gives result (outcome_of text.now) }
+{
+    let mut found = Sequence::new(alloc);
+    let mut rest = without_blanks(text);
+    while !rest.is_empty() {
+        let start = text.len() - rest.len();
+        let (kind, len) = token_first(alloc, start, rest)?;
+        found.push(Token {
+            kind,
+            start,
+            end: start + len,
+        })?;
+        rest = without_blanks(&rest[len..]);
+    }
+    Ok(found)
+}
+
+/// The tokens of a text with their places, each the longest that can stand there. `BadToken`, `NumberTooLarge` and
+/// `BadDate` have the place of the one fault that stands first; the other error is want of memory. The time is linear in
+/// the text.
+pub fn tokens(alloc: Global, text: &str) -> Result<Tokens, LexFault>
+    // By the grammar these are the text's tokens, or this is its first fault.
+    ensures found { IfOk result (λ tokens. IsOutcome text.now (Ok tokens)) }
+    ensures fault { IfErr result (λ fault. (fault ≡ LexFault.Memory) ⊎ IsOutcome text.now (Err fault)) }
+
+    // Whatever the text has is answered, unless memory runs out, and a text has one outcome.
+    ensures only { (outcome : Result (List Token) LexFault) → IsOutcome text.now outcome
+        → (result ≡ outcome) ⊎ (result ≡ Err LexFault.Memory) }
+    ensures one { IsOnlyOutcome text.now (outcome_of text.now) }
+    ensures exact { Gives result (outcome_of text.now) }
+
+    // Each token can be cut out of the text, and each later one stands behind it.
+    ensures spans { IfOk result (All (IsSpan text.now)) }
+    ensures order { IfOk result (AllPairs (λ a b. a.end ≤ b.start)) }
+{
+    read_tokens(alloc, text)
+}

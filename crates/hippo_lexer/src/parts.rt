@@ -1,0 +1,257 @@
+ghost use Rattle.std.specs.Prelude.{◌≡◌, ◌+◌, ◌<◌, ◌≤◌, ◌^◌, Bool, true, length, take, drop, [], IfOk, IfSome, IsTrue, IsCharBoundary};
+ghost use Rattle.std.specs.List.{prefix_len};
+ghost use Rattle.hippo_values.specs.Names.{is_word_byte, folded};
+ghost use Rattle.hippo_lexer.specs.Spelling.{is_blank, is_minus, begins_with};
+ghost use Rattle.hippo_lexer.specs.Reading.{Gives, word_kind, word_len, digits_len, blanks_len, sign_len, number_len, number_of, word_first, number_first, closing, quoted_first, sign_first, IsNumeral, day_of, day_first, is_date, date_first, quoted_token, sign_token, token_first};
+
+use crate::faults::LexFault;
+use crate::kinds::{Keyword, Symbol, TokenKind};
+use crate::tables::{keyword_of, sign_of};
+use hippo_values::{DayNumber, Memory, Name, Txt, is_unsupported_word, read_day};
+use std::alloc::Global;
+
+fn is_word_byte(byte: u8) -> bool
+    ensures { result ≡ is_word_byte byte }
+{
+    byte.is_ascii_alphanumeric() || byte == b'_'
+}
+
+fn is_blank(byte: u8) -> bool
+    ensures { result ≡ is_blank byte }
+{
+    byte == b' ' || byte == b'\t'
+}
+
+fn word_len(bytes: &[u8]) -> usize
+    ensures { result ≡ word_len bytes.now }
+{
+    bytes
+        .iter()
+        .take_while(|byte| is_word_byte(**byte))
+        .count()
+}
+
+fn digits_len(bytes: &[u8]) -> usize
+    ensures len { result ≡ digits_len bytes.now }
+    ensures within { result ≤ length bytes.now }
+{
+    bytes
+        .iter()
+        .take_while(|byte| byte.is_ascii_digit())
+        .count()
+}
+
+fn blanks_len(bytes: &[u8]) -> usize
+    ensures { result ≡ blanks_len bytes.now }
+{
+    bytes.iter().take_while(|byte| is_blank(**byte)).count()
+}
+
+fn folded(alloc: Global, word: &str) -> Result<Txt, Memory>
+    ensures { IfOk result (λ text. text ≡ folded word.now) }
+{
+    Ok(Txt::from_string(word.to_ascii_lowercase(alloc)?))
+}
+
+// What a word says; none where it is too long.
+#[tactic(auto, unfolding(crate::specs::Reading::word_kind))]
+fn word_kind(alloc: Global, word: &str) -> Result<Option<TokenKind>, Memory>
+    ensures { IfOk result (λ kind. kind ≡ word_kind word.now) }
+{
+    if let Some(keyword) = keyword_of(word) {
+        return Ok(Some(TokenKind::Keyword(keyword)));
+    }
+    if is_unsupported_word(word) {
+        return Ok(Some(TokenKind::Unsupported(folded(alloc, word)?)));
+    }
+    match Name::from_word(alloc, word)? {
+        Some(name) => Ok(Some(TokenKind::Word(name))),
+        None => Ok(None),
+    }
+}
+
+// The sign at the front, the longest one, and its length.
+#[tactic(auto, unfolding(crate::specs::Reading::sign_first))]
+fn sign_first(bytes: &[u8]) -> Option<(Symbol, usize)>
+    ensures { result ≡ sign_first bytes.now }
+{
+    let two = &bytes[..bytes.len().min(2)];
+    if let Some(sign) = sign_of(two) {
+        return Some((sign, two.len()));
+    }
+    let one = &bytes[..bytes.len().min(1)];
+    match sign_of(one) {
+        Some(sign) => Some((sign, one.len())),
+        None => None,
+    }
+}
+
+// Behind an opening quote: the text up to the closing one, and the length with that one.
+fn closing(alloc: Global, behind: &str) -> Result<Option<(Txt, usize)>, Memory>
+    ensures found { IfOk result (λ found. found ≡ closing behind.now) }
+    ensures within { IfOk result (λ found. IfSome found (λ quoted. quoted.1 ≤ length behind.now)) }
+{
+    let mut text = Txt::new(alloc);
+    let mut rest = behind;
+    while let Some((run, after)) = rest.split_once('\'') {
+        text.append(run)?;
+        match after.strip_prefix('\'') {
+            None => return Ok(Some((text, behind.len() - after.len()))),
+            Some(next) => {
+                text.append("'")?;
+                rest = next;
+            }
+        }
+    }
+    Ok(None)
+}
+
+// The text in quotes at the front, and its length with them.
+#[tactic(auto, unfolding(crate::specs::Reading::quoted_first))]
+fn quoted_first(alloc: Global, text: &str) -> Result<Option<(Txt, usize)>, Memory>
+    ensures found { IfOk result (λ found. found ≡ quoted_first text.now) }
+    ensures within { IfOk result (λ found. IfSome found (λ quoted. quoted.1 ≤ length text.now)) }
+{
+    match text.strip_prefix('\'') {
+        None => Ok(None),
+        Some(behind) => match closing(alloc, behind)? {
+            None => Ok(None),
+            Some((quoted, len)) => Ok(Some((quoted, 1 + len))),
+        },
+    }
+}
+
+fn begins_with_word_byte(bytes: &[u8]) -> bool
+    ensures { result ≡ begins_with is_word_byte bytes.now }
+{
+    match bytes {
+        [] => false,
+        [first, ..] => is_word_byte(*first),
+    }
+}
+
+fn sign_len(bytes: &[u8]) -> usize
+    ensures { result ≡ sign_len bytes.now }
+{
+    match bytes {
+        [b'-', ..] => 1,
+        _ => 0,
+    }
+}
+
+// The number that digits write, behind a `-` or not; none where it does not fit.
+fn number_of(text: &str) -> Option<i64>
+    requires { IsNumeral text.now }
+    ensures { result ≡ number_of text.now }
+{
+    text.parse::<i64>().ok()
+}
+
+// The length of the number at the front, with its `-`.
+fn number_len(bytes: &[u8]) -> usize
+    ensures { result ≡ number_len bytes.now }
+{
+    let sign = sign_len(bytes);
+    sign + digits_len(&bytes[sign..])
+}
+
+#[tactic(auto, unfolding(crate::specs::Reading::number_first))]
+fn number_first(place: usize, text: &str) -> Result<(TokenKind, usize), LexFault>
+    requires { place + length text.now < 2 ^ 64 }
+    ensures { Gives result (number_first place text.now) }
+{
+    let bytes = text.as_bytes();
+    let len = number_len(bytes);
+    if len == sign_len(bytes) {
+        return Err(LexFault::BadToken(place));
+    }
+    let (digits, behind) = text.split_at(len);
+    let number = number_of(digits).ok_or(LexFault::NumberTooLarge(place))?;
+    if begins_with_word_byte(behind.as_bytes()) {
+        return Err(LexFault::BadToken(place + len));
+    }
+    Ok((TokenKind::Number(number), len))
+}
+
+// The day that a text writes.
+fn day_of(text: &Txt) -> Option<DayNumber>
+    ensures { result ≡ day_of text.now }
+{
+    read_day(text.as_str())
+}
+
+#[tactic(auto, unfolding(crate::specs::Reading::day_first))]
+fn day_first(place: usize, len: usize, quoted: Txt, quoted_len: usize) -> Result<(TokenKind, usize), LexFault>
+    requires { len + quoted_len < 2 ^ 64 }
+    ensures { Gives result (day_first place len (quoted, quoted_len)) }
+{
+    let day = day_of(&quoted).ok_or(LexFault::BadDate(place))?;
+    Ok((TokenKind::Day(day), len + quoted_len))
+}
+
+fn is_date(kind: &TokenKind) -> bool
+    ensures { result ≡ is_date kind.now }
+{
+    matches!(kind, TokenKind::Keyword(Keyword::KDate))
+}
+
+#[tactic(auto, unfolding(crate::specs::Reading::date_first))]
+fn date_first(alloc: Global, place: usize, len: usize, behind: &str) -> Result<(TokenKind, usize), LexFault>
+    requires { len + length behind.now < 2 ^ 64 }
+    ensures { Gives result (date_first place len behind.now) }
+{
+    let blanks = blanks_len(behind.as_bytes());
+    match quoted_first(alloc, &behind[blanks..])? {
+        None => Ok((TokenKind::Keyword(Keyword::KDate), len)),
+        Some((quoted, quoted_len)) => day_first(place, len + blanks, quoted, quoted_len),
+    }
+}
+
+#[tactic(auto, unfolding(crate::specs::Reading::word_first))]
+fn word_first(alloc: Global, place: usize, text: &str) -> Result<(TokenKind, usize), LexFault>
+    ensures { Gives result (word_first place text.now) }
+{
+    let len = word_len(text.as_bytes());
+    let (word, behind) = text.split_at(len);
+    let kind = word_kind(alloc, word)?.ok_or(LexFault::BadToken(place))?;
+    if is_date(&kind) {
+        return date_first(alloc, place, len, behind);
+    }
+    Ok((kind, len))
+}
+
+fn quoted_token(alloc: Global, place: usize, text: &str) -> Result<(TokenKind, usize), LexFault>
+    ensures { Gives result (quoted_token place text.now) }
+{
+    let (quoted, len) = quoted_first(alloc, text)?.ok_or(LexFault::BadToken(place))?;
+    Ok((TokenKind::Quoted(quoted), len))
+}
+
+fn sign_token(place: usize, text: &str) -> Result<(TokenKind, usize), LexFault>
+    ensures { Gives result (sign_token place text.now) }
+{
+    let (sign, len) = sign_first(text.as_bytes()).ok_or(LexFault::BadToken(place))?;
+    Ok((TokenKind::Symbol(sign), len))
+}
+
+/// What stands first in a text that begins with no blank and stands at `place`: a kind of token and its length.
+#[tactic(auto, unfolding(crate::specs::Reading::token_first))]
+pub fn token_first(alloc: Global, place: usize, text: &str) -> Result<(TokenKind, usize), LexFault>
+    requires { place + length text.now < 2 ^ 64 }
+    ensures { Gives result (token_first place text.now) }
+{
+    match text.as_bytes() {
+        [b'a'..=b'z' | b'A'..=b'Z', ..] => word_first(alloc, place, text),
+        [b'0'..=b'9' | b'-', ..] => number_first(place, text),
+        [b'\'', ..] => quoted_token(alloc, place, text),
+        _ => sign_token(place, text),
+    }
+}
+
+/// What stands behind the blanks at the front.
+pub fn without_blanks(text: &str) -> &str
+    ensures rest { result.now ≡ drop (blanks_len text.now) text.now }
+    ensures within { length result.now ≤ length text.now }
+{
+    &text[blanks_len(text.as_bytes())..]
+}

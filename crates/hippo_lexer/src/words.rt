@@ -1,0 +1,77 @@
+ghost use Rattle.std.specs.Prelude.{◌≡◌, ◌+◌, length, take, nat_lt, position};
+ghost use Rattle.std.specs.List.{list_any, range_with_len};
+ghost use Rattle.hippo_lexer.specs.Words.{opens, closes, negates, is_unsupported, count_of, is_steep, is_too_deep, words_check};
+
+use crate::faults::SyntaxFault;
+use crate::kinds::{Keyword, Symbol, Token, TokenKind, Tokens};
+
+// How far `(` may outnumber `)`, and how many tokens may be NOT.
+const DEPTH_LIMIT: usize = 64;
+
+fn opens(kind: &TokenKind) -> bool
+    ensures { result ≡ opens kind.now }
+{
+    matches!(kind, TokenKind::Symbol(Symbol::LeftParen))
+}
+
+fn closes(kind: &TokenKind) -> bool
+    ensures { result ≡ closes kind.now }
+{
+    matches!(kind, TokenKind::Symbol(Symbol::RightParen))
+}
+
+fn negates(kind: &TokenKind) -> bool
+    ensures { result ≡ negates kind.now }
+{
+    matches!(kind, TokenKind::Keyword(Keyword::KNot))
+}
+
+fn is_unsupported(kind: &TokenKind) -> bool
+    ensures { result ≡ is_unsupported kind.now }
+{
+    matches!(kind, TokenKind::Unsupported(_))
+}
+
+fn nests_too_deep(tokens: &[Token]) -> bool
+    ensures { result ≡ list_any (λ n. is_steep (take n tokens.now)) (range_with_len 0 (length tokens.now + 1)) }
+{
+    let mut open: usize = 0;
+    let mut closed: usize = 0;
+    for token in tokens {
+        open += usize::from(opens(&token.kind));
+        closed += usize::from(closes(&token.kind));
+        if open > closed + DEPTH_LIMIT {
+            return true;
+        }
+    }
+    false
+}
+
+fn negates_too_often(tokens: &[Token]) -> bool
+    ensures { result ≡ nat_lt 64 (count_of negates tokens.now) }
+{
+    tokens.iter().filter(|token| negates(&token.kind)).count() > DEPTH_LIMIT
+}
+
+fn first_unsupported(tokens: &[Token]) -> Option<usize>
+    ensures { result ≡ position (λ token. is_unsupported token.kind) tokens.now }
+{
+    tokens.iter().position(|token| is_unsupported(&token.kind))
+}
+
+/// Whether the words of a statement are fit to be read: `TooDeep` where in some prefix of the tokens `(` outnumbers `)`
+/// by more than 64, or where more than 64 tokens are NOT; else `Unsupported` with the place of the first word of SQL
+/// that is refused. It takes no memory.
+#[tactic(auto, unfolding(crate::specs::Words::words_check))]
+pub fn check_words(tokens: &Tokens) -> Result<(), SyntaxFault>
+    ensures { result ≡ words_check tokens.now }
+{
+    let tokens = tokens.as_slice();
+    if nests_too_deep(tokens) || negates_too_often(tokens) {
+        return Err(SyntaxFault::TooDeep);
+    }
+    match first_unsupported(tokens) {
+        Some(place) => Err(SyntaxFault::Unsupported(place)),
+        None => Ok(()),
+    }
+}
