@@ -1,0 +1,71 @@
+-- What is found at the front of a list of tokens stands there.
+use Rattle.std.proofs.Common.{◌≡◌, ℕ, List, ◌∷◌, Option, Some, None, refl}
+use Rattle.std.proofs.lemmas.Option.{cond_some, none-some, some_pair_parts}
+use denote.Enum.Bare.{same_true}
+use Rattle.hippo_lexer.specs.contracts.kinds.Keyword as keywords
+use Rattle.hippo_lexer.specs.contracts.kinds.Symbol as symbols
+use Rattle.hippo_lexer.specs.declared.kinds.Keyword as words
+use Rattle.hippo_lexer.specs.declared.kinds.Symbol as signs
+use Rattle.hippo_lexer.specs.declared.kinds.TokenKind.{TokenKind}
+use Rattle.hippo_lexer.specs.declared.kinds.TokenKind.TheVariants.{Word, Keyword, Symbol}
+use Rattle.hippo_spj_reader.specs.Answers.{◌>>=◌, either}
+use Rattle.hippo_spj_reader.specs.Front.{after_keyword, after_symbol, same_keyword, same_symbol, name_at}
+
+-- what a step and the next found together, each of them found
+pub step : {A B P : Type 0} (found : Option A) (next : A → Option B) (y : B) → (found >>= next) ≡ Some y → ((x : A) → found ≡ Some x → next x ≡ Some y → P) → P
+step (Some x) next y e then = then x refl e
+step None next y e then = absurd (none-some y e)
+
+-- which of the two was found
+pub choice : {A B P : Type 0} (found : Option A) (one : A → Option B) (other y : Option B) → either found one other ≡ y →
+    ((x : A) → found ≡ Some x → one x ≡ y → P) → (found ≡ None → other ≡ y → P) → P
+choice (Some x) one other y e first second = first x refl e
+choice None one other y e first second = second refl e
+
+pub after_keyword-some : (keyword : words.Keyword) (tokens rest : List TokenKind) → after_keyword keyword tokens ≡ Some rest → tokens ≡ Keyword keyword ∷ rest
+after_keyword-some keyword (Keyword first ∷ behind) rest e =
+    let p = cond_some (same_keyword first keyword) behind rest e in
+    let same : first ≡ keyword = same_true keywords.the_type tt first keyword p.0 in
+    rw (same, p.1) refl
+after_keyword-some keyword _ rest e = absurd (none-some rest e)
+
+pub after_symbol-some : (symbol : signs.Symbol) (tokens rest : List TokenKind) → after_symbol symbol tokens ≡ Some rest → tokens ≡ Symbol symbol ∷ rest
+after_symbol-some symbol (Symbol first ∷ behind) rest e =
+    let p = cond_some (same_symbol first symbol) behind rest e in
+    let same : first ≡ symbol = same_true symbols.the_type tt first symbol p.0 in
+    rw (same, p.1) refl
+after_symbol-some symbol _ rest e = absurd (none-some rest e)
+
+pub name_at-some : (tokens rest : List TokenKind) (name : List ℕ) → name_at tokens ≡ Some (name, rest) → tokens ≡ Word name ∷ rest
+name_at-some (Word first ∷ behind) rest name e = let p = some_pair_parts first name behind rest e in rw (p.0, p.1) refl
+name_at-some _ rest name e = absurd (none-some _ e)
+
+-- the same, where the step is one over a keyword, a symbol or a name
+pub keyword_step : {B P : Type 0} (keyword : words.Keyword) (tokens : List TokenKind) (next : List TokenKind → Option B) (y : B) → (after_keyword keyword tokens >>= next) ≡ Some y →
+    ((rest : List TokenKind) → tokens ≡ Keyword keyword ∷ rest → next rest ≡ Some y → P) → P
+keyword_step keyword tokens next y e then = step (after_keyword keyword tokens) next y e (λ rest found. then rest (after_keyword-some keyword tokens rest found))
+
+pub symbol_step : {B P : Type 0} (symbol : signs.Symbol) (tokens : List TokenKind) (next : List TokenKind → Option B) (y : B) → (after_symbol symbol tokens >>= next) ≡ Some y →
+    ((rest : List TokenKind) → tokens ≡ Symbol symbol ∷ rest → next rest ≡ Some y → P) → P
+symbol_step symbol tokens next y e then = step (after_symbol symbol tokens) next y e (λ rest found. then rest (after_symbol-some symbol tokens rest found))
+
+pub name_step : {B P : Type 0} (tokens : List TokenKind) (next : List ℕ × List TokenKind → Option B) (y : B) → (name_at tokens >>= next) ≡ Some y →
+    ((name : List ℕ) (rest : List TokenKind) → tokens ≡ Word name ∷ rest → next (name, rest) ≡ Some y → P) → P
+name_step tokens next y e then = step (name_at tokens) next y e (λ x found. then x.0 x.1 (name_at-some tokens x.1 x.0 found))
+
+pub keyword_choice : {B P : Type 0} (keyword : words.Keyword) (tokens : List TokenKind) (one : List TokenKind → Option B) (other y : Option B) → either (after_keyword keyword tokens) one other ≡ y →
+    ((rest : List TokenKind) → tokens ≡ Keyword keyword ∷ rest → one rest ≡ y → P) → (after_keyword keyword tokens ≡ None → other ≡ y → P) → P
+keyword_choice keyword tokens one other y e first second =
+    choice (after_keyword keyword tokens) one other y e (λ rest found. first rest (after_keyword-some keyword tokens rest found)) second
+
+pub symbol_choice : {B P : Type 0} (symbol : signs.Symbol) (tokens : List TokenKind) (one : List TokenKind → Option B) (other y : Option B) → either (after_symbol symbol tokens) one other ≡ y →
+    ((rest : List TokenKind) → tokens ≡ Symbol symbol ∷ rest → one rest ≡ y → P) → (after_symbol symbol tokens ≡ None → other ≡ y → P) → P
+symbol_choice symbol tokens one other y e first second =
+    choice (after_symbol symbol tokens) one other y e (λ rest found. first rest (after_symbol-some symbol tokens rest found)) second
+
+-- what was found is the reading and the rest that are asked for
+pub read_as : {X : Type 0} (IsPart : List TokenKind → X → List TokenKind → Type 0) (tokens rest' rest : List TokenKind) (part' part : X) →
+    ◌≡◌ {A = Option (X × List TokenKind)} (Some (part', rest')) (Some (part, rest)) → IsPart tokens part' rest' → IsPart tokens part rest
+read_as IsPart tokens rest' rest part' part e is_part =
+    let whole = some_pair_parts part' part rest' rest e in
+    rw (← whole.0, ← whole.1) is_part

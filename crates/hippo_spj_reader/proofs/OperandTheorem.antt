@@ -1,0 +1,128 @@
+-- The operand that is found is the one of the grammar.
+use Rattle.std.proofs.Common.{◌≡◌, ◌<◌, List, ◌∷◌, length, Bool, true, false, if◌then◌else◌, Some, None, refl, ap, arith}
+use Rattle.std.proofs.lemmas.Option.{cond_some, none-some, same_Some, some_pair_parts}
+use denote.Enum.Bare.{same_true}
+use Rattle.hippo_values.specs.declared.values.Value.{Value}
+use Rattle.hippo_values.specs.declared.values.Value.TheVariants as value
+use Rattle.hippo_values.specs.declared.truths.CompareOp.{CompareOp}
+use Rattle.hippo_model.specs.declared.statement.RawColumn.{RawColumn}
+use Rattle.hippo_model.specs.declared.statement.RawOperand.{RawOperand}
+use Rattle.hippo_model.specs.declared.statement.RawOperand.TheVariants.{Column, Literal}
+use Rattle.hippo_lexer.specs.contracts.kinds.Keyword as keywords
+use Rattle.hippo_lexer.specs.declared.kinds.Keyword.TheVariants.{KNull, KNot}
+use Rattle.hippo_lexer.specs.declared.kinds.Symbol as signs
+use Rattle.hippo_lexer.specs.declared.kinds.Symbol.TheVariants.{Dot, LeftParen, Equal, NotEqual, Less, LessEqual, Greater, GreaterEqual}
+use Rattle.hippo_lexer.specs.declared.kinds.TokenKind.{TokenKind}
+use Rattle.hippo_lexer.specs.declared.kinds.TokenKind.TheVariants.{Keyword, Number, Quoted, Day, Symbol}
+use Rattle.hippo_spj_reader.specs.Answers.{◌>>=◌}
+use Rattle.hippo_spj_reader.specs.Front.{after_keyword, after_symbol, same_keyword, literal_at}
+use Rattle.hippo_spj_reader.specs.Conditions.{IsColumn, bare, qualified, IsLiteral, number, quoted, day, null, IsOperand, column, literal, IsOperator, equal, not_equal, less, less_equal, greater, greater_equal}
+use Rattle.hippo_spj_reader.specs.Finding.{column_at, begins_with_name, operand_at, operator_of, operator_at}
+use Rattle.hippo_spj_reader.proofs.FrontTheorem.{step, name_step, symbol_choice, read_as}
+
+pub column_found : (tokens : List TokenKind) (c : RawColumn) (rest : List TokenKind) → column_at tokens ≡ Some (c, rest) → IsColumn tokens c rest
+column_found tokens c rest e =
+    name_step tokens _ _ e (λ first behind is_name e.
+    symbol_choice Dot behind _ _ _ e
+    (λ after is_dot e. name_step after _ _ e (λ second left is_column e. rw (is_name, is_dot, is_column) (read_as IsColumn _ _ _ _ _ e qualified)))
+    (λ none e. rw is_name (read_as IsColumn _ _ _ _ _ e bare)))
+
+pub literal_found : (tokens : List TokenKind) (v : Value) (rest : List TokenKind) → literal_at tokens ≡ Some (v, rest) → IsLiteral tokens v rest
+literal_found (Number n ∷ behind) v rest e = read_as IsLiteral _ _ _ _ _ e number
+literal_found (Quoted text ∷ behind) v rest e = read_as IsLiteral _ _ _ _ _ e quoted
+literal_found (Day d ∷ behind) v rest e = read_as IsLiteral _ _ _ _ _ e day
+literal_found (Keyword keyword ∷ behind) v rest e =
+    let p = cond_some (same_keyword keyword KNull) (value.Null, behind) (v, rest) e in
+    let same : keyword ≡ KNull = same_true keywords.the_type tt keyword KNull p.0 in
+    rw same (read_as IsLiteral _ _ _ _ _ (ap Some p.1) null)
+literal_found _ v rest e = absurd (none-some _ e)
+
+operand_found-by : (begins : Bool) (tokens : List TokenKind) (o : RawOperand) (rest : List TokenKind) →
+    (if begins then ◌>>=◌ {B = RawOperand × List TokenKind} (column_at tokens) (λ found. Some (Column found.0, found.1)) else ◌>>=◌ {B = RawOperand × List TokenKind} (literal_at tokens) (λ found. Some (Literal found.0, found.1))) ≡ Some (o, rest) → IsOperand tokens o rest
+operand_found-by true tokens o rest e = step (column_at tokens) _ _ e (λ x found e. read_as IsOperand tokens _ _ _ _ e (column (column_found tokens x.0 x.1 found)))
+operand_found-by false tokens o rest e = step (literal_at tokens) _ _ e (λ x found e. read_as IsOperand tokens _ _ _ _ e (literal (literal_found tokens x.0 x.1 found)))
+
+pub operand_found : (tokens : List TokenKind) (o : RawOperand) (rest : List TokenKind) → operand_at tokens ≡ Some (o, rest) → IsOperand tokens o rest
+operand_found tokens o rest e = operand_found-by (begins_with_name tokens) tokens o rest e
+
+operator_of-found : (sign : signs.Symbol) (op : CompareOp) → operator_of sign ≡ Some op → IsOperator sign op
+operator_of-found Equal op e = rw (← same_Some _ op e) equal
+operator_of-found NotEqual op e = rw (← same_Some _ op e) not_equal
+operator_of-found Less op e = rw (← same_Some _ op e) less
+operator_of-found LessEqual op e = rw (← same_Some _ op e) less_equal
+operator_of-found Greater op e = rw (← same_Some _ op e) greater
+operator_of-found GreaterEqual op e = rw (← same_Some _ op e) greater_equal
+operator_of-found _ op e = absurd (none-some op e)
+
+pub operator_step : {P : Type 0} (tokens : List TokenKind) (op : CompareOp) (rest : List TokenKind) → operator_at tokens ≡ Some (op, rest) →
+    ((sign : signs.Symbol) → tokens ≡ Symbol sign ∷ rest → IsOperator sign op → P) → P
+operator_step (Symbol sign ∷ behind) op rest e next = step (operator_of sign) _ _ e (λ found is e.
+    let whole = some_pair_parts found op behind rest e in
+    next sign (ap (λ (left : List TokenKind). Symbol sign ∷ left) whole.1) (rw whole.0 at (operator_of-found sign found is)))
+operator_step _ op rest e next = absurd (none-some _ e)
+
+pub column_complete : (tokens : List TokenKind) (c : RawColumn) (rest : List TokenKind) → IsColumn tokens c rest → after_symbol Dot rest ≡ None → column_at tokens ≡ Some (c, rest)
+column_complete tokens c rest bare ended = rw ended refl
+column_complete tokens c rest qualified ended = refl
+
+pub literal_complete : (tokens : List TokenKind) (v : Value) (rest : List TokenKind) → IsLiteral tokens v rest → literal_at tokens ≡ Some (v, rest)
+literal_complete tokens v rest number = refl
+literal_complete tokens v rest quoted = refl
+literal_complete tokens v rest day = refl
+literal_complete tokens v rest null = refl
+
+pub operand_complete : (tokens : List TokenKind) (o : RawOperand) (rest : List TokenKind) → IsOperand tokens o rest → after_symbol Dot rest ≡ None → operand_at tokens ≡ Some (o, rest)
+operand_complete tokens o rest (column bare) ended = rw ended refl
+operand_complete tokens o rest (column qualified) ended = refl
+operand_complete tokens o rest (literal number) ended = refl
+operand_complete tokens o rest (literal quoted) ended = refl
+operand_complete tokens o rest (literal day) ended = refl
+operand_complete tokens o rest (literal null) ended = refl
+
+pub operator_complete : (sign : signs.Symbol) (op : CompareOp) → IsOperator sign op → operator_of sign ≡ Some op
+operator_complete sign op equal = refl
+operator_complete sign op not_equal = refl
+operator_complete sign op less = refl
+operator_complete sign op less_equal = refl
+operator_complete sign op greater = refl
+operator_complete sign op greater_equal = refl
+
+pub column_shorter : (tokens : List TokenKind) (c : RawColumn) (rest : List TokenKind) → IsColumn tokens c rest → length rest < length tokens
+column_shorter tokens c rest bare = omega arith
+column_shorter tokens c rest qualified = omega arith
+
+pub literal_shorter : (tokens : List TokenKind) (v : Value) (rest : List TokenKind) → IsLiteral tokens v rest → length rest < length tokens
+literal_shorter tokens v rest number = omega arith
+literal_shorter tokens v rest quoted = omega arith
+literal_shorter tokens v rest day = omega arith
+literal_shorter tokens v rest null = omega arith
+
+pub operand_shorter : (tokens : List TokenKind) (o : RawOperand) (rest : List TokenKind) → IsOperand tokens o rest → length rest < length tokens
+operand_shorter tokens o rest (column c) = column_shorter tokens _ rest c
+operand_shorter tokens o rest (literal l) = literal_shorter tokens _ rest l
+
+-- an operand begins neither with a parenthesis nor with NOT
+pub no_parenthesis : (tokens : List TokenKind) (o : RawOperand) (rest : List TokenKind) → IsOperand tokens o rest → after_symbol LeftParen tokens ≡ None
+no_parenthesis tokens o rest (column bare) = refl
+no_parenthesis tokens o rest (column qualified) = refl
+no_parenthesis tokens o rest (literal number) = refl
+no_parenthesis tokens o rest (literal quoted) = refl
+no_parenthesis tokens o rest (literal day) = refl
+no_parenthesis tokens o rest (literal null) = refl
+
+pub no_not : (tokens : List TokenKind) (o : RawOperand) (rest : List TokenKind) → IsOperand tokens o rest → after_keyword KNot tokens ≡ None
+no_not tokens o rest (column bare) = refl
+no_not tokens o rest (column qualified) = refl
+no_not tokens o rest (literal number) = refl
+no_not tokens o rest (literal quoted) = refl
+no_not tokens o rest (literal day) = refl
+no_not tokens o rest (literal null) = refl
+
+-- no operator is a dot
+pub no_operator-dot : (sign : signs.Symbol) (op : CompareOp) (rest : List TokenKind) → IsOperator sign op → after_symbol Dot (Symbol sign ∷ rest) ≡ None
+no_operator-dot sign op rest equal = refl
+no_operator-dot sign op rest not_equal = refl
+no_operator-dot sign op rest less = refl
+no_operator-dot sign op rest less_equal = refl
+no_operator-dot sign op rest greater = refl
+no_operator-dot sign op rest greater_equal = refl

@@ -1,0 +1,60 @@
+-- The first part begins the list; each further part is the next of it.
+use Rattle.std.proofs.Common.{◌≡◌, ℕ, zero, suc, ◌<◌, ◌≤◌, length, None, Some, Result, List, Bor, arith, sym}
+use Rattle.std.proofs.lemmas.Result.{err_from_is_err_and}
+use Rattle.hippo_lexer.specs.declared.faults.SyntaxFault.{SyntaxFault}
+use Rattle.hippo_lexer.specs.declared.kinds.Keyword.TheVariants.{KAnd, KNot, KOr}
+use Rattle.hippo_lexer.specs.declared.kinds.Token.{Token}
+use Rattle.hippo_spj_reader.specs.Answers.{Gives}
+use Rattle.hippo_spj_reader.specs.Conditions.{RawCond, any_of, all_of}
+use Rattle.hippo_spj_reader.specs.Front.{kinds, after_keyword}
+use Rattle.hippo_spj_reader.specs.Finding.{conjunction_with, primary_with, negation_at}
+use Rattle.hippo_spj_reader.proofs.ListSteps.{begins, goes_on, breaks}
+use Rattle.hippo_spj_reader.proofs.conditions.+condition.Goals as goal
+
+pub conjunction-loop-behind-init : goal.conjunction-loop-behind-init
+conjunction-loop-behind-init t c = record {
+  shorter = c.in_ok-first.ensures.shorter;
+  so_far = λ n enough. begins (negation_at n) (after_keyword KAnd) c.args.tokens.now c.in_ok-first.rest.now c.in_ok-first.first _ _ (c.in_ok-first.ensures.found n enough) c.in_ok-first.ensures.shorter c.new-parts.ensures c.in_ok-push.ensures.ok;
+}
+
+pub conjunction-loop-behind-preserved : goal.conjunction-loop-behind-preserved
+conjunction-loop-behind-preserved t c = record {
+  shorter = omega (arith, c.in_ok-part.ensures.shorter, c.in-Some.ensures.shorter);
+  so_far = λ n enough. goes_on (negation_at n) (after_keyword KAnd) c.loop-behind.parts _ c.loop-behind.rest.now c.in-Some.behind.now c.in_ok-part.left.now c.in_ok-part.part
+      (c.loop-behind.invariant.so_far n enough) c.in-Some.ensures.rest (c.in_ok-part.ensures.found n (omega (arith, c.in-Some.ensures.shorter))) c.in_ok-part.ensures.shorter c.in-Some.ensures.shorter c.in_ok-push-2.ensures.ok;
+}
+
+pub conjunction-returns-in_err-part-clause-found : goal.conjunction-returns-in_err-part-clause-found
+conjunction-returns-in_err-part-clause-found t c n enough =
+    let p = err_from_is_err_and c.from_residual-in_err-part.result c.from_residual-in_err-part.ensures.1 in
+    rw (p.1, p.2) (breaks (negation_at n) (after_keyword KAnd) (λ parts. Some (all_of parts.0, parts.1)) _ c.loop-behind.parts c.loop-behind.rest.now c.in-Some.behind.now
+    (c.loop-behind.invariant.so_far n enough) c.in-Some.ensures.rest (c.in_err-part.ensures.found n (omega (arith, c.in-Some.ensures.shorter))))
+
+pub disjunction-loop-behind-init : goal.disjunction-loop-behind-init
+disjunction-loop-behind-init t c = record {
+  shorter = c.in_ok-first.ensures.shorter;
+  so_far = λ n enough. begins (conjunction_with (negation_at n)) (after_keyword KOr) c.args.tokens.now c.in_ok-first.rest.now c.in_ok-first.first _ _ (c.in_ok-first.ensures.found n enough) c.in_ok-first.ensures.shorter c.new-parts.ensures c.in_ok-push.ensures.ok;
+}
+
+pub disjunction-loop-behind-preserved : goal.disjunction-loop-behind-preserved
+disjunction-loop-behind-preserved t c = record {
+  shorter = omega (arith, c.in_ok-part.ensures.shorter, c.in-Some.ensures.shorter);
+  so_far = λ n enough. goes_on (conjunction_with (negation_at n)) (after_keyword KOr) c.loop-behind.parts _ c.loop-behind.rest.now c.in-Some.behind.now c.in_ok-part.left.now c.in_ok-part.part
+      (c.loop-behind.invariant.so_far n enough) c.in-Some.ensures.rest (c.in_ok-part.ensures.found n (omega (arith, c.in-Some.ensures.shorter))) c.in_ok-part.ensures.shorter c.in-Some.ensures.shorter c.in_ok-push-2.ensures.ok;
+}
+
+pub disjunction-returns-in_err-part-clause-found : goal.disjunction-returns-in_err-part-clause-found
+disjunction-returns-in_err-part-clause-found t c n enough =
+    let p = err_from_is_err_and c.from_residual-in_err-part.result c.from_residual-in_err-part.ensures.1 in
+    rw (p.1, p.2) (breaks (conjunction_with (negation_at n)) (after_keyword KOr) (λ parts. Some (any_of parts.0, parts.1)) _ c.loop-behind.parts c.loop-behind.rest.now c.in-Some.behind.now
+    (c.loop-behind.invariant.so_far n enough) c.in-Some.ensures.rest (c.in_err-part.ensures.found n (omega (arith, c.in-Some.ensures.shorter))))
+
+-- where no NOT stands first, a negation is a primary
+plain : (result : Result (RawCond × Bor (List Token)) SyntaxFault) (tokens : List Token) (n : ℕ) → length tokens < n → None ≡ after_keyword KNot (kinds tokens) →
+    ((m : ℕ) → length tokens ≤ m → Gives (λ x. (x.0, kinds x.1.now)) result (primary_with (negation_at m) (kinds tokens))) →
+    Gives (λ x. (x.0, kinds x.1.now)) result (negation_at n (kinds tokens))
+plain result tokens zero enough none found = absurd (omega arith)
+plain result tokens (suc m) enough none found = rw (sym none) (found m (omega arith))
+
+pub negation-returns-clause-found : goal.negation-returns-clause-found
+negation-returns-clause-found t c n enough = plain c.primary.result c.args.tokens.now n enough c.in_default.ensures.rest c.primary.ensures.found

@@ -1,0 +1,39 @@
+-- Each reader of the cycle takes what is read by the next after it; the parts so far and the list that is left make the
+-- whole list.
+use Rattle.std.proofs.Common.{ℕ, ◌+◌, ◌*◌, ◌<◌, length}
+use Rattle.hippo_lexer.specs.declared.kinds.Keyword.TheVariants.{KAnd, KOr}
+use Rattle.hippo_spj_reader.specs.Front.{kinds, after_keyword}
+use Rattle.hippo_spj_reader.specs.Lists.{list_at}
+use Rattle.hippo_spj_reader.specs.Finding.{conjunction_with, negation_at}
+use Rattle.hippo_spj_reader.proofs.ListSteps.{Continues}
+use Rattle.hippo_spj_reader.proofs.conditions.+condition.Given as goal
+
+abbrev pub decreases-disjunction : goal.decreases-disjunction
+decreases-disjunction l = 4 * length l.tokens.now + 3
+
+abbrev pub decreases-conjunction : goal.decreases-conjunction
+decreases-conjunction l = 4 * length l.tokens.now + 2
+
+abbrev pub decreases-negation : goal.decreases-negation
+decreases-negation l = 4 * length l.tokens.now + 1
+
+abbrev pub decreases-primary : goal.decreases-primary
+decreases-primary l = 4 * length l.tokens.now
+
+abbrev pub invariant-conjunction-loop-behind : goal.invariant-conjunction-loop-behind
+invariant-conjunction-loop-behind l = record {
+  shorter : length l.rest < length l.fn.tokens;
+  so_far : ((n : ℕ) → length l.fn.tokens < n → Continues (negation_at n) (after_keyword KAnd) (list_at (negation_at n) (after_keyword KAnd) (kinds l.fn.tokens)) l.parts l.rest);
+}
+
+abbrev pub decreases-conjunction-loop-behind : goal.decreases-conjunction-loop-behind
+decreases-conjunction-loop-behind l = length l.rest
+
+abbrev pub invariant-disjunction-loop-behind : goal.invariant-disjunction-loop-behind
+invariant-disjunction-loop-behind l = record {
+  shorter : length l.rest < length l.fn.tokens;
+  so_far : ((n : ℕ) → length l.fn.tokens < n → Continues (conjunction_with (negation_at n)) (after_keyword KOr) (list_at (conjunction_with (negation_at n)) (after_keyword KOr) (kinds l.fn.tokens)) l.parts l.rest);
+}
+
+abbrev pub decreases-disjunction-loop-behind : goal.decreases-disjunction-loop-behind
+decreases-disjunction-loop-behind l = length l.rest

@@ -1,0 +1,12 @@
+-- NOT and parentheses are no deeper than there are tokens.
+use Rattle.std.proofs.Common.{suc, length, arith}
+use Rattle.std.proofs.lemmas.List.{length-map}
+use Rattle.hippo_lexer.specs.declared.kinds.Token.{Token}
+use Rattle.hippo_spj_reader.specs.Finding.{condition_at}
+use Rattle.hippo_spj_reader.specs.Front.{kinds}
+use Rattle.hippo_spj_reader.proofs.conditions.condition.Goals as goal
+
+pub returns-clause-found : goal.returns-clause-found
+unfolding condition_at
+returns-clause-found c =
+    c.disjunction.ensures.found (suc (length (kinds c.args.tokens.now))) (omega (arith, length-map c.args.tokens.now (λ (token : Token). token.kind)))

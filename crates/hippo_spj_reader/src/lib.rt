@@ -1,0 +1,12 @@
+//! Reads conditions and selects from the tokens of a statement, and the lists that stand in it.
+#![tactic(auto)]
+
+mod conditions;
+mod front;
+mod lists;
+mod selects;
+
+pub use conditions::{column, condition, read_condition};
+pub use front::{after_keyword, after_symbol, expect_keyword, expect_symbol, literal, name, split};
+pub use lists::{Listed, NameList, list};
+pub use selects::{after_where, read_select, select, whole_condition};
