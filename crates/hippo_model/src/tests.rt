@@ -1,0 +1,222 @@
+use crate::{
+    Act, Audit, Cells, Combo, CondOf, Entry, Flag, History, Operand, Pair, Places, Query, Ref,
+    RowSet, Sets, SharedRow, StoredEntry,
+};
+use hippo_values::{Boxed, Duplicate, Memory, Moment, Name, Sequence, Txt, Value};
+use std::alloc::Global;
+use std::test::Fail;
+
+fn row(alloc: Global, note: &str, room: i64, site: &str) -> Result<Cells, Memory> {
+    let mut row = Sequence::new(alloc);
+    row.push(Value::Text(Txt::from_str(alloc, note)?))?;
+    row.push(Value::Int(room))?;
+    row.push(Value::Text(Txt::from_str(alloc, site)?))?;
+    Ok(row)
+}
+
+fn key(alloc: Global, site: &str, room: i64) -> Result<Cells, Memory> {
+    let mut key = Sequence::new(alloc);
+    key.push(Value::Text(Txt::from_str(alloc, site)?))?;
+    key.push(Value::Int(room))?;
+    Ok(key)
+}
+
+// A key of the third column and the second.
+fn site_and_room(alloc: Global) -> Result<Places, Memory> {
+    let mut places = Sequence::new(alloc);
+    places.push(2)?;
+    places.push(1)?;
+    Ok(places)
+}
+
+fn moment(seconds: i64) -> Moment {
+    Moment::new(seconds).unwrap_or(Moment::new(0).unwrap())
+}
+
+#[test]
+fn rows_stand_in_the_order_of_their_keys(rt: HostRuntime) -> Result<(), Fail> {
+    let alloc = rt.alloc();
+    let mut set = RowSet::new(alloc, site_and_room(alloc)?);
+    assert!(rt; set.is_empty());
+    for (note, room, site, born) in [
+        ("old", 2, "b", 10),
+        ("only", 1, "b", 11),
+        ("low", -1, "c", 12),
+        ("gone", 7, "a", 13),
+        ("new", 2, "b", 14),
+    ] {
+        set.put(row(alloc, note, room, site)?, moment(born))?;
+    }
+    set.take(&key(alloc, "a", 7)?);
+    set.take(&key(alloc, "a", 8)?);
+    assert_eq!(rt; set.len(), 3);
+    assert_eq!(rt; set.find(&key(alloc, "b", 3)?), None);
+    assert_eq!(rt; set.find(&key(alloc, "a", 7)?), None);
+    let wanted = [
+        ("only", 1, "b", 11),
+        ("new", 2, "b", 14),
+        ("low", -1, "c", 12),
+    ];
+    for (place, (note, room, site, born)) in wanted.into_iter().enumerate() {
+        assert_eq!(rt; set.find(&key(alloc, site, room)?), Some(place), "{note}");
+        assert!(rt; place < set.len());
+        assert_eq!(rt; set.row(place), &row(alloc, note, room, site)?, "{note}");
+        assert_eq!(rt; set.born(place), moment(born), "{note}");
+    }
+    Ok(())
+}
+
+#[test]
+fn rows_are_lent_to_a_combination(rt: HostRuntime) -> Result<(), Fail> {
+    let alloc = rt.alloc();
+    let mut set = RowSet::new(alloc, site_and_room(alloc)?);
+    set.put(row(alloc, "only", 1, "b")?, moment(11))?;
+    let mut sets = Sets::new(alloc);
+    sets.push(&set)?;
+    assert_eq!(rt; sets.len(), 1);
+    let mut combo = Combo::new(alloc);
+    let only = sets.get(0);
+    assert!(rt; only.len() == 1);
+    combo.push(only.row(0), only.born(0))?;
+    assert_eq!(rt; combo.len(), 1);
+    assert_eq!(rt; combo.row(0), &row(alloc, "only", 1, "b")?);
+    assert_eq!(rt; combo.born(0), moment(11));
+    combo.pop();
+    assert!(rt; combo.is_empty());
+    Ok(())
+}
+
+fn name(alloc: Global, word: &str) -> Result<Name, Memory> {
+    match Name::from_word(alloc, word)? {
+        Some(name) => Ok(name),
+        None => Err(Memory),
+    }
+}
+
+fn room() -> Operand {
+    Operand::Column(Ref {
+        table: 0,
+        column: 1,
+    })
+}
+
+fn either_part(alloc: Global) -> Result<CondOf<Operand>, Memory> {
+    let mut list = Sequence::new(alloc);
+    list.push(Operand::Literal(Value::Int(3)))?;
+    let value = room();
+    let mut parts = Sequence::new(alloc);
+    parts.push(CondOf::Among { value, list })?;
+    Ok(CondOf::Any(parts))
+}
+
+fn not_part(alloc: Global) -> Result<CondOf<Operand>, Memory> {
+    let missing = CondOf::Missing { value: room() };
+    Ok(CondOf::Not(Boxed::new(alloc, missing)?))
+}
+
+fn query(alloc: Global) -> Result<Query, Memory> {
+    let mut parts = Sequence::new(alloc);
+    parts.push(either_part(alloc)?)?;
+    parts.push(not_part(alloc)?)?;
+    Ok(Query {
+        items: Sequence::new(alloc),
+        tables: Sequence::new(alloc),
+        cond: CondOf::All(parts),
+    })
+}
+
+fn audit(alloc: Global) -> Result<Audit, Memory> {
+    let cond = not_part(alloc)?;
+    Ok(Audit {
+        from: moment(1),
+        to: moment(2),
+        exempt: Sequence::new(alloc),
+        shown: false,
+        columns: Sequence::new(alloc),
+        tables: Sequence::new(alloc),
+        cond,
+    })
+}
+
+fn pair(alloc: Global) -> Result<Pair, Memory> {
+    let purpose = name(alloc, "treatment")?;
+    let recipient = name(alloc, "nurse")?;
+    Ok(Pair { purpose, recipient })
+}
+
+fn flag(alloc: Global) -> Result<Flag, Memory> {
+    let user = name(alloc, "ann")?;
+    let pair = pair(alloc)?;
+    Ok(Flag {
+        seq: 9,
+        moment: moment(3),
+        user,
+        pair,
+        shared: Sequence::new(alloc),
+    })
+}
+
+fn history(alloc: Global) -> Result<History, Memory> {
+    let table = name(alloc, "ward")?;
+    let row = row(alloc, "only", 1, "b")?;
+    let mut history = Sequence::new(alloc);
+    history.push(Entry {
+        seq: 1,
+        moment: moment(4),
+        act: Act::Insert { table, row },
+    })?;
+    Ok(history)
+}
+
+fn stored(alloc: Global) -> Result<StoredEntry, Memory> {
+    let table = Txt::from_str(alloc, "ward")?;
+    let body = Sequence::from_vec(vec![in alloc; 1, 2, 3]?);
+    Ok(StoredEntry {
+        seq: 10,
+        moment: 4,
+        kind: 2,
+        table,
+        body,
+    })
+}
+
+fn query_is_copied(alloc: Global) -> Result<bool, Memory> {
+    let source = query(alloc)?;
+    let copy = source.copy(alloc)?;
+    Ok(copy == source)
+}
+
+fn audit_is_copied(alloc: Global) -> Result<bool, Memory> {
+    let source = audit(alloc)?;
+    let copy = source.copy(alloc)?;
+    Ok(copy == source)
+}
+
+fn flag_is_copied(alloc: Global) -> Result<bool, Memory> {
+    let source = flag(alloc)?;
+    let copy = source.copy(alloc)?;
+    Ok(copy == source)
+}
+
+fn history_is_copied(alloc: Global) -> Result<bool, Memory> {
+    let source = history(alloc)?;
+    let copy = source.copy(alloc)?;
+    Ok(copy == source)
+}
+
+fn stored_is_copied(alloc: Global) -> Result<bool, Memory> {
+    let source = stored(alloc)?;
+    let copy = source.copy(alloc)?;
+    Ok(copy == source)
+}
+
+#[test]
+fn copies_equal_their_sources(rt: HostRuntime) -> Result<(), Fail> {
+    let alloc = rt.alloc();
+    assert!(rt; query_is_copied(alloc)?);
+    assert!(rt; audit_is_copied(alloc)?);
+    assert!(rt; flag_is_copied(alloc)?);
+    assert!(rt; history_is_copied(alloc)?);
+    assert!(rt; stored_is_copied(alloc)?);
+    Ok(())
+}
