@@ -1,6 +1,7 @@
 -- The statement that can be found in a list of tokens, step by step.
 use Rattle.std.specs.Prelude.{ℕ, ℤ, ◌-◌, Bool, true, false, List, [], ◌∷◌, length, take, drop, Option, Some, None, slice_get, if◌then◌else◌}
 use Rattle.hippo_values.specs.declared.values.Value.{Value}
+use Rattle.hippo_model.specs.declared.entry.ItemKind.{ItemKind}
 use Rattle.hippo_model.specs.declared.entry.ItemKind.TheVariants.{OptIn, OptOut}
 use Rattle.hippo_model.specs.declared.schema.Column.{Column}
 use Rattle.hippo_model.specs.declared.schema.ColumnKind.{ColumnKind}
@@ -21,6 +22,14 @@ use Rattle.hippo_spj_reader.specs.Lists.{list_at}
 use Rattle.hippo_spj_reader.specs.Selecting.{select_at}
 use Rattle.hippo_audit_reader.specs.Auditing.{audit_at}
 use Rattle.hippo_stmt_reader.specs.Statements.{columns_of, values_of}
+
+abbrev pub nothing_at : List TokenKind → Option (Unit {0})
+nothing_at [] = Some tt
+nothing_at (first ∷ rest) = None
+
+-- [";"], and then nothing
+abbrev pub end_at : List TokenKind → Option (Unit {0})
+end_at tokens = either (after_symbol Semicolon tokens) nothing_at (nothing_at tokens)
 
 abbrev pub column_kind_of : words.Keyword → Option ColumnKind
 column_kind_of KInteger = Some kind.Integer
@@ -75,7 +84,7 @@ assignment_at tokens = do
   Some ((c.0, v.0), v.1)
 
 -- behind CREATE TABLE
-unfoldable pub create_table_at : Finds Stmt
+unfoldable pub create_table_at : List TokenKind → Option Stmt
 create_table_at tokens = do
   table ← name_at tokens
   defs ← after_symbol LeftParen table.1
@@ -86,23 +95,42 @@ create_table_at tokens = do
   key ← names_at c
   subject ← subject_at key.1
   rest ← after_symbol RightParen subject.1
-  Some (stmt.CreateTable table.0 columns.0 key.0 subject.0, rest)
+  end ← end_at rest
+  Some (stmt.CreateTable table.0 columns.0 key.0 subject.0)
+
+-- behind CREATE PURPOSE
+unfoldable pub create_purpose_at : List TokenKind → Option Stmt
+create_purpose_at tokens = do
+  purpose ← name_at tokens
+  end ← end_at purpose.1
+  Some (stmt.CreatePurpose purpose.0)
+
+-- behind CREATE RECIPIENT
+unfoldable pub create_recipient_at : List TokenKind → Option Stmt
+create_recipient_at tokens = do
+  recipient ← name_at tokens
+  end ← end_at recipient.1
+  Some (stmt.CreateRecipient recipient.0)
+
+-- IN | OUT
+abbrev pub item_kind_at : Finds ItemKind
+item_kind_at tokens = either (after_keyword KIn tokens) (λ rest. Some (OptIn, rest)) (after_keyword KOut tokens >>= λ rest. Some (OptOut, rest))
 
 -- behind CREATE ITEM
-unfoldable pub create_item_at : Finds Stmt
+unfoldable pub create_item_at : List TokenKind → Option Stmt
 create_item_at tokens = do
   item ← name_at tokens
   behind ← after_keyword KOpt item.1
-  either (after_keyword KIn behind) (λ rest. Some (stmt.CreateItem item.0 OptIn, rest)) (do
-    rest ← after_keyword KOut behind
-    Some (stmt.CreateItem item.0 OptOut, rest))
+  k ← item_kind_at behind
+  end ← end_at k.1
+  Some (stmt.CreateItem item.0 k.0)
 
 -- behind CREATE
-unfoldable pub create_at : Finds Stmt
+unfoldable pub create_at : List TokenKind → Option Stmt
 create_at tokens =
     either (after_keyword KTable tokens) create_table_at
-    (either (after_keyword KPurpose tokens) (λ behind. name_at behind >>= λ p. Some (stmt.CreatePurpose p.0, p.1))
-    (either (after_keyword KRecipient tokens) (λ behind. name_at behind >>= λ r. Some (stmt.CreateRecipient r.0, r.1))
+    (either (after_keyword KPurpose tokens) create_purpose_at
+    (either (after_keyword KRecipient tokens) create_recipient_at
     (after_keyword KItem tokens >>= create_item_at)))
 
 -- u FOR p "," r
@@ -116,12 +144,18 @@ grant_at tokens = do
   Some ((user.0, purpose.0, recipient.0), recipient.1)
 
 -- behind AUTHORIZE
-unfoldable pub authorize_at : Finds Stmt
-authorize_at tokens = grant_at tokens >>= λ g. Some (stmt.Authorize g.0.0 g.0.1 g.0.2, g.1)
+unfoldable pub authorize_at : List TokenKind → Option Stmt
+authorize_at tokens = do
+  grant ← grant_at tokens
+  end ← end_at grant.1
+  Some (stmt.Authorize grant.0.0 grant.0.1 grant.0.2)
 
 -- behind DEAUTHORIZE
-unfoldable pub deauthorize_at : Finds Stmt
-deauthorize_at tokens = grant_at tokens >>= λ g. Some (stmt.Deauthorize g.0.0 g.0.1 g.0.2, g.1)
+unfoldable pub deauthorize_at : List TokenKind → Option Stmt
+deauthorize_at tokens = do
+  grant ← grant_at tokens
+  end ← end_at grant.1
+  Some (stmt.Deauthorize grant.0.0 grant.0.1 grant.0.2)
 
 -- p TO r ON t "(" c {"," c} ")"
 unfoldable pub rule_at : Finds (List ℕ × List ℕ × List ℕ × List (List ℕ))
@@ -135,32 +169,37 @@ rule_at tokens = do
   Some ((purpose.0, recipient.0, table.0, columns.0), columns.1)
 
 -- behind ALLOW
-unfoldable pub allow_at : Finds Stmt
+unfoldable pub allow_at : List TokenKind → Option Stmt
 allow_at tokens = do
   rule ← rule_at tokens
   item ← with_at rule.1
-  Some (stmt.Allow rule.0.0 rule.0.1 rule.0.2 rule.0.3 item.0, item.1)
+  end ← end_at item.1
+  Some (stmt.Allow rule.0.0 rule.0.1 rule.0.2 rule.0.3 item.0)
 
 -- behind REVOKE
-unfoldable pub revoke_at : Finds Stmt
-revoke_at tokens = rule_at tokens >>= λ r. Some (stmt.Revoke r.0.0 r.0.1 r.0.2 r.0.3, r.1)
+unfoldable pub revoke_at : List TokenKind → Option Stmt
+revoke_at tokens = do
+  rule ← rule_at tokens
+  end ← end_at rule.1
+  Some (stmt.Revoke rule.0.0 rule.0.1 rule.0.2 rule.0.3)
 
 -- YES | NO
 abbrev pub answer_at : Finds Bool
 answer_at tokens = either (after_keyword KYes tokens) (λ rest. Some (true, rest)) (after_keyword KNo tokens >>= λ rest. Some (false, rest))
 
 -- behind CHOICE
-unfoldable pub choice_at : Finds Stmt
+unfoldable pub choice_at : List TokenKind → Option Stmt
 choice_at tokens = do
   n ← number_at tokens
   a ← after_keyword KOn n.1
   item ← name_at a
   b ← after_keyword KIs item.1
   answer ← answer_at b
-  Some (stmt.Choice n.0 item.0 answer.0, answer.1)
+  end ← end_at answer.1
+  Some (stmt.Choice n.0 item.0 answer.0)
 
 -- behind INSERT
-unfoldable pub insert_at : Finds Stmt
+unfoldable pub insert_at : List TokenKind → Option Stmt
 insert_at tokens = do
   a ← after_keyword KInto tokens
   table ← name_at a
@@ -168,43 +207,53 @@ insert_at tokens = do
   inside ← after_symbol LeftParen b
   values ← list_at literal_at (after_symbol Comma) inside
   rest ← after_symbol RightParen values.1
-  Some (stmt.Insert table.0 values.0, rest)
+  end ← end_at rest
+  Some (stmt.Insert table.0 values.0)
 
 -- behind UPDATE
-unfoldable pub update_at : Finds Stmt
+unfoldable pub update_at : List TokenKind → Option Stmt
 update_at tokens = do
   table ← name_at tokens
   a ← after_keyword KSet table.1
   settings ← list_at assignment_at (after_symbol Comma) a
   b ← after_keyword KWhere settings.1
   keys ← list_at assignment_at (after_keyword KAnd) b
-  Some (stmt.Update table.0 (columns_of settings.0) (values_of settings.0) (columns_of keys.0) (values_of keys.0), keys.1)
+  end ← end_at keys.1
+  Some (stmt.Update table.0 (columns_of settings.0) (values_of settings.0) (columns_of keys.0) (values_of keys.0))
 
 -- behind DELETE
-unfoldable pub delete_at : Finds Stmt
+unfoldable pub delete_at : List TokenKind → Option Stmt
 delete_at tokens = do
   a ← after_keyword KFrom tokens
   table ← name_at a
   b ← after_keyword KWhere table.1
   keys ← list_at assignment_at (after_keyword KAnd) b
-  Some (stmt.Delete table.0 (columns_of keys.0) (values_of keys.0), keys.1)
+  end ← end_at keys.1
+  Some (stmt.Delete table.0 (columns_of keys.0) (values_of keys.0))
 
 -- behind EXPLAIN
-abbrev pub explain_at : Finds Stmt
-explain_at tokens = number_at tokens >>= λ n. Some (stmt.Explain n.0, n.1)
+unfoldable pub explain_at : List TokenKind → Option Stmt
+explain_at tokens = do
+  n ← number_at tokens
+  end ← end_at n.1
+  Some (stmt.Explain n.0)
 
-abbrev pub audit_statement_at : Finds Stmt
-audit_statement_at tokens = audit_at tokens >>= λ a. Some (stmt.Audit a.0, a.1)
+unfoldable pub audit_statement_at : List TokenKind → Option Stmt
+audit_statement_at tokens = do
+  a ← audit_at tokens
+  end ← end_at a.1
+  Some (stmt.Audit a.0)
 
 -- behind BEGIN
-unfoldable pub begin_audit_at : Finds Stmt
+unfoldable pub begin_audit_at : List TokenKind → Option Stmt
 begin_audit_at tokens = do
   behind ← after_keyword KAudit tokens
   a ← audit_at behind
-  Some (stmt.BeginAudit a.0, a.1)
+  end ← end_at a.1
+  Some (stmt.BeginAudit a.0)
 
 -- a statement of the console that begins with this keyword, behind it
-unfoldable pub console_behind : words.Keyword → Finds Stmt
+unfoldable pub console_behind : words.Keyword → List TokenKind → Option Stmt
 console_behind KCreate tokens = create_at tokens
 console_behind KAuthorize tokens = authorize_at tokens
 console_behind KDeauthorize tokens = deauthorize_at tokens
@@ -218,20 +267,12 @@ console_behind KExplain tokens = explain_at tokens
 console_behind KBegin tokens = begin_audit_at tokens
 console_behind keyword tokens = None
 
-abbrev pub console_by : Finds Stmt
+abbrev pub console_by : List TokenKind → Option Stmt
 console_by (Keyword keyword ∷ rest) = console_behind keyword rest
 console_by tokens = None
 
-unfoldable pub console_at : Finds Stmt
+unfoldable pub console_at : List TokenKind → Option Stmt
 console_at tokens = either (after_keyword KDuring tokens) (λ _. audit_statement_at tokens) (console_by tokens)
-
-abbrev pub is_empty : List TokenKind → Bool
-is_empty [] = true
-is_empty (first ∷ rest) = false
-
--- [";"], and then nothing
-abbrev pub is_end : List TokenKind → Bool
-is_end tokens = either (after_symbol Semicolon tokens) is_empty (is_empty tokens)
 
 -- a select up to the end, with the places where its text begins and ends
 unfoldable pub query_at : List Token → Option (RawSelect × ℕ × ℕ)
@@ -240,10 +281,18 @@ query_at tokens = do
   let text = take (length tokens - length found.1) tokens
   first ← slice_get text 0
   last ← slice_get text (length text - 1)
-  if is_end found.1 then Some (found.0, first.start, last.end) else None
+  end ← end_at found.1
+  Some (found.0, first.start, last.end)
+
+-- behind OPEN
+unfoldable pub open_at : List Token → Option Stmt
+open_at tokens = query_at tokens >>= λ q. Some (stmt.Ask q.0 q.1 q.2)
+
+unfoldable pub select_statement_at : List Token → Option Stmt
+select_statement_at tokens = query_at tokens >>= λ q. Some (stmt.Select q.0 q.1 q.2)
 
 unfoldable pub statement_at : List Token → Option Stmt
 statement_at tokens =
-    either (after_keyword KOpen (kinds tokens)) (λ _. query_at (drop 1 tokens) >>= λ q. Some (stmt.Ask q.0 q.1 q.2))
-    (either (after_keyword KSelect (kinds tokens)) (λ _. query_at tokens >>= λ q. Some (stmt.Select q.0 q.1 q.2))
-    (console_at (kinds tokens) >>= λ s. if is_end s.1 then Some s.0 else None))
+    either (after_keyword KOpen (kinds tokens)) (λ _. open_at (drop 1 tokens))
+    (either (after_keyword KSelect (kinds tokens)) (λ _. select_statement_at tokens)
+    (console_at (kinds tokens)))

@@ -4,6 +4,7 @@ ghost use Rattle.hippo_spj_reader.specs.Front.{kinds};
 ghost use Rattle.hippo_stmt_reader.specs.Statements.{columns_of, values_of};
 ghost use Rattle.hippo_stmt_reader.specs.Stating.{assignment_at, insert_at, update_at, delete_at};
 
+use crate::parts::end;
 use hippo_lexer::{Keyword, Symbol, SyntaxFault, Token};
 use hippo_model::{Cells, Names, Stmt};
 use hippo_spj_reader::{
@@ -109,11 +110,10 @@ fn columns_and_values(
     Ok((columns, values))
 }
 
-/// The statement of which the tokens behind INSERT have to be the first, and the tokens behind it.
+/// The statement that the tokens behind INSERT have to be.
 #[tactic(auto, unfolding(crate::specs::Stating::insert_at))]
-pub fn insert(alloc: Global, tokens: &[Token]) -> Result<(Stmt, &[Token]), SyntaxFault>
-    ensures found { Gives (λ x. (x.0, kinds x.1.now)) result (insert_at (kinds tokens.now)) }
-    ensures shorter { IfOk result (λ x. length x.1.now < length tokens.now) }
+pub fn insert(alloc: Global, tokens: &[Token]) -> Result<Stmt, SyntaxFault>
+    ensures { Gives (λ stmt. stmt) result (insert_at (kinds tokens.now)) }
 {
     let rest = expect_keyword(tokens, Keyword::KInto)?;
     let (table, rest) = name(alloc, rest)?;
@@ -121,14 +121,14 @@ pub fn insert(alloc: Global, tokens: &[Token]) -> Result<(Stmt, &[Token]), Synta
     let rest = expect_symbol(rest, Symbol::LeftParen)?;
     let (values, rest) = list::<LiteralList>(alloc, rest)?;
     let rest = expect_symbol(rest, Symbol::RightParen)?;
-    Ok((Stmt::Insert { table, values }, rest))
+    end(rest)?;
+    Ok(Stmt::Insert { table, values })
 }
 
-/// The statement of which the tokens behind UPDATE have to be the first, and the tokens behind it.
+/// The statement that the tokens behind UPDATE have to be.
 #[tactic(auto, unfolding(crate::specs::Stating::update_at))]
-pub fn update(alloc: Global, tokens: &[Token]) -> Result<(Stmt, &[Token]), SyntaxFault>
-    ensures found { Gives (λ x. (x.0, kinds x.1.now)) result (update_at (kinds tokens.now)) }
-    ensures shorter { IfOk result (λ x. length x.1.now < length tokens.now) }
+pub fn update(alloc: Global, tokens: &[Token]) -> Result<Stmt, SyntaxFault>
+    ensures { Gives (λ stmt. stmt) result (update_at (kinds tokens.now)) }
 {
     let (table, rest) = name(alloc, tokens)?;
     let rest = expect_keyword(rest, Keyword::KSet)?;
@@ -137,35 +137,30 @@ pub fn update(alloc: Global, tokens: &[Token]) -> Result<(Stmt, &[Token]), Synta
     let (keys, rest) = list::<KeyList>(alloc, rest)?;
     let (columns, values) = columns_and_values(alloc, settings)?;
     let (key_columns, key_values) = columns_and_values(alloc, keys)?;
-    Ok((
-        Stmt::Update {
-            table,
-            columns,
-            values,
-            key_columns,
-            key_values,
-        },
-        rest,
-    ))
+    end(rest)?;
+    Ok(Stmt::Update {
+        table,
+        columns,
+        values,
+        key_columns,
+        key_values,
+    })
 }
 
-/// The statement of which the tokens behind DELETE have to be the first, and the tokens behind it.
+/// The statement that the tokens behind DELETE have to be.
 #[tactic(auto, unfolding(crate::specs::Stating::delete_at))]
-pub fn delete(alloc: Global, tokens: &[Token]) -> Result<(Stmt, &[Token]), SyntaxFault>
-    ensures found { Gives (λ x. (x.0, kinds x.1.now)) result (delete_at (kinds tokens.now)) }
-    ensures shorter { IfOk result (λ x. length x.1.now < length tokens.now) }
+pub fn delete(alloc: Global, tokens: &[Token]) -> Result<Stmt, SyntaxFault>
+    ensures { Gives (λ stmt. stmt) result (delete_at (kinds tokens.now)) }
 {
     let rest = expect_keyword(tokens, Keyword::KFrom)?;
     let (table, rest) = name(alloc, rest)?;
     let rest = expect_keyword(rest, Keyword::KWhere)?;
     let (keys, rest) = list::<KeyList>(alloc, rest)?;
     let (key_columns, key_values) = columns_and_values(alloc, keys)?;
-    Ok((
-        Stmt::Delete {
-            table,
-            key_columns,
-            key_values,
-        },
-        rest,
-    ))
+    end(rest)?;
+    Ok(Stmt::Delete {
+        table,
+        key_columns,
+        key_values,
+    })
 }

@@ -1,11 +1,11 @@
 ghost use Rattle.std.specs.Prelude.{◌≡◌, ◌<◌, ◌≤◌, length, option_map, IfOk, IfSome};
 ghost use Rattle.hippo_spj_reader.specs.Answers.{Gives};
 ghost use Rattle.hippo_spj_reader.specs.Front.{kinds};
-ghost use Rattle.hippo_stmt_reader.specs.Stating.{names_at, number_at};
+ghost use Rattle.hippo_stmt_reader.specs.Stating.{names_at, number_at, nothing_at, end_at};
 
 use hippo_lexer::{Symbol, SyntaxFault, Token, TokenKind};
 use hippo_model::Names;
-use hippo_spj_reader::{NameList, expect_symbol, list, split};
+use hippo_spj_reader::{NameList, after_symbol, expect_symbol, list, split};
 use std::alloc::Global;
 
 /// The names in parentheses that have to stand first, and the tokens behind them.
@@ -28,5 +28,25 @@ pub fn number(tokens: &[Token]) -> Result<(i64, &[Token]), SyntaxFault>
     match split(tokens) {
         Some((TokenKind::Number(number), rest)) => Ok((*number, rest)),
         _ => Err(SyntaxFault::BadSyntax),
+    }
+}
+
+fn nothing(tokens: &[Token]) -> Result<(), SyntaxFault>
+    ensures { Gives (λ x. x) result (nothing_at (kinds tokens.now)) }
+{
+    if tokens.is_empty() {
+        Ok(())
+    } else {
+        Err(SyntaxFault::BadSyntax)
+    }
+}
+
+/// The end of a statement, with or without a `;` before it.
+pub fn end(tokens: &[Token]) -> Result<(), SyntaxFault>
+    ensures { Gives (λ x. x) result (end_at (kinds tokens.now)) }
+{
+    match after_symbol(tokens, Symbol::Semicolon) {
+        Some(rest) => nothing(rest),
+        None => nothing(tokens),
     }
 }

@@ -3,7 +3,7 @@ ghost use Rattle.hippo_spj_reader.specs.Answers.{Gives};
 ghost use Rattle.hippo_spj_reader.specs.Front.{kinds};
 ghost use Rattle.hippo_stmt_reader.specs.Stating.{grant_at, authorize_at, deauthorize_at, rule_at, with_at, allow_at, revoke_at, answer_at, choice_at};
 
-use crate::parts::{names, number};
+use crate::parts::{end, names, number};
 use hippo_lexer::{Keyword, Symbol, SyntaxFault, Token};
 use hippo_model::{Names, Stmt};
 use hippo_spj_reader::{after_keyword, expect_keyword, expect_symbol, name};
@@ -38,11 +38,10 @@ fn authorization(alloc: Global, tokens: &[Token]) -> Result<(Grant, &[Token]), S
     ))
 }
 
-/// The statement of which the tokens behind AUTHORIZE have to be the first, and the tokens behind it.
+/// The statement that the tokens behind AUTHORIZE have to be.
 #[tactic(auto, unfolding(crate::specs::Stating::authorize_at))]
-pub fn authorize(alloc: Global, tokens: &[Token]) -> Result<(Stmt, &[Token]), SyntaxFault>
-    ensures found { Gives (λ x. (x.0, kinds x.1.now)) result (authorize_at (kinds tokens.now)) }
-    ensures shorter { IfOk result (λ x. length x.1.now < length tokens.now) }
+pub fn authorize(alloc: Global, tokens: &[Token]) -> Result<Stmt, SyntaxFault>
+    ensures { Gives (λ stmt. stmt) result (authorize_at (kinds tokens.now)) }
 {
     let (grant, rest) = authorization(alloc, tokens)?;
     let Grant {
@@ -50,21 +49,18 @@ pub fn authorize(alloc: Global, tokens: &[Token]) -> Result<(Stmt, &[Token]), Sy
         purpose,
         recipient,
     } = grant;
-    Ok((
-        Stmt::Authorize {
-            user,
-            purpose,
-            recipient,
-        },
-        rest,
-    ))
+    end(rest)?;
+    Ok(Stmt::Authorize {
+        user,
+        purpose,
+        recipient,
+    })
 }
 
-/// The statement of which the tokens behind DEAUTHORIZE have to be the first, and the tokens behind it.
+/// The statement that the tokens behind DEAUTHORIZE have to be.
 #[tactic(auto, unfolding(crate::specs::Stating::deauthorize_at))]
-pub fn deauthorize(alloc: Global, tokens: &[Token]) -> Result<(Stmt, &[Token]), SyntaxFault>
-    ensures found { Gives (λ x. (x.0, kinds x.1.now)) result (deauthorize_at (kinds tokens.now)) }
-    ensures shorter { IfOk result (λ x. length x.1.now < length tokens.now) }
+pub fn deauthorize(alloc: Global, tokens: &[Token]) -> Result<Stmt, SyntaxFault>
+    ensures { Gives (λ stmt. stmt) result (deauthorize_at (kinds tokens.now)) }
 {
     let (grant, rest) = authorization(alloc, tokens)?;
     let Grant {
@@ -72,14 +68,12 @@ pub fn deauthorize(alloc: Global, tokens: &[Token]) -> Result<(Stmt, &[Token]), 
         purpose,
         recipient,
     } = grant;
-    Ok((
-        Stmt::Deauthorize {
-            user,
-            purpose,
-            recipient,
-        },
-        rest,
-    ))
+    end(rest)?;
+    Ok(Stmt::Deauthorize {
+        user,
+        purpose,
+        recipient,
+    })
 }
 
 // What ALLOW and REVOKE speak of.
@@ -125,11 +119,10 @@ fn with_item(alloc: Global, tokens: &[Token]) -> Result<(Option<Name>, &[Token])
     Ok((Some(item), rest))
 }
 
-/// The statement of which the tokens behind ALLOW have to be the first, and the tokens behind it.
+/// The statement that the tokens behind ALLOW have to be.
 #[tactic(auto, unfolding(crate::specs::Stating::allow_at))]
-pub fn allow(alloc: Global, tokens: &[Token]) -> Result<(Stmt, &[Token]), SyntaxFault>
-    ensures found { Gives (λ x. (x.0, kinds x.1.now)) result (allow_at (kinds tokens.now)) }
-    ensures shorter { IfOk result (λ x. length x.1.now < length tokens.now) }
+pub fn allow(alloc: Global, tokens: &[Token]) -> Result<Stmt, SyntaxFault>
+    ensures { Gives (λ stmt. stmt) result (allow_at (kinds tokens.now)) }
 {
     let (rule, rest) = rule_on(alloc, tokens)?;
     let (item, rest) = with_item(alloc, rest)?;
@@ -139,23 +132,20 @@ pub fn allow(alloc: Global, tokens: &[Token]) -> Result<(Stmt, &[Token]), Syntax
         table,
         columns,
     } = rule;
-    Ok((
-        Stmt::Allow {
-            purpose,
-            recipient,
-            table,
-            columns,
-            item,
-        },
-        rest,
-    ))
+    end(rest)?;
+    Ok(Stmt::Allow {
+        purpose,
+        recipient,
+        table,
+        columns,
+        item,
+    })
 }
 
-/// The statement of which the tokens behind REVOKE have to be the first, and the tokens behind it.
+/// The statement that the tokens behind REVOKE have to be.
 #[tactic(auto, unfolding(crate::specs::Stating::revoke_at))]
-pub fn revoke(alloc: Global, tokens: &[Token]) -> Result<(Stmt, &[Token]), SyntaxFault>
-    ensures found { Gives (λ x. (x.0, kinds x.1.now)) result (revoke_at (kinds tokens.now)) }
-    ensures shorter { IfOk result (λ x. length x.1.now < length tokens.now) }
+pub fn revoke(alloc: Global, tokens: &[Token]) -> Result<Stmt, SyntaxFault>
+    ensures { Gives (λ stmt. stmt) result (revoke_at (kinds tokens.now)) }
 {
     let (rule, rest) = rule_on(alloc, tokens)?;
     let Rule {
@@ -164,15 +154,13 @@ pub fn revoke(alloc: Global, tokens: &[Token]) -> Result<(Stmt, &[Token]), Synta
         table,
         columns,
     } = rule;
-    Ok((
-        Stmt::Revoke {
-            purpose,
-            recipient,
-            table,
-            columns,
-        },
-        rest,
-    ))
+    end(rest)?;
+    Ok(Stmt::Revoke {
+        purpose,
+        recipient,
+        table,
+        columns,
+    })
 }
 
 fn answer(tokens: &[Token]) -> Result<(bool, &[Token]), SyntaxFault>
@@ -186,16 +174,16 @@ fn answer(tokens: &[Token]) -> Result<(bool, &[Token]), SyntaxFault>
     Ok((false, rest))
 }
 
-/// The statement of which the tokens behind CHOICE have to be the first, and the tokens behind it.
+/// The statement that the tokens behind CHOICE have to be.
 #[tactic(auto, unfolding(crate::specs::Stating::choice_at))]
-pub fn choice(alloc: Global, tokens: &[Token]) -> Result<(Stmt, &[Token]), SyntaxFault>
-    ensures found { Gives (λ x. (x.0, kinds x.1.now)) result (choice_at (kinds tokens.now)) }
-    ensures shorter { IfOk result (λ x. length x.1.now < length tokens.now) }
+pub fn choice(alloc: Global, tokens: &[Token]) -> Result<Stmt, SyntaxFault>
+    ensures { Gives (λ stmt. stmt) result (choice_at (kinds tokens.now)) }
 {
     let (subject, rest) = number(tokens)?;
     let rest = expect_keyword(rest, Keyword::KOn)?;
     let (item, rest) = name(alloc, rest)?;
     let rest = expect_keyword(rest, Keyword::KIs)?;
     let (yes, rest) = answer(rest)?;
-    Ok((Stmt::Choice { subject, item, yes }, rest))
+    end(rest)?;
+    Ok(Stmt::Choice { subject, item, yes })
 }

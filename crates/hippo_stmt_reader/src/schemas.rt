@@ -1,9 +1,9 @@
 ghost use Rattle.std.specs.Prelude.{◌≡◌, ◌<◌, ◌≤◌, length, option_map, IfOk, IfSome};
 ghost use Rattle.hippo_spj_reader.specs.Answers.{Gives};
 ghost use Rattle.hippo_spj_reader.specs.Front.{kinds};
-ghost use Rattle.hippo_stmt_reader.specs.Stating.{column_kind_of, column_kind_at, column_def_at, next_column_at, subject_at, create_table_at, create_item_at, create_at};
+ghost use Rattle.hippo_stmt_reader.specs.Stating.{column_kind_of, column_kind_at, column_def_at, next_column_at, subject_at, create_table_at, create_purpose_at, create_recipient_at, item_kind_at, create_item_at, create_at};
 
-use crate::parts::names;
+use crate::parts::{end, names};
 use hippo_lexer::{Keyword, Symbol, SyntaxFault, Token, TokenKind};
 use hippo_model::{Column, ColumnKind, ItemKind, Stmt};
 use hippo_spj_reader::{
@@ -102,9 +102,8 @@ fn subject(alloc: Global, tokens: &[Token]) -> Result<(Option<Name>, &[Token]), 
 }
 
 #[tactic(auto, unfolding(crate::specs::Stating::create_table_at))]
-fn create_table(alloc: Global, tokens: &[Token]) -> Result<(Stmt, &[Token]), SyntaxFault>
-    ensures found { Gives (λ x. (x.0, kinds x.1.now)) result (create_table_at (kinds tokens.now)) }
-    ensures shorter { IfOk result (λ x. length x.1.now < length tokens.now) }
+fn create_table(alloc: Global, tokens: &[Token]) -> Result<Stmt, SyntaxFault>
+    ensures { Gives (λ stmt. stmt) result (create_table_at (kinds tokens.now)) }
 {
     let (table, rest) = name(alloc, tokens)?;
     let rest = expect_symbol(rest, Symbol::LeftParen)?;
@@ -115,49 +114,67 @@ fn create_table(alloc: Global, tokens: &[Token]) -> Result<(Stmt, &[Token]), Syn
     let (key, rest) = names(alloc, rest)?;
     let (subject, rest) = subject(alloc, rest)?;
     let rest = expect_symbol(rest, Symbol::RightParen)?;
-    Ok((
-        Stmt::CreateTable {
-            table,
-            columns,
-            key,
-            subject,
-        },
-        rest,
-    ))
+    end(rest)?;
+    Ok(Stmt::CreateTable {
+        table,
+        columns,
+        key,
+        subject,
+    })
+}
+
+#[tactic(auto, unfolding(crate::specs::Stating::create_purpose_at))]
+fn create_purpose(alloc: Global, tokens: &[Token]) -> Result<Stmt, SyntaxFault>
+    ensures { Gives (λ stmt. stmt) result (create_purpose_at (kinds tokens.now)) }
+{
+    let (purpose, rest) = name(alloc, tokens)?;
+    end(rest)?;
+    Ok(Stmt::CreatePurpose(purpose))
+}
+
+#[tactic(auto, unfolding(crate::specs::Stating::create_recipient_at))]
+fn create_recipient(alloc: Global, tokens: &[Token]) -> Result<Stmt, SyntaxFault>
+    ensures { Gives (λ stmt. stmt) result (create_recipient_at (kinds tokens.now)) }
+{
+    let (recipient, rest) = name(alloc, tokens)?;
+    end(rest)?;
+    Ok(Stmt::CreateRecipient(recipient))
+}
+
+fn item_kind(tokens: &[Token]) -> Result<(ItemKind, &[Token]), SyntaxFault>
+    ensures { Gives (λ x. (x.0, kinds x.1.now)) result (item_kind_at (kinds tokens.now)) }
+{
+    if let Some(rest) = after_keyword(tokens, Keyword::KIn) {
+        return Ok((ItemKind::OptIn, rest));
+    }
+    let rest = expect_keyword(tokens, Keyword::KOut)?;
+    Ok((ItemKind::OptOut, rest))
 }
 
 #[tactic(auto, unfolding(crate::specs::Stating::create_item_at))]
-fn create_item(alloc: Global, tokens: &[Token]) -> Result<(Stmt, &[Token]), SyntaxFault>
-    ensures found { Gives (λ x. (x.0, kinds x.1.now)) result (create_item_at (kinds tokens.now)) }
-    ensures shorter { IfOk result (λ x. length x.1.now < length tokens.now) }
+fn create_item(alloc: Global, tokens: &[Token]) -> Result<Stmt, SyntaxFault>
+    ensures { Gives (λ stmt. stmt) result (create_item_at (kinds tokens.now)) }
 {
     let (item, rest) = name(alloc, tokens)?;
-    let behind = expect_keyword(rest, Keyword::KOpt)?;
-    if let Some(rest) = after_keyword(behind, Keyword::KIn) {
-        let kind = ItemKind::OptIn;
-        return Ok((Stmt::CreateItem { item, kind }, rest));
-    }
-    let rest = expect_keyword(behind, Keyword::KOut)?;
-    let kind = ItemKind::OptOut;
-    Ok((Stmt::CreateItem { item, kind }, rest))
+    let rest = expect_keyword(rest, Keyword::KOpt)?;
+    let (kind, rest) = item_kind(rest)?;
+    end(rest)?;
+    Ok(Stmt::CreateItem { item, kind })
 }
 
-/// The statement of which the tokens behind CREATE have to be the first, and the tokens behind it.
+/// The statement that the tokens behind CREATE have to be.
 #[tactic(auto, unfolding(crate::specs::Stating::create_at))]
-pub fn create(alloc: Global, tokens: &[Token]) -> Result<(Stmt, &[Token]), SyntaxFault>
-    ensures found { Gives (λ x. (x.0, kinds x.1.now)) result (create_at (kinds tokens.now)) }
-    ensures shorter { IfOk result (λ x. length x.1.now < length tokens.now) }
+pub fn create(alloc: Global, tokens: &[Token]) -> Result<Stmt, SyntaxFault>
+    ensures { Gives (λ stmt. stmt) result (create_at (kinds tokens.now)) }
 {
     if let Some(behind) = after_keyword(tokens, Keyword::KTable) {
         return create_table(alloc, behind);
     }
     if let Some(behind) = after_keyword(tokens, Keyword::KPurpose) {
-        let (purpose, rest) = name(alloc, behind)?;
-        return Ok((Stmt::CreatePurpose(purpose), rest));
+        return create_purpose(alloc, behind);
     }
     if let Some(behind) = after_keyword(tokens, Keyword::KRecipient) {
-        let (recipient, rest) = name(alloc, behind)?;
-        return Ok((Stmt::CreateRecipient(recipient), rest));
+        return create_recipient(alloc, behind);
     }
     let behind = expect_keyword(tokens, Keyword::KItem)?;
     create_item(alloc, behind)

@@ -4,42 +4,44 @@ ghost use Rattle.hippo_lexer.specs.Words.{words_check};
 ghost use Rattle.hippo_spj_reader.specs.Answers.{Gives};
 ghost use Rattle.hippo_spj_reader.specs.Front.{kinds, after_keyword};
 ghost use Rattle.hippo_stmt_reader.specs.Statements.{IsStatement, IsRefusal};
-ghost use Rattle.hippo_stmt_reader.specs.Stating.{console_behind, console_by, console_at, audit_statement_at, begin_audit_at, explain_at, is_end, query_at, statement_at};
+ghost use Rattle.hippo_stmt_reader.specs.Stating.{console_behind, console_by, console_at, audit_statement_at, begin_audit_at, explain_at, query_at, open_at, select_statement_at, statement_at};
 
 use crate::changes::{delete, insert, update};
-use crate::parts::number;
+use crate::parts::{end, number};
 use crate::policies::{allow, authorize, choice, deauthorize, revoke};
 use crate::schemas::create;
 use hippo_audit_reader::audit;
-use hippo_lexer::{Keyword, Symbol, SyntaxFault, Token, TokenKind, Tokens, check_words};
+use hippo_lexer::{Keyword, SyntaxFault, Token, TokenKind, Tokens, check_words};
 use hippo_model::{RawSelect, Stmt};
-use hippo_spj_reader::{after_keyword, after_symbol, expect_keyword, select, split};
+use hippo_spj_reader::{after_keyword, expect_keyword, select, split};
 use std::alloc::Global;
 
-fn audit_statement(alloc: Global, tokens: &[Token]) -> Result<(Stmt, &[Token]), SyntaxFault>
-    ensures found { Gives (λ x. (x.0, kinds x.1.now)) result (audit_statement_at (kinds tokens.now)) }
-    ensures shorter { IfOk result (λ x. length x.1.now < length tokens.now) }
+#[tactic(auto, unfolding(crate::specs::Stating::audit_statement_at))]
+fn audit_statement(alloc: Global, tokens: &[Token]) -> Result<Stmt, SyntaxFault>
+    ensures { Gives (λ stmt. stmt) result (audit_statement_at (kinds tokens.now)) }
 {
     let (audit, rest) = audit(alloc, tokens)?;
-    Ok((Stmt::Audit(audit), rest))
+    end(rest)?;
+    Ok(Stmt::Audit(audit))
 }
 
 #[tactic(auto, unfolding(crate::specs::Stating::begin_audit_at))]
-fn begin_audit(alloc: Global, tokens: &[Token]) -> Result<(Stmt, &[Token]), SyntaxFault>
-    ensures found { Gives (λ x. (x.0, kinds x.1.now)) result (begin_audit_at (kinds tokens.now)) }
-    ensures shorter { IfOk result (λ x. length x.1.now < length tokens.now) }
+fn begin_audit(alloc: Global, tokens: &[Token]) -> Result<Stmt, SyntaxFault>
+    ensures { Gives (λ stmt. stmt) result (begin_audit_at (kinds tokens.now)) }
 {
     let rest = expect_keyword(tokens, Keyword::KAudit)?;
     let (audit, rest) = audit(alloc, rest)?;
-    Ok((Stmt::BeginAudit(audit), rest))
+    end(rest)?;
+    Ok(Stmt::BeginAudit(audit))
 }
 
-fn explain(tokens: &[Token]) -> Result<(Stmt, &[Token]), SyntaxFault>
-    ensures found { Gives (λ x. (x.0, kinds x.1.now)) result (explain_at (kinds tokens.now)) }
-    ensures shorter { IfOk result (λ x. length x.1.now < length tokens.now) }
+#[tactic(auto, unfolding(crate::specs::Stating::explain_at))]
+fn explain(tokens: &[Token]) -> Result<Stmt, SyntaxFault>
+    ensures { Gives (λ stmt. stmt) result (explain_at (kinds tokens.now)) }
 {
     let (number, rest) = number(tokens)?;
-    Ok((Stmt::Explain(number), rest))
+    end(rest)?;
+    Ok(Stmt::Explain(number))
 }
 
 // A statement of the console that begins with this keyword, from the tokens behind it.
@@ -48,9 +50,8 @@ fn console_behind(
     alloc: Global,
     keyword: Keyword,
     tokens: &[Token],
-) -> Result<(Stmt, &[Token]), SyntaxFault>
-    ensures found { Gives (λ x. (x.0, kinds x.1.now)) result (console_behind keyword (kinds tokens.now)) }
-    ensures shorter { IfOk result (λ x. length x.1.now < length tokens.now) }
+) -> Result<Stmt, SyntaxFault>
+    ensures { Gives (λ stmt. stmt) result (console_behind keyword (kinds tokens.now)) }
 {
     match keyword {
         Keyword::KCreate => create(alloc, tokens),
@@ -68,9 +69,8 @@ fn console_behind(
     }
 }
 
-fn console_by(alloc: Global, tokens: &[Token]) -> Result<(Stmt, &[Token]), SyntaxFault>
-    ensures found { Gives (λ x. (x.0, kinds x.1.now)) result (console_by (kinds tokens.now)) }
-    ensures shorter { IfOk result (λ x. length x.1.now < length tokens.now) }
+fn console_by(alloc: Global, tokens: &[Token]) -> Result<Stmt, SyntaxFault>
+    ensures { Gives (λ stmt. stmt) result (console_by (kinds tokens.now)) }
 {
     match split(tokens) {
         Some((TokenKind::Keyword(keyword), rest)) => console_behind(alloc, *keyword, rest),
@@ -79,9 +79,8 @@ fn console_by(alloc: Global, tokens: &[Token]) -> Result<(Stmt, &[Token]), Synta
 }
 
 #[tactic(auto, unfolding(crate::specs::Stating::console_at))]
-fn console(alloc: Global, tokens: &[Token]) -> Result<(Stmt, &[Token]), SyntaxFault>
-    ensures found { Gives (λ x. (x.0, kinds x.1.now)) result (console_at (kinds tokens.now)) }
-    ensures shorter { IfOk result (λ x. length x.1.now < length tokens.now) }
+fn console(alloc: Global, tokens: &[Token]) -> Result<Stmt, SyntaxFault>
+    ensures { Gives (λ stmt. stmt) result (console_at (kinds tokens.now)) }
 {
     if begins_with(tokens, Keyword::KDuring) {
         return audit_statement(alloc, tokens);
@@ -94,15 +93,6 @@ fn begins_with(tokens: &[Token], keyword: Keyword) -> bool
     ensures some { IsTrue result → 0 < length tokens.now }
 {
     after_keyword(tokens, keyword).is_some()
-}
-
-fn is_end(tokens: &[Token]) -> bool
-    ensures { result ≡ is_end (kinds tokens.now) }
-{
-    match after_symbol(tokens, Symbol::Semicolon) {
-        Some(rest) => rest.is_empty(),
-        None => tokens.is_empty(),
-    }
 }
 
 // A select and where its text begins and ends.
@@ -122,9 +112,7 @@ fn query(alloc: Global, tokens: &[Token]) -> Result<Asked, SyntaxFault>
     let (Some(first), Some(last)) = (text.first(), text.last()) else {
         return Err(SyntaxFault::BadSyntax);
     };
-    if !is_end(rest) {
-        return Err(SyntaxFault::BadSyntax);
-    }
+    end(rest)?;
     Ok(Asked {
         select,
         start: first.start,
@@ -132,24 +120,33 @@ fn query(alloc: Global, tokens: &[Token]) -> Result<Asked, SyntaxFault>
     })
 }
 
+#[tactic(auto, unfolding(crate::specs::Stating::open_at))]
+fn open_statement(alloc: Global, tokens: &[Token]) -> Result<Stmt, SyntaxFault>
+    ensures { Gives (λ stmt. stmt) result (open_at tokens.now) }
+{
+    let Asked { select, start, end } = query(alloc, tokens)?;
+    Ok(Stmt::Ask { select, start, end })
+}
+
+#[tactic(auto, unfolding(crate::specs::Stating::select_statement_at))]
+fn select_statement(alloc: Global, tokens: &[Token]) -> Result<Stmt, SyntaxFault>
+    ensures { Gives (λ stmt. stmt) result (select_statement_at tokens.now) }
+{
+    let Asked { select, start, end } = query(alloc, tokens)?;
+    Ok(Stmt::Select { select, start, end })
+}
+
 #[tactic(auto, unfolding(crate::specs::Stating::statement_at))]
 fn statement(alloc: Global, tokens: &[Token]) -> Result<Stmt, SyntaxFault>
     ensures { Gives (λ stmt. stmt) result (statement_at tokens.now) }
 {
     if begins_with(tokens, Keyword::KOpen) {
-        let Asked { select, start, end } = query(alloc, &tokens[1..])?;
-        return Ok(Stmt::Ask { select, start, end });
+        return open_statement(alloc, &tokens[1..]);
     }
     if begins_with(tokens, Keyword::KSelect) {
-        let Asked { select, start, end } = query(alloc, tokens)?;
-        return Ok(Stmt::Select { select, start, end });
+        return select_statement(alloc, tokens);
     }
-    let (stmt, rest) = console(alloc, tokens)?;
-    if is_end(rest) {
-        Ok(stmt)
-    } else {
-        Err(SyntaxFault::BadSyntax)
-    }
+    console(alloc, tokens)
 }
 
 /// The statement that the tokens are, with or without a `;` at its end. TooDeep and Unsupported come as check_words says,
