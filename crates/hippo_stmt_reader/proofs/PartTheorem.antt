@@ -64,7 +64,7 @@ column_def_found tokens c rest e =
     column_kind_step typed k.0 k.1 k_is (λ word is_word is_kind.
     keyword_choice KNot k.1 _ _ _ e
     (λ behind is_not e. keyword_step KNull behind _ _ e (λ left is_null e.
-      rw (is_name, is_word, is_not, is_null) (read_as IsColumnDef _ _ _ _ _ e (not_null is_kind))))
+    rw (is_name, is_word, is_not, is_null) (read_as IsColumnDef _ _ _ _ _ e (not_null is_kind))))
     (λ _ e. rw (is_name, is_word) (read_as IsColumnDef _ _ _ _ _ e (nullable is_kind))))))
 
 column_def_complete : (tokens : List TokenKind) (c : Column) (rest : List TokenKind) → IsColumnDef tokens c rest → after_keyword KNot rest ≡ None → column_def_at tokens ≡ Some (c, rest)
@@ -91,7 +91,7 @@ next_column_complete tokens c rest (not_null is_kind) = refl
 pub column_defs_found : (tokens : List TokenKind) (cs : List Column) (rest : List TokenKind) → list_at column_def_at next_column_at tokens ≡ Some (cs, rest) → IsListOf IsColumnDef (Symbol Comma) tokens cs rest
 column_defs_found tokens cs rest e =
     parts_found column_def_at next_column_at IsColumnDef (Symbol Comma) (IsListOf IsColumnDef (Symbol Comma)) column_def_found next_column_found
-      (λ _ _ _ d. last_part d) (λ _ _ _ _ _ d ds. more_parts d ds) (suc (length tokens)) tokens cs rest e
+    (λ _ _ _ d. last_part d) (λ _ _ _ _ _ d ds. more_parts d ds) (suc (length tokens)) tokens cs rest e
 
 pub column_defs_complete : (tokens : List TokenKind) (cs : List Column) (rest : List TokenKind) → IsListOf IsColumnDef (Symbol Comma) tokens cs rest → after_keyword KNot rest ≡ None → next_column_at rest ≡ None →
     list_at column_def_at next_column_at tokens ≡ Some (cs, rest)
@@ -117,7 +117,7 @@ unfolding subject_at
 subject_found tokens s rest e =
     symbol_choice Comma tokens _ _ _ e
     (λ behind is_comma e. keyword_step KSubject behind _ _ e (λ named is_subject e. name_step named _ _ e (λ c left is_name e.
-      rw (is_comma, is_subject, is_name) (read_as IsSubject _ _ _ _ _ e subject))))
+    rw (is_comma, is_subject, is_name) (read_as IsSubject _ _ _ _ _ e subject))))
     (λ _ e. read_as IsSubject tokens _ _ _ _ e no_subject)
 
 pub subject_complete : (tokens : List TokenKind) (s : Option (List ℕ)) (rest : List TokenKind) → IsSubject tokens s rest → after_symbol Comma rest ≡ None → subject_at tokens ≡ Some (s, rest)
@@ -155,7 +155,7 @@ assignment_shorter _ _ rest (assignment {v = v} {tokens = tokens} l) = omega (ar
 pub settings_found : (tokens : List TokenKind) (list : List (List ℕ × Value)) (rest : List TokenKind) → list_at assignment_at (after_symbol Comma) tokens ≡ Some (list, rest) → AreSettings tokens list rest
 settings_found tokens list rest e =
     parts_found assignment_at (after_symbol Comma) IsAssignment (Symbol Comma) (IsListOf IsAssignment (Symbol Comma)) assignment_found (after_symbol-some Comma)
-      (λ _ _ _ d. last_part d) (λ _ _ _ _ _ d ds. more_parts d ds) (suc (length tokens)) tokens list rest e
+    (λ _ _ _ d. last_part d) (λ _ _ _ _ _ d ds. more_parts d ds) (suc (length tokens)) tokens list rest e
 
 pub settings_complete : (tokens : List TokenKind) (list : List (List ℕ × Value)) (rest : List TokenKind) → AreSettings tokens list rest → after_symbol Comma rest ≡ None → list_at assignment_at (after_symbol Comma) tokens ≡ Some (list, rest)
 settings_complete tokens list rest ds no_comma =
@@ -164,7 +164,7 @@ settings_complete tokens list rest ds no_comma =
 pub keys_found : (tokens : List TokenKind) (list : List (List ℕ × Value)) (rest : List TokenKind) → list_at assignment_at (after_keyword KAnd) tokens ≡ Some (list, rest) → AreKeys tokens list rest
 keys_found tokens list rest e =
     parts_found assignment_at (after_keyword KAnd) IsAssignment (Keyword KAnd) (IsListOf IsAssignment (Keyword KAnd)) assignment_found (after_keyword-some KAnd)
-      (λ _ _ _ d. last_part d) (λ _ _ _ _ _ d ds. more_parts d ds) (suc (length tokens)) tokens list rest e
+    (λ _ _ _ d. last_part d) (λ _ _ _ _ _ d ds. more_parts d ds) (suc (length tokens)) tokens list rest e
 
 pub keys_complete : (tokens : List TokenKind) (list : List (List ℕ × Value)) (rest : List TokenKind) → AreKeys tokens list rest → after_keyword KAnd rest ≡ None → list_at assignment_at (after_keyword KAnd) tokens ≡ Some (list, rest)
 keys_complete tokens list rest ds no_and =
@@ -173,7 +173,7 @@ keys_complete tokens list rest ds no_and =
 pub literals_found : (tokens : List TokenKind) (list : List Value) (rest : List TokenKind) → list_at literal_at (after_symbol Comma) tokens ≡ Some (list, rest) → IsListOf IsLiteral (Symbol Comma) tokens list rest
 literals_found tokens list rest e =
     parts_found literal_at (after_symbol Comma) IsLiteral (Symbol Comma) (IsListOf IsLiteral (Symbol Comma)) literal_found (after_symbol-some Comma)
-      (λ _ _ _ d. last_part d) (λ _ _ _ _ _ d ds. more_parts d ds) (suc (length tokens)) tokens list rest e
+    (λ _ _ _ d. last_part d) (λ _ _ _ _ _ d ds. more_parts d ds) (suc (length tokens)) tokens list rest e
 
 pub literals_complete : (tokens : List TokenKind) (list : List Value) (rest : List TokenKind) → IsListOf IsLiteral (Symbol Comma) tokens list rest → after_symbol Comma rest ≡ None → list_at literal_at (after_symbol Comma) tokens ≡ Some (list, rest)
 literals_complete tokens list rest ds no_comma =

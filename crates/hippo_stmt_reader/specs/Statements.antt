@@ -78,63 +78,52 @@ pub data IsConsole : List TokenKind → Stmt → List TokenKind → Type 0 where
       AreNames keys key (Symbol RightParen ∷ behind) →
       IsSubject behind subject (Symbol RightParen ∷ rest) →
       IsConsole (Keyword KCreate ∷ Keyword KTable ∷ Word table ∷ Symbol LeftParen ∷ defs) (stmt.CreateTable table columns key subject) rest
-
   -- CREATE PURPOSE p | CREATE RECIPIENT r
   create_purpose : {purpose : List ℕ} {rest : List TokenKind} →
       IsConsole (Keyword KCreate ∷ Keyword KPurpose ∷ Word purpose ∷ rest) (stmt.CreatePurpose purpose) rest
   create_recipient : {recipient : List ℕ} {rest : List TokenKind} →
       IsConsole (Keyword KCreate ∷ Keyword KRecipient ∷ Word recipient ∷ rest) (stmt.CreateRecipient recipient) rest
-
   -- CREATE ITEM i OPT IN | CREATE ITEM i OPT OUT
   create_opt_in : {item : List ℕ} {rest : List TokenKind} →
       IsConsole (Keyword KCreate ∷ Keyword KItem ∷ Word item ∷ Keyword KOpt ∷ Keyword KIn ∷ rest) (stmt.CreateItem item OptIn) rest
   create_opt_out : {item : List ℕ} {rest : List TokenKind} →
       IsConsole (Keyword KCreate ∷ Keyword KItem ∷ Word item ∷ Keyword KOpt ∷ Keyword KOut ∷ rest) (stmt.CreateItem item OptOut) rest
-
   -- AUTHORIZE u FOR p "," r | DEAUTHORIZE u FOR p "," r
   authorize : {user purpose recipient : List ℕ} {rest : List TokenKind} →
       IsConsole (Keyword KAuthorize ∷ Word user ∷ Keyword KFor ∷ Word purpose ∷ Symbol Comma ∷ Word recipient ∷ rest) (stmt.Authorize user purpose recipient) rest
   deauthorize : {user purpose recipient : List ℕ} {rest : List TokenKind} →
       IsConsole (Keyword KDeauthorize ∷ Word user ∷ Keyword KFor ∷ Word purpose ∷ Symbol Comma ∷ Word recipient ∷ rest) (stmt.Deauthorize user purpose recipient) rest
-
   -- ALLOW p TO r ON t "(" c {"," c} ")" [WITH i]
   allow : {purpose recipient table : List ℕ} {columns : List (List ℕ)} {item : Option (List ℕ)} {named behind rest : List TokenKind} →
       AreNames named columns (Symbol RightParen ∷ behind) →
       IsWith behind item rest →
       IsConsole (Keyword KAllow ∷ Word purpose ∷ Keyword KTo ∷ Word recipient ∷ Keyword KOn ∷ Word table ∷ Symbol LeftParen ∷ named) (stmt.Allow purpose recipient table columns item) rest
-
   -- REVOKE p TO r ON t "(" c {"," c} ")"
   revoke : {purpose recipient table : List ℕ} {columns : List (List ℕ)} {named rest : List TokenKind} →
       AreNames named columns (Symbol RightParen ∷ rest) →
       IsConsole (Keyword KRevoke ∷ Word purpose ∷ Keyword KTo ∷ Word recipient ∷ Keyword KOn ∷ Word table ∷ Symbol LeftParen ∷ named) (stmt.Revoke purpose recipient table columns) rest
-
   -- CHOICE number ON i IS (YES | NO)
   choice_yes : {n : ℤ} {item : List ℕ} {rest : List TokenKind} →
       IsConsole (Keyword KChoice ∷ Number n ∷ Keyword KOn ∷ Word item ∷ Keyword KIs ∷ Keyword KYes ∷ rest) (stmt.Choice n item true) rest
   choice_no : {n : ℤ} {item : List ℕ} {rest : List TokenKind} →
       IsConsole (Keyword KChoice ∷ Number n ∷ Keyword KOn ∷ Word item ∷ Keyword KIs ∷ Keyword KNo ∷ rest) (stmt.Choice n item false) rest
-
   -- INSERT INTO t VALUES "(" literal {"," literal} ")"
   insert : {table : List ℕ} {values : List Value} {tokens rest : List TokenKind} →
       IsListOf IsLiteral (Symbol Comma) tokens values (Symbol RightParen ∷ rest) →
       IsConsole (Keyword KInsert ∷ Keyword KInto ∷ Word table ∷ Keyword KValues ∷ Symbol LeftParen ∷ tokens) (stmt.Insert table values) rest
-
   -- UPDATE t SET c "=" literal {"," c "=" literal} WHERE keys
   update : {s : Stmt} {table : List ℕ} {settings keys : List (List ℕ × Value)} {tokens behind rest : List TokenKind} →
       AreSettings tokens settings (Keyword KWhere ∷ behind) →
       AreKeys behind keys rest →
       s ≡ stmt.Update table (columns_of settings) (values_of settings) (columns_of keys) (values_of keys) →
       IsConsole (Keyword KUpdate ∷ Word table ∷ Keyword KSet ∷ tokens) s rest
-
   -- DELETE FROM t WHERE keys
   delete : {s : Stmt} {table : List ℕ} {keys : List (List ℕ × Value)} {tokens rest : List TokenKind} →
       AreKeys tokens keys rest →
       s ≡ stmt.Delete table (columns_of keys) (values_of keys) →
       IsConsole (Keyword KDelete ∷ Keyword KFrom ∷ Word table ∷ Keyword KWhere ∷ tokens) s rest
-
   -- EXPLAIN number
   explain : {n : ℤ} {rest : List TokenKind} → IsConsole (Keyword KExplain ∷ Number n ∷ rest) (stmt.Explain n) rest
-
   -- audit | BEGIN AUDIT audit
   audit : {a : RawAudit} {tokens rest : List TokenKind} → IsAudit tokens a rest → IsConsole tokens (stmt.Audit a) rest
   begin_audit : {a : RawAudit} {tokens rest : List TokenKind} → IsAudit tokens a rest → IsConsole (Keyword KBegin ∷ Keyword KAudit ∷ tokens) (stmt.BeginAudit a) rest

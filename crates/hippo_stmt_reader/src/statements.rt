@@ -46,11 +46,7 @@ fn explain(tokens: &[Token]) -> Result<Stmt, SyntaxFault>
 
 // A statement of the console that begins with this keyword, from the tokens behind it.
 #[tactic(auto, unfolding(crate::specs::Stating::console_behind))]
-fn console_behind(
-    alloc: Global,
-    keyword: Keyword,
-    tokens: &[Token],
-) -> Result<Stmt, SyntaxFault>
+fn console_behind(alloc: Global, keyword: Keyword, tokens: &[Token]) -> Result<Stmt, SyntaxFault>
     ensures { Gives (λ stmt. stmt) result (console_behind keyword (kinds tokens.now)) }
 {
     match keyword {
