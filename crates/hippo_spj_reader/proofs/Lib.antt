@@ -6,4 +6,5 @@ pub mod ListTheorem
 pub mod NameTheorem
 pub mod OperandTheorem
 pub mod SelectTheorem
+pub mod SuffixTheorem
 pub mod WholeTheorem

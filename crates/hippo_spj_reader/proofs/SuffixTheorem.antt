@@ -1,0 +1,100 @@
+-- What follows a part of the grammar is the end of the tokens that it begins.
+use Rattle.std.proofs.Common.{◌≡◌, List, [], ◌∷◌, ◌++◌, refl, ap}
+use Rattle.hippo_values.specs.declared.values.Value.{Value}
+use Rattle.hippo_model.specs.declared.statement.RawColumn.{RawColumn}
+use Rattle.hippo_model.specs.declared.statement.RawItem.{RawItem}
+use Rattle.hippo_model.specs.declared.statement.RawOperand.{RawOperand}
+use Rattle.hippo_model.specs.declared.statement.RawSelect.{RawSelect}
+use Rattle.hippo_lexer.specs.declared.kinds.TokenKind.{TokenKind}
+use Rattle.hippo_spj_reader.specs.Conditions.{RawCond, IsColumn, bare, qualified, IsLiteral, number, quoted, day, null, IsOperand, column, literal, IsCondition, disjunction, AreDisjuncts, last_disjunct, more_disjuncts, IsConjunction, conjunction, AreConjuncts, last_conjunct, more_conjuncts, IsNegation, negated, plain, IsPrimary, parentheses, comparison, between, not_between, among, not_among, missing, present}
+use Rattle.hippo_spj_reader.specs.Lists.{IsListOf, last_part, more_parts}
+use Rattle.hippo_spj_reader.specs.Selects.{IsItem, one_column, all_of_table, AreItems, star, listed, AreJoined, no_more, comma, join, inner_join, IsWhere, no_where, condition, IsSelect, select}
+
+-- the rest is what is left of the tokens behind some of them
+pub data IsSuffix (rest : List TokenKind) : List TokenKind → Type 0 where
+  all_left : IsSuffix rest rest
+  behind : {first : TokenKind} {tokens : List TokenKind} → IsSuffix rest tokens → IsSuffix rest (first ∷ tokens)
+
+pub within : {b a c : List TokenKind} → IsSuffix b a → IsSuffix c b → IsSuffix c a
+within all_left s = s
+within (behind r) s = behind (within r s)
+
+-- behind one token more
+pub next : {a b : List TokenKind} {first : TokenKind} → IsSuffix (first ∷ b) a → IsSuffix b a
+next s = within s (behind all_left)
+
+pub front_of : {rest tokens : List TokenKind} → IsSuffix rest tokens → (front : List TokenKind) × (tokens ≡ front ++ rest)
+front_of all_left = ([], refl)
+front_of (behind {first = first} s) = let f = front_of s in (first ∷ f.0, ap (λ (ks : List TokenKind). first ∷ ks) f.1)
+
+column_suffix : {tokens rest : List TokenKind} {c : RawColumn} → IsColumn tokens c rest → IsSuffix rest tokens
+column_suffix bare = behind all_left
+column_suffix qualified = behind (behind (behind all_left))
+
+literal_suffix : {tokens rest : List TokenKind} {v : Value} → IsLiteral tokens v rest → IsSuffix rest tokens
+literal_suffix number = behind all_left
+literal_suffix quoted = behind all_left
+literal_suffix day = behind all_left
+literal_suffix null = behind all_left
+
+operand_suffix : {tokens rest : List TokenKind} {o : RawOperand} → IsOperand tokens o rest → IsSuffix rest tokens
+operand_suffix (column c) = column_suffix c
+operand_suffix (literal l) = literal_suffix l
+
+module _ {X : Type 0} (IsPart : List TokenKind → X → List TokenKind → Type 0) (separator : TokenKind)
+    (part_suffix : (tokens rest : List TokenKind) (x : X) → IsPart tokens x rest → IsSuffix rest tokens) where
+  list_suffix : {tokens rest : List TokenKind} {xs : List X} → IsListOf IsPart separator tokens xs rest → IsSuffix rest tokens
+  list_suffix (last_part d) = part_suffix _ _ _ d
+  list_suffix (more_parts d ds) = within (next (part_suffix _ _ _ d)) (list_suffix ds)
+
+mutual
+  condition_suffix : {tokens rest : List TokenKind} {c : RawCond} → IsCondition tokens c rest → IsSuffix rest tokens
+  condition_suffix (disjunction ds e) = disjuncts_suffix ds
+
+  disjuncts_suffix : {tokens rest : List TokenKind} {cs : List RawCond} → AreDisjuncts tokens cs rest → IsSuffix rest tokens
+  disjuncts_suffix (last_disjunct d) = conjunction_suffix d
+  disjuncts_suffix (more_disjuncts d ds) = within (next (conjunction_suffix d)) (disjuncts_suffix ds)
+
+  conjunction_suffix : {tokens rest : List TokenKind} {c : RawCond} → IsConjunction tokens c rest → IsSuffix rest tokens
+  conjunction_suffix (conjunction ds e) = conjuncts_suffix ds
+
+  conjuncts_suffix : {tokens rest : List TokenKind} {cs : List RawCond} → AreConjuncts tokens cs rest → IsSuffix rest tokens
+  conjuncts_suffix (last_conjunct d) = negation_suffix d
+  conjuncts_suffix (more_conjuncts d ds) = within (next (negation_suffix d)) (conjuncts_suffix ds)
+
+  negation_suffix : {tokens rest : List TokenKind} {c : RawCond} → IsNegation tokens c rest → IsSuffix rest tokens
+  negation_suffix (negated d e) = behind (negation_suffix d)
+  negation_suffix (plain d) = primary_suffix d
+
+  primary_suffix : {tokens rest : List TokenKind} {c : RawCond} → IsPrimary tokens c rest → IsSuffix rest tokens
+  primary_suffix (parentheses d) = behind (next (condition_suffix d))
+  primary_suffix (comparison a op b) = within (next (operand_suffix a)) (operand_suffix b)
+  primary_suffix (between a b d) = within (next (operand_suffix a)) (within (next (operand_suffix b)) (operand_suffix d))
+  primary_suffix (not_between a b d e) = within (next (next (operand_suffix a))) (within (next (operand_suffix b)) (operand_suffix d))
+  primary_suffix (among a b) = within (next (next (operand_suffix a))) (next (list_suffix IsOperand _ (λ _ _ _ d. operand_suffix d) b))
+  primary_suffix (not_among a b e) = within (next (next (next (operand_suffix a)))) (next (list_suffix IsOperand _ (λ _ _ _ d. operand_suffix d) b))
+  primary_suffix (missing a) = next (next (operand_suffix a))
+  primary_suffix (present a e) = next (next (next (operand_suffix a)))
+
+item_suffix : {tokens rest : List TokenKind} {i : RawItem} → IsItem tokens i rest → IsSuffix rest tokens
+item_suffix (one_column c) = column_suffix c
+item_suffix all_of_table = behind (behind (behind all_left))
+
+items_suffix : {tokens rest : List TokenKind} {items : List RawItem} → AreItems tokens items rest → IsSuffix rest tokens
+items_suffix star = behind all_left
+items_suffix (listed ds) = list_suffix IsItem _ (λ _ _ _ d. item_suffix d) ds
+
+joined_suffix : {tokens rest : List TokenKind} {tables : List _} {conditions : List RawCond} → AreJoined tokens tables conditions rest → IsSuffix rest tokens
+joined_suffix no_more = all_left
+joined_suffix (comma d) = behind (behind (joined_suffix d))
+joined_suffix (join c d) = behind (behind (behind (within (condition_suffix c) (joined_suffix d))))
+joined_suffix (inner_join c d) = behind (behind (behind (behind (within (condition_suffix c) (joined_suffix d)))))
+
+where_suffix : {tokens rest : List TokenKind} {conditions : List RawCond} → IsWhere tokens conditions rest → IsSuffix rest tokens
+where_suffix no_where = all_left
+where_suffix (condition c) = behind (condition_suffix c)
+
+-- what follows a select is the end of its tokens
+pub select_suffix : {tokens rest : List TokenKind} {s : RawSelect} → IsSelect tokens s rest → IsSuffix rest tokens
+select_suffix (select are_items are_joined is_where is_whole) =
+    behind (within (next (next (items_suffix are_items))) (within (joined_suffix are_joined) (where_suffix is_where)))

@@ -1,0 +1,3 @@
+pub mod ConsoleTheorem
+pub mod PartTheorem
+pub mod StatementTheorem

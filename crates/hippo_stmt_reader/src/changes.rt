@@ -1,0 +1,166 @@
+ghost use Rattle.std.specs.Prelude.{◌≡◌, ◌<◌, length, map, IfOk};
+ghost use Rattle.hippo_spj_reader.specs.Answers.{Gives};
+ghost use Rattle.hippo_spj_reader.specs.Front.{kinds};
+ghost use Rattle.hippo_stmt_reader.specs.Statements.{columns_of, values_of};
+ghost use Rattle.hippo_stmt_reader.specs.Stating.{assignment_at, insert_at, update_at, delete_at};
+
+use crate::parts::end;
+use hippo_lexer::{Keyword, Symbol, SyntaxFault, Token};
+use hippo_model::{Cells, Names, Stmt};
+use hippo_spj_reader::{
+    Listed, after_keyword, after_symbol, expect_keyword, expect_symbol, list, literal, name,
+};
+use hippo_values::{Memory, Name, Sequence, Value};
+use std::alloc::Global;
+
+/// The rule of the values of INSERT.
+struct LiteralList;
+
+impl Listed for LiteralList {
+    ghost use Rattle.hippo_lexer.specs.declared.kinds.Symbol.TheVariants.{Comma};
+    ghost use Rattle.hippo_spj_reader.specs.Front.{after_symbol, literal_at};
+
+    type Part = Value;
+
+    ghost part_at = { literal_at };
+
+    ghost next_at = { after_symbol Comma };
+
+    fn part(alloc: Global, tokens: &[Token]) -> Result<(Value, &[Token]), SyntaxFault> {
+        literal(alloc, tokens)
+    }
+
+    fn next(tokens: &[Token]) -> Option<&[Token]> {
+        after_symbol(tokens, Symbol::Comma)
+    }
+}
+
+type Assignment = (Name, Value);
+
+#[tactic(auto, unfolding(crate::specs::Stating::assignment_at))]
+fn assignment(alloc: Global, tokens: &[Token]) -> Result<(Assignment, &[Token]), SyntaxFault>
+    ensures found { Gives (λ x. (x.0, kinds x.1.now)) result (assignment_at (kinds tokens.now)) }
+    ensures shorter { IfOk result (λ x. length x.1.now < length tokens.now) }
+{
+    let (column, rest) = name(alloc, tokens)?;
+    let rest = expect_symbol(rest, Symbol::Equal)?;
+    let (value, rest) = literal(alloc, rest)?;
+    Ok(((column, value), rest))
+}
+
+/// The rule of what SET writes.
+struct SettingList;
+
+impl Listed for SettingList {
+    ghost use Rattle.hippo_lexer.specs.declared.kinds.Symbol.TheVariants.{Comma};
+    ghost use Rattle.hippo_spj_reader.specs.Front.{after_symbol};
+    ghost use Rattle.hippo_stmt_reader.specs.Stating.{assignment_at};
+
+    type Part = Assignment;
+
+    ghost part_at = { assignment_at };
+
+    ghost next_at = { after_symbol Comma };
+
+    fn part(alloc: Global, tokens: &[Token]) -> Result<(Assignment, &[Token]), SyntaxFault> {
+        assignment(alloc, tokens)
+    }
+
+    fn next(tokens: &[Token]) -> Option<&[Token]> {
+        after_symbol(tokens, Symbol::Comma)
+    }
+}
+
+/// The rule of the keys behind WHERE.
+struct KeyList;
+
+impl Listed for KeyList {
+    ghost use Rattle.hippo_lexer.specs.declared.kinds.Keyword.TheVariants.{KAnd};
+    ghost use Rattle.hippo_spj_reader.specs.Front.{after_keyword};
+    ghost use Rattle.hippo_stmt_reader.specs.Stating.{assignment_at};
+
+    type Part = Assignment;
+
+    ghost part_at = { assignment_at };
+
+    ghost next_at = { after_keyword KAnd };
+
+    fn part(alloc: Global, tokens: &[Token]) -> Result<(Assignment, &[Token]), SyntaxFault> {
+        assignment(alloc, tokens)
+    }
+
+    fn next(tokens: &[Token]) -> Option<&[Token]> {
+        after_keyword(tokens, Keyword::KAnd)
+    }
+}
+
+fn columns_and_values(
+    alloc: Global,
+    assignments: Sequence<Assignment>,
+) -> Result<(Names, Cells), Memory>
+    ensures columns { IfOk result (λ x. x.0 ≡ columns_of assignments) }
+    ensures values { IfOk result (λ x. x.1 ≡ values_of assignments) }
+{
+    let mut columns = Sequence::new(alloc);
+    let mut values = Sequence::new(alloc);
+    for (column, value) in assignments.into_vec() {
+        columns.push(column)?;
+        values.push(value)?;
+    }
+    Ok((columns, values))
+}
+
+/// The statement that the tokens behind INSERT have to be.
+#[tactic(auto, unfolding(crate::specs::Stating::insert_at))]
+pub fn insert(alloc: Global, tokens: &[Token]) -> Result<Stmt, SyntaxFault>
+    ensures { Gives (λ stmt. stmt) result (insert_at (kinds tokens.now)) }
+{
+    let rest = expect_keyword(tokens, Keyword::KInto)?;
+    let (table, rest) = name(alloc, rest)?;
+    let rest = expect_keyword(rest, Keyword::KValues)?;
+    let rest = expect_symbol(rest, Symbol::LeftParen)?;
+    let (values, rest) = list::<LiteralList>(alloc, rest)?;
+    let rest = expect_symbol(rest, Symbol::RightParen)?;
+    end(rest)?;
+    Ok(Stmt::Insert { table, values })
+}
+
+/// The statement that the tokens behind UPDATE have to be.
+#[tactic(auto, unfolding(crate::specs::Stating::update_at))]
+pub fn update(alloc: Global, tokens: &[Token]) -> Result<Stmt, SyntaxFault>
+    ensures { Gives (λ stmt. stmt) result (update_at (kinds tokens.now)) }
+{
+    let (table, rest) = name(alloc, tokens)?;
+    let rest = expect_keyword(rest, Keyword::KSet)?;
+    let (settings, rest) = list::<SettingList>(alloc, rest)?;
+    let rest = expect_keyword(rest, Keyword::KWhere)?;
+    let (keys, rest) = list::<KeyList>(alloc, rest)?;
+    let (columns, values) = columns_and_values(alloc, settings)?;
+    let (key_columns, key_values) = columns_and_values(alloc, keys)?;
+    end(rest)?;
+    Ok(Stmt::Update {
+        table,
+        columns,
+        values,
+        key_columns,
+        key_values,
+    })
+}
+
+/// The statement that the tokens behind DELETE have to be.
+#[tactic(auto, unfolding(crate::specs::Stating::delete_at))]
+pub fn delete(alloc: Global, tokens: &[Token]) -> Result<Stmt, SyntaxFault>
+    ensures { Gives (λ stmt. stmt) result (delete_at (kinds tokens.now)) }
+{
+    let rest = expect_keyword(tokens, Keyword::KFrom)?;
+    let (table, rest) = name(alloc, rest)?;
+    let rest = expect_keyword(rest, Keyword::KWhere)?;
+    let (keys, rest) = list::<KeyList>(alloc, rest)?;
+    let (key_columns, key_values) = columns_and_values(alloc, keys)?;
+    end(rest)?;
+    Ok(Stmt::Delete {
+        table,
+        key_columns,
+        key_values,
+    })
+}

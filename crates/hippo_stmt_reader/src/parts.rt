@@ -1,0 +1,52 @@
+ghost use Rattle.std.specs.Prelude.{◌≡◌, ◌<◌, ◌≤◌, length, option_map, IfOk, IfSome};
+ghost use Rattle.hippo_spj_reader.specs.Answers.{Gives};
+ghost use Rattle.hippo_spj_reader.specs.Front.{kinds};
+ghost use Rattle.hippo_stmt_reader.specs.Stating.{names_at, number_at, nothing_at, end_at};
+
+use hippo_lexer::{Symbol, SyntaxFault, Token, TokenKind};
+use hippo_model::Names;
+use hippo_spj_reader::{NameList, after_symbol, expect_symbol, list, split};
+use std::alloc::Global;
+
+/// The names in parentheses that have to stand first, and the tokens behind them.
+#[tactic(auto, unfolding(crate::specs::Stating::names_at))]
+pub fn names(alloc: Global, tokens: &[Token]) -> Result<(Names, &[Token]), SyntaxFault>
+    ensures found { Gives (λ x. (x.0, kinds x.1.now)) result (names_at (kinds tokens.now)) }
+    ensures shorter { IfOk result (λ x. length x.1.now < length tokens.now) }
+{
+    let inside = expect_symbol(tokens, Symbol::LeftParen)?;
+    let (names, rest) = list::<NameList>(alloc, inside)?;
+    let rest = expect_symbol(rest, Symbol::RightParen)?;
+    Ok((names, rest))
+}
+
+/// The number that has to stand first, and the tokens behind it.
+pub fn number(tokens: &[Token]) -> Result<(i64, &[Token]), SyntaxFault>
+    ensures found { Gives (λ x. (x.0, kinds x.1.now)) result (number_at (kinds tokens.now)) }
+    ensures shorter { IfOk result (λ x. length x.1.now < length tokens.now) }
+{
+    match split(tokens) {
+        Some((TokenKind::Number(number), rest)) => Ok((*number, rest)),
+        _ => Err(SyntaxFault::BadSyntax),
+    }
+}
+
+fn nothing(tokens: &[Token]) -> Result<(), SyntaxFault>
+    ensures { Gives (λ x. x) result (nothing_at (kinds tokens.now)) }
+{
+    if tokens.is_empty() {
+        Ok(())
+    } else {
+        Err(SyntaxFault::BadSyntax)
+    }
+}
+
+/// The end of a statement, with or without a `;` before it.
+pub fn end(tokens: &[Token]) -> Result<(), SyntaxFault>
+    ensures { Gives (λ x. x) result (end_at (kinds tokens.now)) }
+{
+    match after_symbol(tokens, Symbol::Semicolon) {
+        Some(rest) => nothing(rest),
+        None => nothing(tokens),
+    }
+}

@@ -1,0 +1,181 @@
+ghost use Rattle.std.specs.Prelude.{◌≡◌, ◌<◌, ◌≤◌, length, option_map, IfOk, IfSome};
+ghost use Rattle.hippo_spj_reader.specs.Answers.{Gives};
+ghost use Rattle.hippo_spj_reader.specs.Front.{kinds};
+ghost use Rattle.hippo_stmt_reader.specs.Stating.{column_kind_of, column_kind_at, column_def_at, next_column_at, subject_at, create_table_at, create_purpose_at, create_recipient_at, item_kind_at, create_item_at, create_at};
+
+use crate::parts::{end, names};
+use hippo_lexer::{Keyword, Symbol, SyntaxFault, Token, TokenKind};
+use hippo_model::{Column, ColumnKind, ItemKind, Stmt};
+use hippo_spj_reader::{
+    Listed, after_keyword, after_symbol, expect_keyword, expect_symbol, list, name, split,
+};
+use hippo_values::Name;
+use std::alloc::Global;
+
+fn column_kind_of(keyword: Keyword) -> Option<ColumnKind>
+    ensures { result ≡ column_kind_of keyword }
+{
+    match keyword {
+        Keyword::KInteger => Some(ColumnKind::Integer),
+        Keyword::KText => Some(ColumnKind::Text),
+        Keyword::KDate => Some(ColumnKind::Date),
+        _ => None,
+    }
+}
+
+fn column_kind(tokens: &[Token]) -> Option<(ColumnKind, &[Token])>
+    ensures found { option_map (λ x. (x.0, kinds x.1.now)) result ≡ column_kind_at (kinds tokens.now) }
+    ensures shorter { IfSome result (λ x. length x.1.now < length tokens.now) }
+{
+    match split(tokens)? {
+        (TokenKind::Keyword(keyword), rest) => Some((column_kind_of(*keyword)?, rest)),
+        _ => None,
+    }
+}
+
+#[tactic(auto, unfolding(crate::specs::Stating::column_def_at))]
+fn column_def(alloc: Global, tokens: &[Token]) -> Result<(Column, &[Token]), SyntaxFault>
+    ensures found { Gives (λ x. (x.0, kinds x.1.now)) result (column_def_at (kinds tokens.now)) }
+    ensures shorter { IfOk result (λ x. length x.1.now < length tokens.now) }
+{
+    let (name, rest) = name(alloc, tokens)?;
+    let (kind, rest) = column_kind(rest).ok_or(SyntaxFault::BadSyntax)?;
+    let Some(behind) = after_keyword(rest, Keyword::KNot) else {
+        let not_null = false;
+        return Ok((
+            Column {
+                name,
+                kind,
+                not_null,
+            },
+            rest,
+        ));
+    };
+    let rest = expect_keyword(behind, Keyword::KNull)?;
+    let not_null = true;
+    Ok((
+        Column {
+            name,
+            kind,
+            not_null,
+        },
+        rest,
+    ))
+}
+
+/// The rule of the columns of CREATE TABLE: the comma that PRIMARY KEY follows leads to no further one.
+struct ColumnList;
+
+impl Listed for ColumnList {
+    ghost use Rattle.hippo_stmt_reader.specs.Stating.{column_def_at, next_column_at};
+
+    type Part = Column;
+
+    ghost part_at = { column_def_at };
+
+    ghost next_at = { next_column_at };
+
+    fn part(alloc: Global, tokens: &[Token]) -> Result<(Column, &[Token]), SyntaxFault> {
+        column_def(alloc, tokens)
+    }
+
+    fn next(tokens: &[Token]) -> Option<&[Token]> {
+        let behind = after_symbol(tokens, Symbol::Comma)?;
+        match split(behind) {
+            Some((TokenKind::Word(_), _)) => Some(behind),
+            _ => None,
+        }
+    }
+}
+
+#[tactic(auto, unfolding(crate::specs::Stating::subject_at))]
+fn subject(alloc: Global, tokens: &[Token]) -> Result<(Option<Name>, &[Token]), SyntaxFault>
+    ensures found { Gives (λ x. (x.0, kinds x.1.now)) result (subject_at (kinds tokens.now)) }
+    ensures shorter { IfOk result (λ x. length x.1.now ≤ length tokens.now) }
+{
+    let Some(behind) = after_symbol(tokens, Symbol::Comma) else {
+        return Ok((None, tokens));
+    };
+    let rest = expect_keyword(behind, Keyword::KSubject)?;
+    let (column, rest) = name(alloc, rest)?;
+    Ok((Some(column), rest))
+}
+
+#[tactic(auto, unfolding(crate::specs::Stating::create_table_at))]
+fn create_table(alloc: Global, tokens: &[Token]) -> Result<Stmt, SyntaxFault>
+    ensures { Gives (λ stmt. stmt) result (create_table_at (kinds tokens.now)) }
+{
+    let (table, rest) = name(alloc, tokens)?;
+    let rest = expect_symbol(rest, Symbol::LeftParen)?;
+    let (columns, rest) = list::<ColumnList>(alloc, rest)?;
+    let rest = expect_symbol(rest, Symbol::Comma)?;
+    let rest = expect_keyword(rest, Keyword::KPrimary)?;
+    let rest = expect_keyword(rest, Keyword::KKey)?;
+    let (key, rest) = names(alloc, rest)?;
+    let (subject, rest) = subject(alloc, rest)?;
+    let rest = expect_symbol(rest, Symbol::RightParen)?;
+    end(rest)?;
+    Ok(Stmt::CreateTable {
+        table,
+        columns,
+        key,
+        subject,
+    })
+}
+
+#[tactic(auto, unfolding(crate::specs::Stating::create_purpose_at))]
+fn create_purpose(alloc: Global, tokens: &[Token]) -> Result<Stmt, SyntaxFault>
+    ensures { Gives (λ stmt. stmt) result (create_purpose_at (kinds tokens.now)) }
+{
+    let (purpose, rest) = name(alloc, tokens)?;
+    end(rest)?;
+    Ok(Stmt::CreatePurpose(purpose))
+}
+
+#[tactic(auto, unfolding(crate::specs::Stating::create_recipient_at))]
+fn create_recipient(alloc: Global, tokens: &[Token]) -> Result<Stmt, SyntaxFault>
+    ensures { Gives (λ stmt. stmt) result (create_recipient_at (kinds tokens.now)) }
+{
+    let (recipient, rest) = name(alloc, tokens)?;
+    end(rest)?;
+    Ok(Stmt::CreateRecipient(recipient))
+}
+
+fn item_kind(tokens: &[Token]) -> Result<(ItemKind, &[Token]), SyntaxFault>
+    ensures { Gives (λ x. (x.0, kinds x.1.now)) result (item_kind_at (kinds tokens.now)) }
+{
+    if let Some(rest) = after_keyword(tokens, Keyword::KIn) {
+        return Ok((ItemKind::OptIn, rest));
+    }
+    let rest = expect_keyword(tokens, Keyword::KOut)?;
+    Ok((ItemKind::OptOut, rest))
+}
+
+#[tactic(auto, unfolding(crate::specs::Stating::create_item_at))]
+fn create_item(alloc: Global, tokens: &[Token]) -> Result<Stmt, SyntaxFault>
+    ensures { Gives (λ stmt. stmt) result (create_item_at (kinds tokens.now)) }
+{
+    let (item, rest) = name(alloc, tokens)?;
+    let rest = expect_keyword(rest, Keyword::KOpt)?;
+    let (kind, rest) = item_kind(rest)?;
+    end(rest)?;
+    Ok(Stmt::CreateItem { item, kind })
+}
+
+/// The statement that the tokens behind CREATE have to be.
+#[tactic(auto, unfolding(crate::specs::Stating::create_at))]
+pub fn create(alloc: Global, tokens: &[Token]) -> Result<Stmt, SyntaxFault>
+    ensures { Gives (λ stmt. stmt) result (create_at (kinds tokens.now)) }
+{
+    if let Some(behind) = after_keyword(tokens, Keyword::KTable) {
+        return create_table(alloc, behind);
+    }
+    if let Some(behind) = after_keyword(tokens, Keyword::KPurpose) {
+        return create_purpose(alloc, behind);
+    }
+    if let Some(behind) = after_keyword(tokens, Keyword::KRecipient) {
+        return create_recipient(alloc, behind);
+    }
+    let behind = expect_keyword(tokens, Keyword::KItem)?;
+    create_item(alloc, behind)
+}
