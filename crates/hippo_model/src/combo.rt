@@ -3,7 +3,7 @@ ghost use Rattle.std.specs.Prelude.{◌≡◌, ◌<◌, ◌-◌, ◌↔◌, [], 
 use crate::cells::Cells;
 use crate::row_set::RowSet;
 use crate::schema::Places;
-use hippo_values::{Memory, Moment, Name};
+use hippo_values::{Memory, Moment, Name, Sequence};
 use std::alloc::Global;
 use std::marker::Model;
 
@@ -12,6 +12,9 @@ use std::marker::Model;
 pub struct Plan {
     pub order: Places,
 }
+
+/// How many rows each of a query's tables has, in the order of FROM.
+pub type Sizes = Sequence<u64>;
 
 /// The choices of patients on items.
 pub trait ChoiceView {

@@ -16,7 +16,7 @@ mod tests;
 
 pub use audit::{Audit, Flag, Flags, Pair, Pairs, SharedRow, SharedTuple};
 pub use cells::{Answer, Cell, CellRow, Cells};
-pub use combo::{ChoiceView, Combo, Plan, Sets};
+pub use combo::{ChoiceView, Combo, Plan, Sets, Sizes};
 pub use entry::{Act, Entry, History, ItemKind};
 pub use policy::{Authorization, Gate, Gates, RuleAt, RulesInForce, TableRules, Verdict};
 pub use query::{CondOf, Expr, Exprs, Guard, Guards, Masked, Operand, Operands, Query, Ref, Refs};
