@@ -22,7 +22,7 @@ use Rattle.hippo_model.specs.Denials.{denials}
 use Rattle.hippo_model.specs.Validity.{damage}
 use Rattle.hippo_model.proofs.NamedColumns.{named_columns}
 use Rattle.hippo_model.proofs.Truths.{truths}
-use Rattle.hippo_model.proofs.ExampleHistories.{treatment, nurse, ann, patient, patients, number_column, text_column, required, column, column_of, select, always}
+use Rattle.hippo_model.proofs.ExampleHistories.{treatment, nurse, ann, patient, patients, number_column, text_column, required, column, column_of, select, always, words_and_texts}
 
 abbrev billing : List ℕ
 billing = codes "billing"
@@ -94,6 +94,7 @@ abbrev day : List Entry
 day = morning ++ ann_asks ∷ carl_asks ∷ later 22 (Update patient (Int (pos 2) ∷ Text (codes "Bob") ∷ Text (codes "555-9") ∷ Int (pos 90210) ∷ [])) ∷ carl_asks_again ∷ []
 
 the_day_is_not_damaged : damage reading day ≡ None
+unfolding words_and_texts
 the_day_is_not_damaged = refl
 
 two_tables_join_in_key_order : answer morning (pos 1709544600) treatment nurse south

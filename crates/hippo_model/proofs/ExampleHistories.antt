@@ -17,6 +17,15 @@ use Rattle.hippo_values.specs.declared.truths.CompareOp.TheVariants.{Eq}
 use Rattle.hippo_model.specs.declared.query.Ref.{Ref}
 use Rattle.hippo_model.specs.declared.query.Query.{Query}
 use Rattle.hippo_model.specs.Answers.{answer}
+use Rattle.std.specs.Prelude.{⊤}
+use Rattle.std.specs.Str.{is_utf8, chars}
+use lib.Utf8.{encode}
+use Rattle.hippo_values.specs.Names.{keywords, unsupported_words}
+
+-- what is unfolded to compute which names and texts can be kept
+unfoldable pub words_and_texts : ⊤
+unfolding keywords unsupported_words is_utf8 chars encode
+words_and_texts = tt
 
 abbrev pub treatment : List ℕ
 treatment = codes "treatment"

@@ -12,3 +12,4 @@ mod ExampleHistories
 mod DayExamples
 mod AuditExamples
 mod DamageExamples
+mod StoreExamples

@@ -13,5 +13,8 @@ pub mod Columns
 pub mod Audits
 pub mod Denials
 pub mod Masking
+pub mod StoredForms
+pub mod Keepable
 pub mod Validity
+pub mod Stores
 pub mod Versions

@@ -19,6 +19,7 @@ use Rattle.hippo_model.specs.Values.{fits}
 use Rattle.hippo_model.specs.Histories.{last_word, schema_at, item_at}
 use Rattle.hippo_model.specs.Rows.{key_of, row_at}
 use Rattle.hippo_model.specs.Rules.{authorized_at}
+use Rattle.hippo_model.specs.Keepable.{is_keepable}
 
 abbrev pub creates_table : Act → Bool
 creates_table (Create schema) = true
@@ -106,9 +107,11 @@ is_acceptable reading history (Asked user purpose recipient text) = is_authorize
 abbrev pub keeps_order : List Entry → ℤ → Bool
 keeps_order history moment = option_map_or (λ last. int_le last moment) (last_word (λ entry. Some entry.moment) history) true
 
--- whether an entry may follow those so far: it has the next number and no earlier moment, and its act is acceptable
+-- whether an entry may follow those so far: it can be kept, has the next number and no earlier moment, and its act is
+-- acceptable
 abbrev pub may_follow : (List Entry → List ℕ → Option Query) → List Entry → Entry → Bool
-may_follow reading history entry = entry.seq == length history + 1 && keeps_order history entry.moment && is_acceptable reading history entry.act
+may_follow reading history entry =
+    is_keepable entry && entry.seq == length history + 1 && keeps_order history entry.moment && is_acceptable reading history entry.act
 
 -- the place, counted from 1, of the first entry that may not follow those before it
 abbrev pub damage_after : (List Entry → List ℕ → Option Query) → List Entry → List Entry → Option ℕ

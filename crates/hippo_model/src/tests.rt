@@ -180,32 +180,7 @@ fn stored(alloc: Global) -> Result<StoredEntry, Memory> {
     })
 }
 
-fn query_is_copied(alloc: Global) -> Result<bool, Memory> {
-    let source = query(alloc)?;
-    let copy = source.copy(alloc)?;
-    Ok(copy == source)
-}
-
-fn audit_is_copied(alloc: Global) -> Result<bool, Memory> {
-    let source = audit(alloc)?;
-    let copy = source.copy(alloc)?;
-    Ok(copy == source)
-}
-
-fn flag_is_copied(alloc: Global) -> Result<bool, Memory> {
-    let source = flag(alloc)?;
-    let copy = source.copy(alloc)?;
-    Ok(copy == source)
-}
-
-fn history_is_copied(alloc: Global) -> Result<bool, Memory> {
-    let source = history(alloc)?;
-    let copy = source.copy(alloc)?;
-    Ok(copy == source)
-}
-
-fn stored_is_copied(alloc: Global) -> Result<bool, Memory> {
-    let source = stored(alloc)?;
+fn is_copied<T: Duplicate + PartialEq + Drop>(alloc: Global, source: T) -> Result<bool, Memory> {
     let copy = source.copy(alloc)?;
     Ok(copy == source)
 }
@@ -213,10 +188,10 @@ fn stored_is_copied(alloc: Global) -> Result<bool, Memory> {
 #[test]
 fn copies_equal_their_sources(rt: HostRuntime) -> Result<(), Fail> {
     let alloc = rt.alloc();
-    assert!(rt; query_is_copied(alloc)?);
-    assert!(rt; audit_is_copied(alloc)?);
-    assert!(rt; flag_is_copied(alloc)?);
-    assert!(rt; history_is_copied(alloc)?);
-    assert!(rt; stored_is_copied(alloc)?);
+    assert!(rt; is_copied(alloc, query(alloc)?)?);
+    assert!(rt; is_copied(alloc, audit(alloc)?)?);
+    assert!(rt; is_copied(alloc, flag(alloc)?)?);
+    assert!(rt; is_copied(alloc, history(alloc)?)?);
+    assert!(rt; is_copied(alloc, stored(alloc)?)?);
     Ok(())
 }

@@ -2,10 +2,11 @@ ghost use Rattle.std.specs.Prelude.{◌≡◌, IfOk};
 
 use crate::memory::Memory;
 use std::alloc::Global;
+use std::fmt::{self, Debug, Formatter, Write};
 use std::marker::Model;
 
 /// A `Box` that contracts see as what it holds.
-#[derive(Debug, Drop)]
+#[derive(Drop)]
 pub struct Boxed<T> {
     held: Box<T>,
 }
@@ -42,6 +43,12 @@ impl<T: Drop> Boxed<T> {
         Ok(Boxed {
             held: Box::new(alloc, value)?,
         })
+    }
+}
+
+impl<T: Debug> Debug for Boxed<T> {
+    fn fmt<W: Write>(&self, f: &mut Formatter<W>) -> fmt::Result {
+        self.held.fmt(f)
     }
 }
 

@@ -12,6 +12,7 @@ use crate::memory::{Duplicate, Memory};
 use crate::texts::Txt;
 use std::alloc::Global;
 use std::cmp::Ordering;
+use std::fmt::{self, Debug, Formatter, Write};
 use std::hash::{Hash, Hasher};
 use std::marker::Model;
 
@@ -169,7 +170,7 @@ pub fn is_name(word: &str) -> bool
 }
 
 /// The name of a table, column, purpose, recipient, item or user: 1 to 63 bytes in lower case.
-#[derive(Debug, Drop)]
+#[derive(Drop)]
 pub struct Name {
     text: Txt,
 }
@@ -211,6 +212,12 @@ impl Duplicate for Name {
     fn copy(&self, alloc: Global) -> Result<Name, Memory> {
         let text = self.text.copy(alloc)?;
         Ok(Name { text })
+    }
+}
+
+impl Debug for Name {
+    fn fmt<W: Write>(&self, f: &mut Formatter<W>) -> fmt::Result {
+        self.text.fmt(f)
     }
 }
 

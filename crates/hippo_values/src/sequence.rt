@@ -5,10 +5,11 @@ ghost use Rattle.std.specs.Cmp.Lexicographic.{pointwise, slice_cmp, slice_partia
 use crate::memory::{Duplicate, Memory};
 use std::alloc::Global;
 use std::cmp::Ordering;
+use std::fmt::{self, Debug, Formatter, Write};
 use std::marker::Model;
 
 /// A `Vec` that contracts see as the list of its members.
-#[derive(Debug, Drop)]
+#[derive(Drop)]
 pub struct Sequence<T> {
     members: Vec<T>,
 }
@@ -126,6 +127,12 @@ impl<T: Duplicate + Drop> Duplicate for Sequence<T> {
     fn copy(&self, alloc: Global) -> Result<Sequence<T>, Memory> {
         let members = copied_members(alloc, self.as_slice())?;
         Ok(Sequence { members })
+    }
+}
+
+impl<T: Debug> Debug for Sequence<T> {
+    fn fmt<W: Write>(&self, f: &mut Formatter<W>) -> fmt::Result {
+        self.members.fmt(f)
     }
 }
 

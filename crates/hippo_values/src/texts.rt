@@ -8,10 +8,11 @@ ghost use Rattle.std.specs.Cmp.Lexicographic.{pointwise, slice_cmp, nat_list_eq_
 use crate::memory::{Duplicate, Memory};
 use std::alloc::Global;
 use std::cmp::Ordering;
+use std::fmt::{self, Debug, Formatter, Write};
 use std::marker::Model;
 
 /// A text that contracts see as the list of its bytes.
-#[derive(Debug, Drop)]
+#[derive(Drop)]
 pub struct Txt {
     text: String,
 }
@@ -99,6 +100,12 @@ impl Txt {
 impl Duplicate for Txt {
     fn copy(&self, alloc: Global) -> Result<Txt, Memory> {
         Txt::from_str(alloc, self.as_str())
+    }
+}
+
+impl Debug for Txt {
+    fn fmt<W: Write>(&self, f: &mut Formatter<W>) -> fmt::Result {
+        self.text.fmt(f)
     }
 }
 

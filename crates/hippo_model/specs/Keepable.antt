@@ -1,0 +1,85 @@
+-- Which entries can be kept: those whose parts have room in the stored form, as the types of numbers, days and names say
+-- and the counts of the stored form allow.
+use Rattle.std.specs.Prelude.{ℕ, ℤ, pos, negsuc, Bool, true, ◌&&◌, List, length, nat_lt, nat_le, int_le, Option, Some, None, bytes_eq}
+use Rattle.std.specs.List.{list_all}
+use Rattle.std.specs.Option.{option_map_or}
+use Rattle.std.specs.Str.{is_utf8}
+use Rattle.hippo_values.specs.Names.{is_name, folded}
+use Rattle.hippo_values.specs.declared.values.Value.{Value}
+use Rattle.hippo_values.specs.declared.values.Value.TheVariants.{Null, Int, Text, Day}
+use Rattle.hippo_model.specs.declared.schema.Column.{Column}
+use Rattle.hippo_model.specs.declared.schema.Schema.{Schema}
+use Rattle.hippo_model.specs.declared.entry.Act.{Act}
+use Rattle.hippo_model.specs.declared.entry.Act.TheVariants.{Create, Insert, Update, Delete, Purpose, Recipient, Item, Authorize, Deauthorize, Allow, Revoke, Choice, Asked}
+use Rattle.hippo_model.specs.declared.entry.Entry.{Entry}
+
+-- a number of 64 bits with a sign
+abbrev pub is_signed_number : ℤ → Bool
+is_signed_number number = int_le (negsuc 9223372036854775807) number && int_le number (pos 9223372036854775807)
+
+-- a second, and a day, of the years 0001 to 9999
+abbrev pub is_moment : ℤ → Bool
+is_moment second = int_le (negsuc 62135596799) second && int_le second (pos 253402300799)
+
+abbrev pub is_day : ℤ → Bool
+is_day day = int_le (negsuc 719161) day && int_le day (pos 2932896)
+
+-- a name in lower case
+abbrev pub is_folded_name : List ℕ → Bool
+is_folded_name name = is_name name && bytes_eq (folded name) name
+
+-- UTF-8 of at most so many bytes
+abbrev pub is_text : ℕ → List ℕ → Bool
+is_text limit text = nat_le (length text) limit && is_utf8 text
+
+-- a list whose count goes into one byte
+abbrev pub is_listed : {A : Type 0} → List A → Bool
+is_listed members = nat_lt (length members) 256
+
+-- a list of 1 to 64 members
+abbrev pub is_short : {A : Type 0} → List A → Bool
+is_short members = nat_le 1 (length members) && nat_le (length members) 64
+
+abbrev pub is_place : ℕ → Bool
+is_place place = nat_lt place 256
+
+abbrev pub value_is_keepable : Value → Bool
+value_is_keepable Null = true
+value_is_keepable (Int number) = is_signed_number number
+value_is_keepable (Text text) = is_text 4096 text
+value_is_keepable (Day day) = is_day day
+
+abbrev pub cells_are_keepable : List Value → Bool
+cells_are_keepable cells = is_listed cells && list_all value_is_keepable cells
+
+abbrev pub places_are_keepable : List ℕ → Bool
+places_are_keepable places = is_listed places && list_all is_place places
+
+abbrev pub schema_is_keepable : Schema → Bool
+schema_is_keepable schema =
+    is_folded_name schema.name && is_short schema.columns && list_all (λ column. is_folded_name column.name) schema.columns
+    && is_short schema.key && list_all is_place schema.key && option_map_or (λ place. nat_lt place 255) schema.subject true
+
+abbrev pub rule_is_keepable : List ℕ → List ℕ → List ℕ → List ℕ → Bool
+rule_is_keepable purpose recipient table columns =
+    is_folded_name purpose && is_folded_name recipient && is_folded_name table && places_are_keepable columns
+
+abbrev pub act_is_keepable : Act → Bool
+act_is_keepable (Create schema) = schema_is_keepable schema
+act_is_keepable (Insert table row) = is_folded_name table && cells_are_keepable row
+act_is_keepable (Update table row) = is_folded_name table && cells_are_keepable row
+act_is_keepable (Delete table key) = is_folded_name table && cells_are_keepable key
+act_is_keepable (Purpose name) = is_folded_name name
+act_is_keepable (Recipient name) = is_folded_name name
+act_is_keepable (Item name kind) = is_folded_name name
+act_is_keepable (Authorize user purpose recipient) = is_folded_name user && is_folded_name purpose && is_folded_name recipient
+act_is_keepable (Deauthorize user purpose recipient) = is_folded_name user && is_folded_name purpose && is_folded_name recipient
+act_is_keepable (Allow purpose recipient table columns item) = rule_is_keepable purpose recipient table columns && option_map_or is_folded_name item true
+act_is_keepable (Revoke purpose recipient table columns) = rule_is_keepable purpose recipient table columns
+act_is_keepable (Choice subject item agreed) = is_signed_number subject && is_folded_name item
+act_is_keepable (Asked user purpose recipient text) =
+    is_folded_name user && is_folded_name purpose && is_folded_name recipient && nat_le 1 (length text) && is_text 65536 text
+
+-- whether an entry has a stored form
+abbrev pub is_keepable : Entry → Bool
+is_keepable entry = nat_lt entry.seq 18446744073709551616 && is_moment entry.moment && act_is_keepable entry.act
