@@ -1,20 +1,20 @@
 -- Entries as they are kept, and stores whose damage shows in their bytes alone.
-use Rattle.std.proofs.Common.{◌≡◌, ℕ, pos, true, false, Bool, ◌&&◌, List, [], ◌∷◌, ◌++◌, Option, Some, refl, sym, ap, ◌∙◌, codes, take}
+use Rattle.std.proofs.Common.{◌≡◌, ℕ, pos, negsuc, true, false, Bool, ◌&&◌, List, [], ◌∷◌, ◌++◌, Some, refl, sym, ap, ◌∙◌, codes, take}
 use Rattle.std.specs.Prelude.{nat_le, map}
 use Rattle.std.specs.List.{list_all}
 use Rattle.std.specs.Str.{bytes_eq}
 use Rattle.std.specs.Cmp.Lexicographic.{nat_list_eq_equiv}
 use mathlib.Core.Bool.{false≢true}
+use Rattle.hippo_values.specs.declared.values.Value.TheVariants.{Null, Int, Text, Day}
 use Rattle.hippo_model.specs.declared.entry.Act.{Act}
 use Rattle.hippo_model.specs.declared.entry.Act.TheVariants.{Create, Insert, Update, Delete, Purpose, Recipient, Item, Authorize, Deauthorize, Allow, Revoke, Choice, Asked}
 use Rattle.hippo_model.specs.declared.entry.Entry.{Entry}
-use Rattle.hippo_model.specs.declared.query.Query.{Query}
 use Rattle.hippo_model.specs.declared.stored.StoredEntry.{StoredEntry}
-use Rattle.hippo_model.specs.StoredForms.{stored, number_bytes, act_kind}
+use Rattle.hippo_model.specs.StoredForms.{stored, number_bytes, act_kind, act_bytes, list_bytes, value_bytes}
 use Rattle.hippo_model.specs.Keepable.{is_keepable}
 use Rattle.hippo_model.specs.Stores.{IsStoreOf, IsDamagedAt}
 use Rattle.hippo_model.proofs.DamageExamples.{reading}
-use Rattle.hippo_model.proofs.ExampleHistories.{entry, clinic, morning, patient, ada, bob, words_and_texts}
+use Rattle.hippo_model.proofs.ExampleHistories.{entry, clinic, morning, patient, ada, bob, number_column, text_column, required, words_and_texts}
 
 care_is_kept_in_23_bytes : stored (entry 1 (Purpose (codes "care")))
     ≡ record {
@@ -25,6 +25,22 @@ care_is_kept_in_23_bytes : stored (entry 1 (Purpose (codes "care")))
       body = 1 ∷ 0 ∷ 0 ∷ 0 ∷ 0 ∷ 0 ∷ 0 ∷ 0 ∷ 1 ∷ 0 ∷ 0 ∷ 0 ∷ 0 ∷ 101 ∷ 147 ∷ 194 ∷ 128 ∷ 5 ∷ 4 ∷ 99 ∷ 97 ∷ 114 ∷ 101 ∷ [];
     }
 care_is_kept_in_23_bytes = refl
+
+values_are_kept : list_bytes value_bytes (Null ∷ Int (negsuc 1) ∷ Text (codes "ab") ∷ Day (pos 19782) ∷ [])
+    ≡ 4
+    ∷ 0
+    ∷ 1 ∷ 255 ∷ 255 ∷ 255 ∷ 255 ∷ 255 ∷ 255 ∷ 255 ∷ 254
+    ∷ 2 ∷ 0 ∷ 0 ∷ 0 ∷ 2 ∷ 97 ∷ 98
+    ∷ 3 ∷ 0 ∷ 0 ∷ 77 ∷ 70 ∷ []
+values_are_kept = refl
+
+table_is_kept : act_bytes (Create (record { name = codes "ward"; columns = required (number_column (codes "room")) ∷ text_column (codes "site") ∷ []; key = 1 ∷ 0 ∷ []; subject = Some 0 }))
+    ≡ 4 ∷ codes "ward" ++ 2 ∷ 4 ∷ codes "room" ++ 1 ∷ 1 ∷ 4 ∷ codes "site" ++ 2 ∷ 0 ∷ 2 ∷ 1 ∷ 0 ∷ 1 ∷ []
+table_is_kept = refl
+
+rule_is_kept : act_bytes (Allow (codes "care") (codes "nurse") (codes "ward") (1 ∷ 0 ∷ []) (Some (codes "mail")))
+    ≡ 4 ∷ codes "care" ++ 5 ∷ codes "nurse" ++ 4 ∷ codes "ward" ++ 2 ∷ 1 ∷ 0 ∷ 1 ∷ 4 ∷ codes "mail"
+rule_is_kept = refl
 
 care_can_be_kept : is_keepable (entry 1 (Purpose (codes "care"))) ≡ true
 unfolding words_and_texts

@@ -1,7 +1,7 @@
 -- How an entry is kept, in format 1: its number, moment, kind and table, and a body of bytes. Numbers are big-endian, and
 -- those below 0 in two's complement; a name is its length in one byte and its bytes, a long text its length in four bytes
 -- and its bytes, a list its count in one byte and its members.
-use Rattle.std.specs.Prelude.{ℕ, ◌+◌, ℤ, Bool, List, [], ◌∷◌, ◌++◌, flat_map, length, Option, Some, None}
+use Rattle.std.specs.Prelude.{ℕ, ◌+◌, ℤ, List, [], ◌∷◌, ◌++◌, flat_map, length, Option, Some, None}
 use Rattle.std.specs.Int.{w32, w64, to_be_bytes, cast_unsigned, from_bool}
 use Rattle.hippo_values.specs.declared.values.Value.{Value}
 use Rattle.hippo_values.specs.declared.values.Value.TheVariants.{Null, Int, Text, Day}
