@@ -1,0 +1,753 @@
+#!/usr/bin/env python3
+"""A second reader of the statement language, written from the grammar alone: it shares no code with the proved one.
+
+Each line of standard input is the word of a rule (tokens, statement, select, condition or audit), a space and a text. What
+the text is by that rule, or why it is nothing, is printed as one line, in the form that hippo_read has.
+"""
+import re
+import sys
+import unicodedata
+
+sys.setrecursionlimit(20000)
+
+# ---------------------------------------------------------------- word lists
+
+KEYWORDS = frozenset("""
+    and allow audit authorize begin between choice create date deauthorize
+    delete during explain for from in inner insert integer into is item join
+    key no not null on open opt otherthan out primary purpose recipient revoke
+    select set shown subject table text to update values where with yes or
+""".split())
+
+UNSUPPORTED = frozenset("""
+    all alter any as avg case cast count cross distinct drop except exists full
+    group having intersect left like limit max min natural offset order outer
+    right sum union using window
+""".split())
+
+SYMBOLS = {
+    b"(": "LeftParen", b")": "RightParen", b",": "Comma", b".": "Dot",
+    b"*": "Star", b"=": "Equal", b"<>": "NotEqual", b"!=": "NotEqual",
+    b"<": "Less", b"<=": "LessEqual", b">": "Greater", b">=": "GreaterEqual",
+    b";": "Semicolon",
+}
+
+COMPARE = {"Equal": "Eq", "NotEqual": "Ne", "Less": "Lt", "LessEqual": "Le",
+           "Greater": "Gt", "GreaterEqual": "Ge"}
+
+# ---------------------------------------------------------------- Rust's Debug
+
+
+class Unit:
+    """A variant without fields."""
+    __slots__ = ("name",)
+
+    def __init__(self, name):
+        self.name = name
+
+
+class Tup:
+    """A variant (or Some) with fields by place."""
+    __slots__ = ("name", "args")
+
+    def __init__(self, name, *args):
+        self.name = name
+        self.args = args
+
+
+class Rec:
+    """A struct or a variant with named fields."""
+    __slots__ = ("name", "fields")
+
+    def __init__(self, name, *fields):
+        self.name = name
+        self.fields = fields
+
+
+PLAIN = re.compile(r'[ !#-\[\]-~]*\Z')
+SHORT = {'"': '\\"', "\\": "\\\\", "\t": "\\t", "\r": "\\r", "\n": "\\n",
+         "\0": "\\0"}
+
+
+def debug_text(s):
+    if PLAIN.match(s):
+        return '"' + s + '"'
+    out = ['"']
+    for c in s:
+        if c in SHORT:
+            out.append(SHORT[c])
+        elif " " <= c <= "~":
+            out.append(c)
+        elif unicodedata.category(c) in ("Cc", "Cf", "Cs", "Co", "Cn", "Zl",
+                                         "Zp", "Zs", "Mn", "Me"):
+            # not printable, or extends the character before it
+            out.append("\\u{%x}" % ord(c))
+        else:
+            out.append(c)
+    out.append('"')
+    return "".join(out)
+
+
+def render(x, out):
+    if isinstance(x, str):
+        out.append(debug_text(x))
+    elif isinstance(x, bool):
+        out.append("true" if x else "false")
+    elif isinstance(x, int):
+        out.append(str(x))
+    elif isinstance(x, list):
+        out.append("[")
+        for place, member in enumerate(x):
+            if place:
+                out.append(", ")
+            render(member, out)
+        out.append("]")
+    elif isinstance(x, Unit):
+        out.append(x.name)
+    elif isinstance(x, Tup):
+        out.append(x.name + "(")
+        for place, member in enumerate(x.args):
+            if place:
+                out.append(", ")
+            render(member, out)
+        out.append(")")
+    elif isinstance(x, Rec):
+        out.append(x.name + " { ")
+        for place, (field, member) in enumerate(x.fields):
+            if place:
+                out.append(", ")
+            out.append(field + ": ")
+            render(member, out)
+        out.append(" }")
+    else:
+        raise TypeError(x)
+
+
+def debug(x):
+    out = []
+    render(x, out)
+    return "".join(out)
+
+
+# ---------------------------------------------------------------- days
+
+DAYS_IN = (31, 28, 31, 30, 31, 30, 31, 31, 30, 31, 30, 31)
+DAY_FORM = re.compile(rb"([0-9]{4})-([0-9]{2})-([0-9]{2})\Z")
+
+
+def leap(year):
+    return year % 4 == 0 and (year % 100 != 0 or year % 400 == 0)
+
+
+def days_before(year):
+    """Days from 0001-01-01 to the first day of `year`."""
+    past = year - 1
+    return 365 * past + past // 4 - past // 100 + past // 400
+
+
+def read_day(text):
+    """The day number of exactly YYYY-MM-DD, or None."""
+    m = DAY_FORM.match(text)
+    if not m:
+        return None
+    year, month, day = int(m.group(1)), int(m.group(2)), int(m.group(3))
+    if year < 1 or not 1 <= month <= 12:
+        return None
+    size = DAYS_IN[month - 1] + (1 if month == 2 and leap(year) else 0)
+    if not 1 <= day <= size:
+        return None
+    number = days_before(year) + sum(DAYS_IN[:month - 1]) + day - 1
+    if month > 2 and leap(year):
+        number += 1
+    return number - days_before(1970)
+
+
+# ---------------------------------------------------------------- tokens
+
+# A token is (kind, value, start, end) with the kinds word, keyword,
+# unsupported, number, quoted, day, symbol.
+
+
+class Fault(Exception):
+    def __init__(self, name, place):
+        self.name = name
+        self.place = place
+
+
+BLANKS = re.compile(rb"[ \t]*")
+WORD = re.compile(rb"[A-Za-z][A-Za-z0-9_]*")
+NUMBER = re.compile(rb"-?[0-9]+")
+LETTER = re.compile(rb"[A-Za-z_]")
+SYMBOL = re.compile(rb"<>|!=|<=|>=|[(),.*=<>;]")
+
+
+def quoted_end(text, at):
+    """The place behind the closing quote of the text that opens at `at`, or
+    None where it isn't closed."""
+    place = at + 1
+    while True:
+        place = text.find(b"'", place)
+        if place < 0:
+            return None
+        if text[place + 1:place + 2] == b"'":
+            place += 2
+        else:
+            return place + 1
+
+
+def inner(text, at, end):
+    return text[at + 1:end - 1].replace(b"''", b"'")
+
+
+def cut(text):
+    """The tokens of a text (bytes); raises Fault at the leftmost one."""
+    found = []
+    at = BLANKS.match(text).end()
+    size = len(text)
+    while at < size:
+        m = WORD.match(text, at)
+        if m:
+            end = m.end()
+            if end - at > 63:
+                raise Fault("BadToken", at)
+            word = m.group().decode("ascii").lower()
+            if word == "date":
+                quote = BLANKS.match(text, end).end()
+                if text[quote:quote + 1] == b"'":
+                    close = quoted_end(text, quote)
+                    if close is not None:
+                        day = read_day(inner(text, quote, close))
+                        if day is None:
+                            raise Fault("BadDate", at)
+                        found.append(("day", day, at, close))
+                        at = BLANKS.match(text, close).end()
+                        continue
+            if word in KEYWORDS:
+                found.append(("keyword", word, at, end))
+            elif word in UNSUPPORTED:
+                found.append(("unsupported", word, at, end))
+            else:
+                found.append(("word", word, at, end))
+            at = BLANKS.match(text, end).end()
+            continue
+        m = NUMBER.match(text, at)
+        if m:
+            end = m.end()
+            digits = m.group()
+            minus = digits[:1] == b"-"
+            digits = digits.lstrip(b"-").lstrip(b"0")
+            value = 10 ** 19 if len(digits) > 19 else int(digits or b"0")
+            if minus:
+                value = -value
+            if not -2 ** 63 <= value <= 2 ** 63 - 1:
+                raise Fault("NumberTooLarge", at)
+            if LETTER.match(text, end):
+                raise Fault("BadToken", end)
+            found.append(("number", value, at, end))
+            at = BLANKS.match(text, end).end()
+            continue
+        if text[at:at + 1] == b"'":
+            end = quoted_end(text, at)
+            if end is None:
+                raise Fault("BadToken", at)
+            found.append(("quoted", inner(text, at, end).decode("utf-8"), at, end))
+            at = BLANKS.match(text, end).end()
+            continue
+        m = SYMBOL.match(text, at)
+        if m:
+            end = m.end()
+            found.append(("symbol", SYMBOLS[m.group()], at, end))
+            at = BLANKS.match(text, end).end()
+            continue
+        raise Fault("BadToken", at)
+    return found
+
+
+def day_number(day):
+    return Rec("DayNumber", ("day", day))
+
+
+def token_debug(token):
+    kind, value, start, end = token
+    if kind == "word":
+        shape = Tup("Word", value)
+    elif kind == "keyword":
+        shape = Tup("Keyword", Unit("K" + value[0].upper() + value[1:]))
+    elif kind == "unsupported":
+        shape = Tup("Unsupported", value)
+    elif kind == "number":
+        shape = Tup("Number", value)
+    elif kind == "quoted":
+        shape = Tup("Quoted", value)
+    elif kind == "day":
+        shape = Tup("Day", day_number(value))
+    else:
+        shape = Tup("Symbol", Unit(value))
+    return Rec("Token", ("kind", shape), ("start", start), ("end", end))
+
+
+def check_words(tokens):
+    """The fault of the words, as it is printed, or None."""
+    open_ = nots = 0
+    for kind, value, _, _ in tokens:
+        if kind == "symbol":
+            if value == "LeftParen":
+                open_ += 1
+                if open_ > 64:
+                    return "TooDeep"
+            elif value == "RightParen":
+                open_ -= 1
+        elif kind == "keyword" and value == "not":
+            nots += 1
+            if nots > 64:
+                return "TooDeep"
+    for place, token in enumerate(tokens):
+        if token[0] == "unsupported":
+            return "Unsupported(%d)" % place
+    return None
+
+
+# ---------------------------------------------------------------- grammar
+
+
+class BadSyntax(Exception):
+    pass
+
+
+END = ("end", None, 0, 0)
+
+
+class Reader:
+    def __init__(self, tokens):
+        self.tokens = tokens
+        self.count = len(tokens)
+        self.at = 0
+
+    # single tokens
+
+    def peek(self, ahead=0):
+        place = self.at + ahead
+        return self.tokens[place] if place < self.count else END
+
+    def sees(self, kind, value, ahead=0):
+        token = self.peek(ahead)
+        return token[0] == kind and token[1] == value
+
+    def sees_word(self, word):
+        return self.sees("keyword", word)
+
+    def sees_symbol(self, symbol):
+        return self.sees("symbol", symbol)
+
+    def may(self, kind, value):
+        if self.sees(kind, value):
+            self.at += 1
+            return True
+        return False
+
+    def may_word(self, word):
+        return self.may("keyword", word)
+
+    def may_symbol(self, symbol):
+        return self.may("symbol", symbol)
+
+    def word(self, *words):
+        """These keywords, one after the other."""
+        for word in words:
+            if not self.may("keyword", word):
+                raise BadSyntax
+
+    def symbol(self, symbol):
+        if not self.may("symbol", symbol):
+            raise BadSyntax
+
+    def take(self, kind):
+        token = self.peek()
+        if token[0] != kind:
+            raise BadSyntax
+        self.at += 1
+        return token[1]
+
+    def name(self):
+        return self.take("word")
+
+    def number(self):
+        return self.take("number")
+
+    def quoted(self):
+        return self.take("quoted")
+
+    def all_read(self):
+        if self.at != self.count:
+            raise BadSyntax
+
+    # lists
+
+    def listed(self, one):
+        """one {"," one}"""
+        found = [one()]
+        while self.may_symbol("Comma"):
+            found.append(one())
+        return found
+
+    def in_parens(self, one):
+        """"(" one {"," one} ")" """
+        self.symbol("LeftParen")
+        found = self.listed(one)
+        self.symbol("RightParen")
+        return found
+
+    # operands
+
+    def literal(self):
+        kind, value, _, _ = self.peek()
+        if kind == "number":
+            shape = Tup("Int", value)
+        elif kind == "quoted":
+            shape = Tup("Text", value)
+        elif kind == "day":
+            shape = Tup("Day", day_number(value))
+        elif kind == "keyword" and value == "null":
+            shape = Unit("Null")
+        else:
+            raise BadSyntax
+        self.at += 1
+        return shape
+
+    def column(self):
+        first = self.name()
+        if self.may_symbol("Dot"):
+            table, column = Tup("Some", first), self.name()
+        else:
+            table, column = Unit("None"), first
+        return Rec("RawColumn", ("table", table), ("column", column))
+
+    def operand(self):
+        if self.peek()[0] == "word":
+            return Tup("Column", self.column())
+        return Tup("Literal", self.literal())
+
+    # conditions
+
+    def cond(self):
+        parts = [self.conj()]
+        while self.may_word("or"):
+            parts.append(self.conj())
+        return parts[0] if len(parts) == 1 else Tup("Any", parts)
+
+    def conj(self):
+        parts = [self.neg()]
+        while self.may_word("and"):
+            parts.append(self.neg())
+        return parts[0] if len(parts) == 1 else Tup("All", parts)
+
+    def neg(self):
+        nots = 0
+        while self.may_word("not"):
+            nots += 1
+        shape = self.prim()
+        for _ in range(nots):
+            shape = Tup("Not", shape)
+        return shape
+
+    def prim(self):
+        if self.may_symbol("LeftParen"):
+            shape = self.cond()
+            self.symbol("RightParen")
+            return shape
+        left = self.operand()
+        kind, value, _, _ = self.peek()
+        if kind == "symbol" and value in COMPARE:
+            self.at += 1
+            right = self.operand()
+            return Rec("Compare", ("op", Unit(COMPARE[value])), ("left", left),
+                       ("right", right))
+        if self.may_word("is"):
+            turned = self.may_word("not")
+            self.word("null")
+            shape = Rec("Missing", ("value", left))
+        else:
+            turned = self.may_word("not")
+            if self.may_word("between"):
+                low = self.operand()
+                self.word("and")
+                high = self.operand()
+                shape = Rec("Between", ("value", left), ("low", low), ("high", high))
+            elif self.may_word("in"):
+                among = self.in_parens(self.operand)
+                shape = Rec("Among", ("value", left), ("list", among))
+            else:
+                raise BadSyntax
+        return Tup("Not", shape) if turned else shape
+
+    # selects
+
+    def item(self):
+        if (self.peek()[0] == "word" and self.sees("symbol", "Dot", 1)
+                and self.sees("symbol", "Star", 2)):
+            table = self.name()
+            self.at += 2
+            return Tup("AllOf", table)
+        return Tup("One", self.column())
+
+    def items(self):
+        if self.may_symbol("Star"):
+            return [Unit("All")]
+        return self.listed(self.item)
+
+    def select(self):
+        self.word("select")
+        items = self.items()
+        self.word("from")
+        tables = [self.name()]
+        conds = []
+        while True:
+            if self.may_symbol("Comma"):
+                tables.append(self.name())
+            elif self.sees_word("inner") or self.sees_word("join"):
+                self.may_word("inner")
+                self.word("join")
+                tables.append(self.name())
+                self.word("on")
+                conds.append(self.cond())
+            else:
+                break
+        if self.may_word("where"):
+            conds.append(self.cond())
+        return Rec("RawSelect", ("items", items), ("tables", tables),
+                   ("cond", whole(conds)))
+
+    # audits
+
+    def pair(self):
+        self.symbol("LeftParen")
+        purpose = self.name()
+        self.symbol("Comma")
+        recipient = self.name()
+        self.symbol("RightParen")
+        return Rec("Pair", ("purpose", purpose), ("recipient", recipient))
+
+    def audit(self):
+        self.word("during")
+        begin = self.quoted()
+        self.word("to")
+        end = self.quoted()
+        exempt = self.listed(self.pair) if self.may_word("otherthan") else []
+        self.word("audit")
+        columns = self.listed(self.column)
+        self.word("from")
+        tables = self.listed(self.name)
+        conds = [self.cond()] if self.may_word("where") else []
+        return Rec("RawAudit", ("from", begin), ("to", end), ("exempt", exempt),
+                   ("shown", False), ("columns", columns), ("tables", tables),
+                   ("cond", whole(conds)))
+
+    # statements
+
+    def set_part(self):
+        column = self.name()
+        self.symbol("Equal")
+        return column, self.literal()
+
+    def keys(self):
+        parts = [self.set_part()]
+        while self.may_word("and"):
+            parts.append(self.set_part())
+        return [c for c, _ in parts], [v for _, v in parts]
+
+    def coldef(self):
+        name = self.name()
+        if self.may_word("integer"):
+            kind = "Integer"
+        elif self.may_word("text"):
+            kind = "Text"
+        elif self.may_word("date"):
+            kind = "Date"
+        else:
+            raise BadSyntax
+        not_null = self.may_word("not")
+        if not_null:
+            self.word("null")
+        return Rec("Column", ("name", name), ("kind", Unit(kind)),
+                   ("not_null", not_null))
+
+    def create(self):
+        if self.may_word("purpose"):
+            return Tup("CreatePurpose", self.name())
+        if self.may_word("recipient"):
+            return Tup("CreateRecipient", self.name())
+        if self.may_word("item"):
+            item = self.name()
+            self.word("opt")
+            if self.may_word("in"):
+                kind = "OptIn"
+            elif self.may_word("out"):
+                kind = "OptOut"
+            else:
+                raise BadSyntax
+            return Rec("CreateItem", ("item", item), ("kind", Unit(kind)))
+        self.word("table")
+        table = self.name()
+        self.symbol("LeftParen")
+        columns = [self.coldef()]
+        self.symbol("Comma")
+        while not self.sees_word("primary"):
+            columns.append(self.coldef())
+            self.symbol("Comma")
+        self.word("primary", "key")
+        key = self.in_parens(self.name)
+        subject = Unit("None")
+        if self.may_symbol("Comma"):
+            self.word("subject")
+            subject = Tup("Some", self.name())
+        self.symbol("RightParen")
+        return Rec("CreateTable", ("table", table), ("columns", columns),
+                   ("key", key), ("subject", subject))
+
+    def authorize(self, shape):
+        user = self.name()
+        self.word("for")
+        purpose = self.name()
+        self.symbol("Comma")
+        recipient = self.name()
+        return Rec(shape, ("user", user), ("purpose", purpose),
+                   ("recipient", recipient))
+
+    def rule(self):
+        """The fields that ALLOW and REVOKE have in common."""
+        purpose = self.name()
+        self.word("to")
+        recipient = self.name()
+        self.word("on")
+        table = self.name()
+        columns = self.in_parens(self.name)
+        return [("purpose", purpose), ("recipient", recipient),
+                ("table", table), ("columns", columns)]
+
+    def console(self):
+        if self.may_word("create"):
+            return self.create()
+        if self.may_word("authorize"):
+            return self.authorize("Authorize")
+        if self.may_word("deauthorize"):
+            return self.authorize("Deauthorize")
+        if self.may_word("allow"):
+            fields = self.rule()
+            item = Tup("Some", self.name()) if self.may_word("with") else Unit("None")
+            return Rec("Allow", *fields, ("item", item))
+        if self.may_word("revoke"):
+            return Rec("Revoke", *self.rule())
+        if self.may_word("choice"):
+            subject = self.number()
+            self.word("on")
+            item = self.name()
+            self.word("is")
+            if self.may_word("yes"):
+                yes = True
+            elif self.may_word("no"):
+                yes = False
+            else:
+                raise BadSyntax
+            return Rec("Choice", ("subject", subject), ("item", item), ("yes", yes))
+        if self.may_word("insert"):
+            self.word("into")
+            table = self.name()
+            self.word("values")
+            return Rec("Insert", ("table", table),
+                       ("values", self.in_parens(self.literal)))
+        if self.may_word("update"):
+            table = self.name()
+            self.word("set")
+            parts = self.listed(self.set_part)
+            self.word("where")
+            key_columns, key_values = self.keys()
+            return Rec("Update", ("table", table),
+                       ("columns", [c for c, _ in parts]),
+                       ("values", [v for _, v in parts]),
+                       ("key_columns", key_columns), ("key_values", key_values))
+        if self.may_word("delete"):
+            self.word("from")
+            table = self.name()
+            self.word("where")
+            key_columns, key_values = self.keys()
+            return Rec("Delete", ("table", table), ("key_columns", key_columns),
+                       ("key_values", key_values))
+        if self.may_word("explain"):
+            return Tup("Explain", self.number())
+        if self.sees_word("during"):
+            return Tup("Audit", self.audit())
+        if self.may_word("begin"):
+            self.word("audit")
+            return Tup("BeginAudit", self.audit())
+        raise BadSyntax
+
+    def statement(self):
+        asked = self.may_word("open")
+        if asked or self.sees_word("select"):
+            start = self.peek()[2]
+            select = self.select()
+            end = self.tokens[self.at - 1][3]
+            shape = Rec("Ask" if asked else "Select", ("select", select),
+                        ("start", start), ("end", end))
+        else:
+            shape = self.console()
+        self.may_symbol("Semicolon")
+        return shape
+
+
+def whole(conds):
+    """The whole condition: the parts of ON and WHERE under one All."""
+    parts = []
+    for cond in conds:
+        if cond.name == "All":
+            parts.extend(cond.args[0])
+        else:
+            parts.append(cond)
+    return Tup("All", parts)
+
+
+# ---------------------------------------------------------------- lines
+
+RULES = {"statement": Reader.statement, "select": Reader.select,
+         "condition": Reader.cond, "audit": Reader.audit}
+
+
+def answer(line):
+    """The answer to one line of bytes, without its LF."""
+    what, _, text = line.partition(b" ")
+    what = what.decode("ascii", "replace")
+    if what != "tokens" and what not in RULES:
+        return "NoSuchWhat"
+    try:
+        text.decode("utf-8")
+    except UnicodeDecodeError:
+        return "NotUtf8"
+    try:
+        tokens = cut(text)
+    except Fault as fault:
+        return "%s(%d)" % (fault.name, fault.place)
+    if what == "tokens":
+        return debug([token_debug(t) for t in tokens])
+    fault = check_words(tokens)
+    if fault is not None:
+        return fault
+    reader = Reader(tokens)
+    try:
+        shape = RULES[what](reader)
+        reader.all_read()
+    except BadSyntax:
+        return "BadSyntax"
+    return debug(shape)
+
+
+def main():
+    out = sys.stdout.buffer
+    for line in sys.stdin.buffer:
+        if line.endswith(b"\n"):
+            line = line[:-1]
+        out.write(answer(line).encode("utf-8") + b"\n")
+    out.flush()
+
+
+if __name__ == "__main__":
+    main()
