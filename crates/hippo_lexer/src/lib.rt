@@ -6,8 +6,6 @@ mod kinds;
 pub mod lexer;
 mod parts;
 mod tables;
-#[cfg(test)]
-mod tests;
 mod words;
 
 pub use faults::{LexFault, SyntaxFault};

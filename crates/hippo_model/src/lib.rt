@@ -11,8 +11,6 @@ mod row_set;
 mod schema;
 mod statement;
 mod stored;
-#[cfg(test)]
-mod tests;
 
 pub use audit::{Audit, Flag, Flags, Pair, Pairs, SharedRow, SharedTuple};
 pub use cells::{Answer, Cell, CellRow, Cells};

@@ -8,8 +8,6 @@ mod cuts;
 mod entries;
 mod printing;
 mod requests;
-#[cfg(test)]
-mod tests;
 mod top;
 mod turns;
 mod world;

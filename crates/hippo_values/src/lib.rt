@@ -8,8 +8,6 @@ mod moments;
 mod names;
 mod printing;
 mod sequence;
-#[cfg(test)]
-mod tests;
 mod texts;
 mod truths;
 mod values;

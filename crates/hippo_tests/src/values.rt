@@ -1,4 +1,4 @@
-use crate::{
+use hippo_values::{
     CompareOp, DayNumber, Duplicate, Memory, Moment, Name, Sequence, Truth, Txt, Value, compare,
     day_text, is_name, moment_text, print_value, read_day, read_moment, truth_and, truth_not,
     truth_or,

@@ -1,4 +1,4 @@
-use crate::{
+use hippo_model::{
     Act, Audit, Cells, Combo, CondOf, Entry, Flag, History, Operand, Pair, Places, Query, Ref,
     RowSet, Sets, SharedRow, StoredEntry,
 };

@@ -1,5 +1,5 @@
-use crate::lexer::tokens;
-use crate::{LexFault, SyntaxFault, Token, TokenKind, check_words};
+use hippo_lexer::lexer::tokens;
+use hippo_lexer::{LexFault, SyntaxFault, Token, TokenKind, check_words};
 use std::alloc::{AllocError, Global};
 use std::test::Fail;
 

@@ -1,5 +1,5 @@
-use crate::{Ending, hippo_top};
 use hippo_io::{MemorySink, MemorySource};
+use hippo_serve::{Ending, hippo_top};
 use hippo_values::{Bytes, Calls, Memory, Sequence, Txt};
 use std::alloc::Global;
 use std::process::Abort;
