@@ -6,8 +6,9 @@ use Rattle.hippo_values.specs.declared.values.Value.TheVariants.{Int, Text}
 use Rattle.hippo_model.specs.declared.audit.Audit.{Audit}
 use Rattle.hippo_model.specs.declared.audit.SharedRow.{SharedRow}
 use Rattle.hippo_model.specs.declared.cells.Cell.TheVariants.{Shown}
-use Rattle.hippo_model.specs.declared.entry.Act.TheVariants.{Create, Recipient, Authorize, Allow, Revoke, Insert, Update, Delete, Asked}
+use Rattle.hippo_model.specs.declared.entry.Act.TheVariants.{Create, Recipient, Item, Authorize, Allow, Revoke, Choice, Insert, Update, Delete, Asked}
 use Rattle.hippo_model.specs.declared.entry.Entry.{Entry}
+use Rattle.hippo_model.specs.declared.entry.ItemKind.TheVariants.{OptOut}
 use Rattle.hippo_model.specs.declared.query.CondOf.{CondOf}
 use Rattle.hippo_model.specs.declared.query.CondOf.TheVariants.{Compare}
 use Rattle.hippo_model.specs.declared.query.Operand.{Operand}
@@ -96,6 +97,18 @@ rules_are_those_of_the_query = simp truths
 
 deleted_row_is_not_shared : flag_of second_name gone names_of_the_second 10 ≡ None
 deleted_row_is_not_shared = simp truths
+
+-- a patient's number and name are shown unless the patient said NO, as the second one does between two equal questions
+abbrev refused : List Entry
+refused =
+    clinic ++ entry 8 (Item (codes "contact") OptOut) ∷ entry 9 (Allow treatment nurse patient (0 ∷ 1 ∷ []) (Some (codes "contact")))
+    ∷ asked 10 ∷ entry 11 (Choice (pos 2) (codes "contact") false) ∷ asked 12 ∷ []
+
+choices_are_those_of_the_query : flag_of second_name refused names_of_the_second 10 ≡ row_of patient (Int (pos 2) ∷ [])
+choices_are_those_of_the_query = simp truths
+
+row_that_was_refused_is_not_shared : flag_of second_name refused names_of_the_second 12 ≡ None
+row_that_was_refused_is_not_shared = simp truths
 
 -- four questions, a second apart
 abbrev asked_at : ℕ → ℤ → Entry

@@ -1,4 +1,4 @@
-use crate::readings::reading;
+use crate::reading;
 use std::alloc::{AllocError, Global};
 use std::test::Fail;
 
