@@ -31,6 +31,10 @@ nothing_at (first ∷ rest) = None
 abbrev pub end_at : List TokenKind → Option (Unit {0})
 end_at tokens = either (after_symbol Semicolon tokens) nothing_at (nothing_at tokens)
 
+-- what was read, where the statement ends behind it
+abbrev pub ended_at : {A : Type 0} → A → List TokenKind → Option A
+ended_at read tokens = end_at tokens >>= λ end. Some read
+
 abbrev pub column_kind_of : words.Keyword → Option ColumnKind
 column_kind_of KInteger = Some kind.Integer
 column_kind_of KText = Some kind.Text

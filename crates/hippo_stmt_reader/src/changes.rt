@@ -4,7 +4,7 @@ ghost use Rattle.hippo_spj_reader.specs.Front.{kinds};
 ghost use Rattle.hippo_stmt_reader.specs.Statements.{columns_of, values_of};
 ghost use Rattle.hippo_stmt_reader.specs.Stating.{assignment_at, insert_at, update_at, delete_at};
 
-use crate::parts::end;
+use crate::parts::ended;
 use hippo_lexer::{Keyword, Symbol, SyntaxFault, Token};
 use hippo_model::{Cells, Names, Stmt};
 use hippo_spj_reader::{
@@ -121,8 +121,7 @@ pub fn insert(alloc: Global, tokens: &[Token]) -> Result<Stmt, SyntaxFault>
     let rest = expect_symbol(rest, Symbol::LeftParen)?;
     let (values, rest) = list::<LiteralList>(alloc, rest)?;
     let rest = expect_symbol(rest, Symbol::RightParen)?;
-    end(rest)?;
-    Ok(Stmt::Insert { table, values })
+    ended(Stmt::Insert { table, values }, rest)
 }
 
 /// The statement that the tokens behind UPDATE have to be.
@@ -137,14 +136,16 @@ pub fn update(alloc: Global, tokens: &[Token]) -> Result<Stmt, SyntaxFault>
     let (keys, rest) = list::<KeyList>(alloc, rest)?;
     let (columns, values) = columns_and_values(alloc, settings)?;
     let (key_columns, key_values) = columns_and_values(alloc, keys)?;
-    end(rest)?;
-    Ok(Stmt::Update {
-        table,
-        columns,
-        values,
-        key_columns,
-        key_values,
-    })
+    ended(
+        Stmt::Update {
+            table,
+            columns,
+            values,
+            key_columns,
+            key_values,
+        },
+        rest,
+    )
 }
 
 /// The statement that the tokens behind DELETE have to be.
@@ -157,10 +158,12 @@ pub fn delete(alloc: Global, tokens: &[Token]) -> Result<Stmt, SyntaxFault>
     let rest = expect_keyword(rest, Keyword::KWhere)?;
     let (keys, rest) = list::<KeyList>(alloc, rest)?;
     let (key_columns, key_values) = columns_and_values(alloc, keys)?;
-    end(rest)?;
-    Ok(Stmt::Delete {
-        table,
-        key_columns,
-        key_values,
-    })
+    ended(
+        Stmt::Delete {
+            table,
+            key_columns,
+            key_values,
+        },
+        rest,
+    )
 }

@@ -1,7 +1,7 @@
 ghost use Rattle.std.specs.Prelude.{◌≡◌, ◌<◌, ◌≤◌, length, option_map, IfOk, IfSome};
 ghost use Rattle.hippo_spj_reader.specs.Answers.{Gives};
 ghost use Rattle.hippo_spj_reader.specs.Front.{kinds};
-ghost use Rattle.hippo_stmt_reader.specs.Stating.{names_at, number_at, nothing_at, end_at};
+ghost use Rattle.hippo_stmt_reader.specs.Stating.{names_at, number_at, nothing_at, end_at, ended_at};
 
 use hippo_lexer::{Symbol, SyntaxFault, Token, TokenKind};
 use hippo_model::Names;
@@ -41,12 +41,20 @@ fn nothing(tokens: &[Token]) -> Result<(), SyntaxFault>
     }
 }
 
-/// The end of a statement, with or without a `;` before it.
-pub fn end(tokens: &[Token]) -> Result<(), SyntaxFault>
+// The end of a statement, with or without a `;` before it.
+fn end(tokens: &[Token]) -> Result<(), SyntaxFault>
     ensures { Gives (λ x. x) result (end_at (kinds tokens.now)) }
 {
     match after_symbol(tokens, Symbol::Semicolon) {
         Some(rest) => nothing(rest),
         None => nothing(tokens),
     }
+}
+
+/// What was read, where the statement ends behind it.
+pub fn ended<T: Drop>(read: T, tokens: &[Token]) -> Result<T, SyntaxFault>
+    ensures { Gives (λ x. x) result (ended_at read (kinds tokens.now)) }
+{
+    end(tokens)?;
+    Ok(read)
 }

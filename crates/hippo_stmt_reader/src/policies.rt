@@ -3,7 +3,7 @@ ghost use Rattle.hippo_spj_reader.specs.Answers.{Gives};
 ghost use Rattle.hippo_spj_reader.specs.Front.{kinds};
 ghost use Rattle.hippo_stmt_reader.specs.Stating.{grant_at, authorize_at, deauthorize_at, rule_at, with_at, allow_at, revoke_at, answer_at, choice_at};
 
-use crate::parts::{end, names, number};
+use crate::parts::{ended, names, number};
 use hippo_lexer::{Keyword, Symbol, SyntaxFault, Token};
 use hippo_model::{Names, Stmt};
 use hippo_spj_reader::{after_keyword, expect_keyword, expect_symbol, name};
@@ -49,12 +49,14 @@ pub fn authorize(alloc: Global, tokens: &[Token]) -> Result<Stmt, SyntaxFault>
         purpose,
         recipient,
     } = grant;
-    end(rest)?;
-    Ok(Stmt::Authorize {
-        user,
-        purpose,
-        recipient,
-    })
+    ended(
+        Stmt::Authorize {
+            user,
+            purpose,
+            recipient,
+        },
+        rest,
+    )
 }
 
 /// The statement that the tokens behind DEAUTHORIZE have to be.
@@ -68,12 +70,14 @@ pub fn deauthorize(alloc: Global, tokens: &[Token]) -> Result<Stmt, SyntaxFault>
         purpose,
         recipient,
     } = grant;
-    end(rest)?;
-    Ok(Stmt::Deauthorize {
-        user,
-        purpose,
-        recipient,
-    })
+    ended(
+        Stmt::Deauthorize {
+            user,
+            purpose,
+            recipient,
+        },
+        rest,
+    )
 }
 
 // What ALLOW and REVOKE speak of.
@@ -132,14 +136,16 @@ pub fn allow(alloc: Global, tokens: &[Token]) -> Result<Stmt, SyntaxFault>
         table,
         columns,
     } = rule;
-    end(rest)?;
-    Ok(Stmt::Allow {
-        purpose,
-        recipient,
-        table,
-        columns,
-        item,
-    })
+    ended(
+        Stmt::Allow {
+            purpose,
+            recipient,
+            table,
+            columns,
+            item,
+        },
+        rest,
+    )
 }
 
 /// The statement that the tokens behind REVOKE have to be.
@@ -154,13 +160,15 @@ pub fn revoke(alloc: Global, tokens: &[Token]) -> Result<Stmt, SyntaxFault>
         table,
         columns,
     } = rule;
-    end(rest)?;
-    Ok(Stmt::Revoke {
-        purpose,
-        recipient,
-        table,
-        columns,
-    })
+    ended(
+        Stmt::Revoke {
+            purpose,
+            recipient,
+            table,
+            columns,
+        },
+        rest,
+    )
 }
 
 fn answer(tokens: &[Token]) -> Result<(bool, &[Token]), SyntaxFault>
@@ -184,6 +192,5 @@ pub fn choice(alloc: Global, tokens: &[Token]) -> Result<Stmt, SyntaxFault>
     let (item, rest) = name(alloc, rest)?;
     let rest = expect_keyword(rest, Keyword::KIs)?;
     let (yes, rest) = answer(rest)?;
-    end(rest)?;
-    Ok(Stmt::Choice { subject, item, yes })
+    ended(Stmt::Choice { subject, item, yes }, rest)
 }

@@ -3,7 +3,7 @@ ghost use Rattle.hippo_spj_reader.specs.Answers.{Gives};
 ghost use Rattle.hippo_spj_reader.specs.Front.{kinds};
 ghost use Rattle.hippo_stmt_reader.specs.Stating.{column_kind_of, column_kind_at, column_def_at, next_column_at, subject_at, create_table_at, create_purpose_at, create_recipient_at, item_kind_at, create_item_at, create_at};
 
-use crate::parts::{end, names};
+use crate::parts::{ended, names};
 use hippo_lexer::{Keyword, Symbol, SyntaxFault, Token, TokenKind};
 use hippo_model::{Column, ColumnKind, ItemKind, Stmt};
 use hippo_spj_reader::{
@@ -114,13 +114,15 @@ fn create_table(alloc: Global, tokens: &[Token]) -> Result<Stmt, SyntaxFault>
     let (key, rest) = names(alloc, rest)?;
     let (subject, rest) = subject(alloc, rest)?;
     let rest = expect_symbol(rest, Symbol::RightParen)?;
-    end(rest)?;
-    Ok(Stmt::CreateTable {
-        table,
-        columns,
-        key,
-        subject,
-    })
+    ended(
+        Stmt::CreateTable {
+            table,
+            columns,
+            key,
+            subject,
+        },
+        rest,
+    )
 }
 
 #[tactic(auto, unfolding(crate::specs::Stating::create_purpose_at))]
@@ -128,8 +130,7 @@ fn create_purpose(alloc: Global, tokens: &[Token]) -> Result<Stmt, SyntaxFault>
     ensures { Gives (λ stmt. stmt) result (create_purpose_at (kinds tokens.now)) }
 {
     let (purpose, rest) = name(alloc, tokens)?;
-    end(rest)?;
-    Ok(Stmt::CreatePurpose(purpose))
+    ended(Stmt::CreatePurpose(purpose), rest)
 }
 
 #[tactic(auto, unfolding(crate::specs::Stating::create_recipient_at))]
@@ -137,8 +138,7 @@ fn create_recipient(alloc: Global, tokens: &[Token]) -> Result<Stmt, SyntaxFault
     ensures { Gives (λ stmt. stmt) result (create_recipient_at (kinds tokens.now)) }
 {
     let (recipient, rest) = name(alloc, tokens)?;
-    end(rest)?;
-    Ok(Stmt::CreateRecipient(recipient))
+    ended(Stmt::CreateRecipient(recipient), rest)
 }
 
 fn item_kind(tokens: &[Token]) -> Result<(ItemKind, &[Token]), SyntaxFault>
@@ -158,8 +158,7 @@ fn create_item(alloc: Global, tokens: &[Token]) -> Result<Stmt, SyntaxFault>
     let (item, rest) = name(alloc, tokens)?;
     let rest = expect_keyword(rest, Keyword::KOpt)?;
     let (kind, rest) = item_kind(rest)?;
-    end(rest)?;
-    Ok(Stmt::CreateItem { item, kind })
+    ended(Stmt::CreateItem { item, kind }, rest)
 }
 
 /// The statement that the tokens behind CREATE have to be.

@@ -7,7 +7,7 @@ ghost use Rattle.hippo_stmt_reader.specs.Statements.{IsStatement, IsRefusal};
 ghost use Rattle.hippo_stmt_reader.specs.Stating.{console_behind, console_by, console_at, audit_statement_at, begin_audit_at, explain_at, query_at, open_at, select_statement_at, statement_at};
 
 use crate::changes::{delete, insert, update};
-use crate::parts::{end, number};
+use crate::parts::{ended, number};
 use crate::policies::{allow, authorize, choice, deauthorize, revoke};
 use crate::schemas::create;
 use hippo_audit_reader::audit;
@@ -21,8 +21,7 @@ fn audit_statement(alloc: Global, tokens: &[Token]) -> Result<Stmt, SyntaxFault>
     ensures { Gives (λ stmt. stmt) result (audit_statement_at (kinds tokens.now)) }
 {
     let (audit, rest) = audit(alloc, tokens)?;
-    end(rest)?;
-    Ok(Stmt::Audit(audit))
+    ended(Stmt::Audit(audit), rest)
 }
 
 #[tactic(auto, unfolding(crate::specs::Stating::begin_audit_at))]
@@ -31,8 +30,7 @@ fn begin_audit(alloc: Global, tokens: &[Token]) -> Result<Stmt, SyntaxFault>
 {
     let rest = expect_keyword(tokens, Keyword::KAudit)?;
     let (audit, rest) = audit(alloc, rest)?;
-    end(rest)?;
-    Ok(Stmt::BeginAudit(audit))
+    ended(Stmt::BeginAudit(audit), rest)
 }
 
 #[tactic(auto, unfolding(crate::specs::Stating::explain_at))]
@@ -40,8 +38,7 @@ fn explain(tokens: &[Token]) -> Result<Stmt, SyntaxFault>
     ensures { Gives (λ stmt. stmt) result (explain_at (kinds tokens.now)) }
 {
     let (number, rest) = number(tokens)?;
-    end(rest)?;
-    Ok(Stmt::Explain(number))
+    ended(Stmt::Explain(number), rest)
 }
 
 // A statement of the console that begins with this keyword, from the tokens behind it.
@@ -106,14 +103,17 @@ fn query(alloc: Global, tokens: &[Token]) -> Result<Asked, SyntaxFault>
     let (select, rest) = select(alloc, tokens)?;
     let text = &tokens[..tokens.len() - rest.len()];
     let (Some(first), Some(last)) = (text.first(), text.last()) else {
+        drop(select);
         return Err(SyntaxFault::BadSyntax);
     };
-    end(rest)?;
-    Ok(Asked {
-        select,
-        start: first.start,
-        end: last.end,
-    })
+    ended(
+        Asked {
+            select,
+            start: first.start,
+            end: last.end,
+        },
+        rest,
+    )
 }
 
 #[tactic(auto, unfolding(crate::specs::Stating::open_at))]
