@@ -1,6 +1,6 @@
 use hippo_model::{
-    Act, Audit, Cells, Combo, CondOf, Entry, Flag, History, Operand, Pair, Places, Query, Ref,
-    RowSet, Sets, SharedRow, StoredEntry,
+    Act, Answer, Audit, Cell, Cells, Column, ColumnKind, Combo, CondOf, Entry, Flag, History,
+    ItemKind, Operand, Pair, Places, Query, Ref, RowSet, Schema, Sets, SharedRow, StoredEntry,
 };
 use hippo_values::{Boxed, Duplicate, Memory, Moment, Name, Sequence, Txt, Value};
 use std::alloc::Global;
@@ -180,6 +180,117 @@ fn stored(alloc: Global) -> Result<StoredEntry, Memory> {
     })
 }
 
+fn answer(alloc: Global) -> Result<Answer, Memory> {
+    let mut row = Sequence::new(alloc);
+    row.push(Cell::Denied(9))?;
+    row.push(Cell::Shown(Value::Text(Txt::from_str(alloc, "Ada")?)))?;
+    let mut answer = Sequence::new(alloc);
+    answer.push(row)?;
+    Ok(answer)
+}
+
+fn schema(alloc: Global) -> Result<Schema, Memory> {
+    let mut columns = Sequence::new(alloc);
+    columns.push(Column {
+        name: name(alloc, "room")?,
+        kind: ColumnKind::Integer,
+        not_null: true,
+    })?;
+    let name = name(alloc, "ward")?;
+    let key = Sequence::from_vec(vec![in alloc; 0]?);
+    Ok(Schema {
+        name,
+        columns,
+        key,
+        subject: Some(0),
+    })
+}
+
+fn update(alloc: Global) -> Result<Act, Memory> {
+    let table = name(alloc, "ward")?;
+    let row = row(alloc, "only", 1, "b")?;
+    Ok(Act::Update { table, row })
+}
+
+fn delete(alloc: Global) -> Result<Act, Memory> {
+    let table = name(alloc, "ward")?;
+    let key = key(alloc, "b", 1)?;
+    Ok(Act::Delete { table, key })
+}
+
+fn item(alloc: Global) -> Result<Act, Memory> {
+    let item = name(alloc, "mail")?;
+    let kind = ItemKind::OptOut;
+    Ok(Act::Item { item, kind })
+}
+
+fn authorize(alloc: Global) -> Result<Act, Memory> {
+    let user = name(alloc, "ann")?;
+    let Pair { purpose, recipient } = pair(alloc)?;
+    Ok(Act::Authorize {
+        user,
+        purpose,
+        recipient,
+    })
+}
+
+fn deauthorize(alloc: Global) -> Result<Act, Memory> {
+    let user = name(alloc, "bea")?;
+    let Pair { purpose, recipient } = pair(alloc)?;
+    Ok(Act::Deauthorize {
+        user,
+        purpose,
+        recipient,
+    })
+}
+
+fn allow(alloc: Global) -> Result<Act, Memory> {
+    let Pair { purpose, recipient } = pair(alloc)?;
+    let table = name(alloc, "ward")?;
+    let columns = site_and_room(alloc)?;
+    let item = Some(name(alloc, "mail")?);
+    Ok(Act::Allow {
+        purpose,
+        recipient,
+        table,
+        columns,
+        item,
+    })
+}
+
+fn revoke(alloc: Global) -> Result<Act, Memory> {
+    let Pair { purpose, recipient } = pair(alloc)?;
+    let table = name(alloc, "ward")?;
+    let columns = site_and_room(alloc)?;
+    Ok(Act::Revoke {
+        purpose,
+        recipient,
+        table,
+        columns,
+    })
+}
+
+fn choice(alloc: Global) -> Result<Act, Memory> {
+    let item = name(alloc, "mail")?;
+    Ok(Act::Choice {
+        subject: -7,
+        item,
+        yes: true,
+    })
+}
+
+fn asked(alloc: Global) -> Result<Act, Memory> {
+    let user = name(alloc, "ann")?;
+    let Pair { purpose, recipient } = pair(alloc)?;
+    let text = Txt::from_str(alloc, "SELECT room FROM ward")?;
+    Ok(Act::Asked {
+        user,
+        purpose,
+        recipient,
+        text,
+    })
+}
+
 fn is_copied<T: Duplicate + PartialEq + Drop>(alloc: Global, source: T) -> Result<bool, Memory> {
     let copy = source.copy(alloc)?;
     Ok(copy == source)
@@ -193,5 +304,24 @@ fn copies_equal_their_sources(rt: HostRuntime) -> Result<(), Fail> {
     assert!(rt; is_copied(alloc, flag(alloc)?)?);
     assert!(rt; is_copied(alloc, history(alloc)?)?);
     assert!(rt; is_copied(alloc, stored(alloc)?)?);
+    assert!(rt; is_copied(alloc, answer(alloc)?)?);
+    Ok(())
+}
+
+#[test]
+fn copies_of_each_act_equal_their_sources(rt: HostRuntime) -> Result<(), Fail> {
+    let alloc = rt.alloc();
+    assert!(rt; is_copied(alloc, Act::Create(schema(alloc)?))?);
+    assert!(rt; is_copied(alloc, update(alloc)?)?);
+    assert!(rt; is_copied(alloc, delete(alloc)?)?);
+    assert!(rt; is_copied(alloc, Act::Purpose(name(alloc, "treatment")?))?);
+    assert!(rt; is_copied(alloc, Act::Recipient(name(alloc, "nurse")?))?);
+    assert!(rt; is_copied(alloc, item(alloc)?)?);
+    assert!(rt; is_copied(alloc, authorize(alloc)?)?);
+    assert!(rt; is_copied(alloc, deauthorize(alloc)?)?);
+    assert!(rt; is_copied(alloc, allow(alloc)?)?);
+    assert!(rt; is_copied(alloc, revoke(alloc)?)?);
+    assert!(rt; is_copied(alloc, choice(alloc)?)?);
+    assert!(rt; is_copied(alloc, asked(alloc)?)?);
     Ok(())
 }
