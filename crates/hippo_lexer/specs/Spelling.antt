@@ -3,7 +3,7 @@ use Rattle.std.specs.Prelude.{ℕ, ◌==◌, Bool, false, ◌||◌, List, [], �
 use Rattle.std.specs.Map.{lookup}
 use Rattle.hippo_values.specs.Names.{folded}
 use Rattle.hippo_lexer.specs.declared.kinds.Keyword.{Keyword}
-use Rattle.hippo_lexer.specs.declared.kinds.Keyword.TheVariants.{KAnd, KAllow, KAudit, KAuthorize, KBegin, KBetween, KChoice, KCreate, KDate, KDeauthorize, KDelete, KDuring, KExplain, KFor, KFrom, KIn, KInner, KInsert, KInteger, KInto, KIs, KItem, KJoin, KKey, KNo, KNot, KNull, KOn, KOpen, KOpt, KOtherthan, KOut, KPrimary, KPurpose, KRecipient, KRevoke, KSelect, KSet, KShown, KSubject, KTable, KText, KTo, KUpdate, KValues, KWhere, KWith, KYes, KOr}
+use Rattle.hippo_lexer.specs.declared.kinds.Keyword.TheVariants.{KAnd, KAllow, KAudit, KAuthorize, KBegin, KBetween, KChoice, KCreate, KDate, KDeauthorize, KDelete, KDistinct, KDuring, KExplain, KFor, KFrom, KGroup, KIn, KInner, KInsert, KInteger, KInto, KIs, KItem, KJoin, KKey, KMax, KMin, KNo, KNot, KNull, KOn, KOpen, KOpt, KOtherthan, KOut, KPrimary, KPurpose, KRecipient, KRevoke, KSelect, KSet, KShown, KSubject, KTable, KText, KTo, KUpdate, KValues, KWhere, KWith, KYes, KOr}
 use Rattle.hippo_lexer.specs.declared.kinds.Symbol.{Symbol}
 use Rattle.hippo_lexer.specs.declared.kinds.Symbol.TheVariants.{LeftParen, RightParen, Comma, Dot, Star, Equal, NotEqual, Less, LessEqual, Greater, GreaterEqual, Semicolon}
 
@@ -28,10 +28,10 @@ keyword_table =
     (codes "and", KAnd) ∷ (codes "allow", KAllow) ∷ (codes "audit", KAudit) ∷ (codes "authorize", KAuthorize)
     ∷ (codes "begin", KBegin) ∷ (codes "between", KBetween) ∷ (codes "choice", KChoice) ∷ (codes "create", KCreate)
     ∷ (codes "date", KDate) ∷ (codes "deauthorize", KDeauthorize) ∷ (codes "delete", KDelete)
-    ∷ (codes "during", KDuring) ∷ (codes "explain", KExplain) ∷ (codes "for", KFor) ∷ (codes "from", KFrom)
-    ∷ (codes "in", KIn) ∷ (codes "inner", KInner) ∷ (codes "insert", KInsert) ∷ (codes "integer", KInteger)
+    ∷ (codes "distinct", KDistinct) ∷ (codes "during", KDuring) ∷ (codes "explain", KExplain) ∷ (codes "for", KFor) ∷ (codes "from", KFrom)
+    ∷ (codes "group", KGroup) ∷ (codes "in", KIn) ∷ (codes "inner", KInner) ∷ (codes "insert", KInsert) ∷ (codes "integer", KInteger)
     ∷ (codes "into", KInto) ∷ (codes "is", KIs) ∷ (codes "item", KItem) ∷ (codes "join", KJoin)
-    ∷ (codes "key", KKey) ∷ (codes "no", KNo) ∷ (codes "not", KNot) ∷ (codes "null", KNull) ∷ (codes "on", KOn)
+    ∷ (codes "key", KKey) ∷ (codes "max", KMax) ∷ (codes "min", KMin) ∷ (codes "no", KNo) ∷ (codes "not", KNot) ∷ (codes "null", KNull) ∷ (codes "on", KOn)
     ∷ (codes "open", KOpen) ∷ (codes "opt", KOpt) ∷ (codes "otherthan", KOtherthan) ∷ (codes "out", KOut)
     ∷ (codes "primary", KPrimary) ∷ (codes "purpose", KPurpose) ∷ (codes "recipient", KRecipient)
     ∷ (codes "revoke", KRevoke) ∷ (codes "select", KSelect) ∷ (codes "set", KSet) ∷ (codes "shown", KShown)

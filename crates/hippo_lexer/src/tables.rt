@@ -6,7 +6,7 @@ ghost use Rattle.hippo_lexer.specs.Spelling.{keyword_table, keyword_of, sign_tab
 use crate::kinds::{Keyword, Symbol};
 
 // The words that stand in the grammar, in lower case.
-const KEYWORDS: [(&str, Keyword); 49] = [
+const KEYWORDS: [(&str, Keyword); 53] = [
     ("and", Keyword::KAnd),
     ("allow", Keyword::KAllow),
     ("audit", Keyword::KAudit),
@@ -18,10 +18,12 @@ const KEYWORDS: [(&str, Keyword); 49] = [
     ("date", Keyword::KDate),
     ("deauthorize", Keyword::KDeauthorize),
     ("delete", Keyword::KDelete),
+    ("distinct", Keyword::KDistinct),
     ("during", Keyword::KDuring),
     ("explain", Keyword::KExplain),
     ("for", Keyword::KFor),
     ("from", Keyword::KFrom),
+    ("group", Keyword::KGroup),
     ("in", Keyword::KIn),
     ("inner", Keyword::KInner),
     ("insert", Keyword::KInsert),
@@ -31,6 +33,8 @@ const KEYWORDS: [(&str, Keyword); 49] = [
     ("item", Keyword::KItem),
     ("join", Keyword::KJoin),
     ("key", Keyword::KKey),
+    ("max", Keyword::KMax),
+    ("min", Keyword::KMin),
     ("no", Keyword::KNo),
     ("not", Keyword::KNot),
     ("null", Keyword::KNull),

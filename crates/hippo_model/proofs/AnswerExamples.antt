@@ -20,14 +20,14 @@ denied_by_0_where_no_rule_speaks : ask clinic (select (column 1 ∷ column 2 ∷
 denied_by_0_where_no_rule_speaks = simp truths
 
 abbrev phones_revoked : List Entry
-phones_revoked = clinic ++ entry 8 (Allow treatment nurse patient (2 ∷ []) None) ∷ entry 9 (Revoke treatment nurse patient (2 ∷ [])) ∷ []
+phones_revoked = clinic ++ entry 8 (Allow treatment nurse patient (2 ∷ []) None None) ∷ entry 9 (Revoke treatment nurse patient (2 ∷ [])) ∷ []
 
 revoked_column_names_its_revocation : ask phones_revoked (select (column 2 ∷ []) always) ≡ (Denied 9 ∷ []) ∷ (Denied 9 ∷ []) ∷ []
 revoked_column_names_its_revocation = simp truths
 
 -- the phone of the first patient, as an opt-in item decides
 abbrev calls : List Entry
-calls = clinic ++ entry 8 (Item (codes "calls") OptIn) ∷ entry 9 (Allow treatment nurse patient (2 ∷ []) (Some (codes "calls"))) ∷ []
+calls = clinic ++ entry 8 (Item (codes "calls") OptIn) ∷ entry 9 (Allow treatment nurse patient (2 ∷ []) (Some (codes "calls")) None) ∷ []
 
 abbrev first_phone : List Entry → List (List Cell)
 first_phone history = ask history (select (column 2 ∷ []) (equals 0 (Int (pos 1))))
@@ -42,7 +42,7 @@ opt_in_denies_after_a_later_no : first_phone (calls ++ entry 10 (Choice (pos 1) 
 opt_in_denies_after_a_later_no = simp truths
 
 abbrev mail : List Entry
-mail = clinic ++ entry 8 (Item (codes "mail") OptOut) ∷ entry 9 (Allow treatment nurse patient (2 ∷ []) (Some (codes "mail"))) ∷ entry 10 (Choice (pos 2) (codes "mail") false) ∷ []
+mail = clinic ++ entry 8 (Item (codes "mail") OptOut) ∷ entry 9 (Allow treatment nurse patient (2 ∷ []) (Some (codes "mail")) None) ∷ entry 10 (Choice (pos 2) (codes "mail") false) ∷ []
 
 opt_out_denies_only_after_a_no : ask mail (select (column 0 ∷ column 2 ∷ []) always)
     ≡ (Shown (Int (pos 1)) ∷ Shown (Text (codes "555-1")) ∷ []) ∷ (Shown (Int (pos 2)) ∷ Denied 9 ∷ []) ∷ []
@@ -55,7 +55,7 @@ denied_zip_is_unknown_under_NOT : ask clinic (select (column 1 ∷ []) (Not (equ
 denied_zip_is_unknown_under_NOT = simp truths
 
 abbrev zips : List Entry
-zips = clinic ++ entry 8 (Allow treatment nurse patient (3 ∷ []) None) ∷ []
+zips = clinic ++ entry 8 (Allow treatment nurse patient (3 ∷ []) None None) ∷ []
 
 null_is_unknown_under_NOT : ask zips (select (column 1 ∷ []) (Not (equals 3 (Int (pos 1))))) ≡ (Shown (Text (codes "Ada")) ∷ []) ∷ []
 null_is_unknown_under_NOT = simp truths
@@ -70,7 +70,7 @@ equal_rows_stay = simp truths
 -- the same rules written into a query: the number is kept, and the phone goes by the patient's choice on mail
 abbrev masked : Masked
 masked = record {
-  items = Keep (column 0) ∷ Case (column 2) (column 0) (codes "mail") 9 false ∷ NullBy 0 ∷ [];
+  items = Keep (column 0) ∷ Case (column 2) (column 0) (codes "mail") 9 false None ∷ NullBy 0 ∷ [];
   tables = patient ∷ [];
   guards = record { table = 0; expr = Keep (column 0) } ∷ [];
   cond = All [];

@@ -1,4 +1,5 @@
 -- Audits, computed on small histories. Each example is named by what it shows.
+use Rattle.hippo_model.specs.declared.query.Form.TheVariants.{Plain}
 use Rattle.std.proofs.Common.{◌≡◌, ℕ, ℤ, pos, negsuc, List, [], ◌∷◌, ◌++◌, Option, Some, None, false, refl, codes}
 use Rattle.hippo_values.specs.declared.truths.CompareOp.TheVariants.{Gt}
 use Rattle.hippo_values.specs.declared.values.Value.{Value}
@@ -57,7 +58,7 @@ abbrev names_by_zip : Query
 names_by_zip = select (column 1 ∷ []) (equals 3 (Int (pos 95120)))
 
 abbrev zips_asked : List Entry
-zips_asked = clinic ++ entry 8 (Allow treatment nurse patient (3 ∷ []) None) ∷ asked 9 ∷ []
+zips_asked = clinic ++ entry 8 (Allow treatment nurse patient (3 ∷ []) None None) ∷ asked 9 ∷ []
 
 column_named_in_WHERE_alone_is_flagged : flag_of names_by_zip zips_asked (audit patient (column 3 ∷ []) (equals 1 (Text (codes "Ada")))) 9 ≡ first_patient
 column_named_in_WHERE_alone_is_flagged = simp (truths, named_columns)
@@ -101,7 +102,7 @@ deleted_row_is_not_shared = simp truths
 -- a patient's number and name are shown unless the patient said NO, as the second one does between two equal questions
 abbrev refused : List Entry
 refused =
-    clinic ++ entry 8 (Item (codes "contact") OptOut) ∷ entry 9 (Allow treatment nurse patient (0 ∷ 1 ∷ []) (Some (codes "contact")))
+    clinic ++ entry 8 (Item (codes "contact") OptOut) ∷ entry 9 (Allow treatment nurse patient (0 ∷ 1 ∷ []) (Some (codes "contact")) None)
     ∷ asked 10 ∷ entry 11 (Choice (pos 2) (codes "contact") false) ∷ asked 12 ∷ []
 
 choices_are_those_of_the_query : flag_of second_name refused names_of_the_second 10 ≡ row_of patient (Int (pos 2) ∷ [])
@@ -134,7 +135,7 @@ abbrev clerk : List ℕ
 clerk = codes "clerk"
 
 abbrev two_recipients : List Entry
-two_recipients = clinic ++ entry 8 (Recipient clerk) ∷ entry 9 (Authorize ann treatment clerk) ∷ entry 10 (Allow treatment clerk patient (0 ∷ 1 ∷ []) None) ∷ []
+two_recipients = clinic ++ entry 8 (Recipient clerk) ∷ entry 9 (Authorize ann treatment clerk) ∷ entry 10 (Allow treatment clerk patient (0 ∷ 1 ∷ []) None None) ∷ []
 
 abbrev but_for_nurses : Audit
 but_for_nurses = record names_seen { exempt = record { purpose = treatment; recipient = nurse } ∷ [] }
@@ -160,11 +161,11 @@ wards = record {
 abbrev rooms : List Entry
 rooms =
     clinic
-    ++ entry 8 (Create wards) ∷ entry 9 (Allow treatment nurse ward (0 ∷ 1 ∷ []) None) ∷ entry 10 (Insert ward (Text (codes "b") ∷ Int (pos 1) ∷ []))
+    ++ entry 8 (Create wards) ∷ entry 9 (Allow treatment nurse ward (0 ∷ 1 ∷ []) None None) ∷ entry 10 (Insert ward (Text (codes "b") ∷ Int (pos 1) ∷ []))
     ∷ entry 11 (Insert ward (Text (codes "a") ∷ Int (pos 2) ∷ [])) ∷ entry 12 (Insert ward (Text (codes "a") ∷ Int (negsuc 0) ∷ [])) ∷ asked 13 ∷ []
 
 abbrev all_of_ward : Query
-all_of_ward = record { items = column 0 ∷ column 1 ∷ []; tables = ward ∷ []; cond = always }
+all_of_ward = record { items = column 0 ∷ column 1 ∷ []; tables = ward ∷ []; cond = always; form = Plain }
 
 keys_of_two_columns_in_key_order : ask rooms all_of_ward
     ≡ (Shown (Text (codes "a")) ∷ Shown (Int (negsuc 0)) ∷ []) ∷ (Shown (Text (codes "a")) ∷ Shown (Int (pos 2)) ∷ []) ∷ (Shown (Text (codes "b")) ∷ Shown (Int (pos 1)) ∷ []) ∷ []

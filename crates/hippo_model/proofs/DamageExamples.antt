@@ -66,7 +66,7 @@ user_whose_authorization_ended : damage reading (clinic ++ entry 8 (Deauthorize 
 unfolding words_and_texts
 user_whose_authorization_ended = refl
 
-item_on_a_table_without_subject : damage reading (clinic ++ entry 8 (Create wards) ∷ entry 9 (Item (codes "calls") OptIn) ∷ entry 10 (Allow treatment nurse (codes "ward") (0 ∷ []) (Some (codes "calls"))) ∷ [])
+item_on_a_table_without_subject : damage reading (clinic ++ entry 8 (Create wards) ∷ entry 9 (Item (codes "calls") OptIn) ∷ entry 10 (Allow treatment nurse (codes "ward") (0 ∷ []) (Some (codes "calls")) None) ∷ [])
     ≡ Some 10
 unfolding words_and_texts
 item_on_a_table_without_subject = refl

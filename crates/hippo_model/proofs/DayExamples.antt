@@ -1,4 +1,5 @@
 -- A working day with two tables: joins, audits by two tables, and the denials of a query.
+use Rattle.hippo_model.specs.declared.query.Form.TheVariants.{Plain}
 use Rattle.std.proofs.Common.{◌≡◌, ℕ, pos, List, [], ◌∷◌, ◌++◌, Option, Some, None, false, refl, codes, if◌then◌else◌}
 use Rattle.std.specs.Prelude.{bytes_eq}
 use Rattle.hippo_values.specs.declared.values.Value.TheVariants.{Null, Int, Text, Day}
@@ -56,8 +57,8 @@ morning =
     early 1 (Create patients) ∷ early 2 (Create visits) ∷ early 3 (Purpose treatment) ∷ early 4 (Purpose billing)
     ∷ early 5 (Recipient nurse) ∷ early 6 (Recipient clerk) ∷ early 7 (Item (codes "contact") OptOut)
     ∷ early 8 (Authorize ann treatment nurse) ∷ early 9 (Authorize carl billing clerk)
-    ∷ early 10 (Allow treatment nurse patient (0 ∷ 1 ∷ 3 ∷ []) None) ∷ early 11 (Allow treatment nurse patient (2 ∷ []) (Some (codes "contact")))
-    ∷ early 12 (Allow treatment nurse visit (0 ∷ 1 ∷ 2 ∷ 3 ∷ []) None) ∷ early 13 (Allow billing clerk patient (0 ∷ 3 ∷ []) None)
+    ∷ early 10 (Allow treatment nurse patient (0 ∷ 1 ∷ 3 ∷ []) None None) ∷ early 11 (Allow treatment nurse patient (2 ∷ []) (Some (codes "contact")) None)
+    ∷ early 12 (Allow treatment nurse visit (0 ∷ 1 ∷ 2 ∷ 3 ∷ []) None None) ∷ early 13 (Allow billing clerk patient (0 ∷ 3 ∷ []) None None)
     ∷ early 14 (Insert patient (Int (pos 1) ∷ Text (codes "Ada") ∷ Text (codes "555-1") ∷ Int (pos 95120) ∷ []))
     ∷ early 15 (Insert patient (Int (pos 2) ∷ Text (codes "Bob") ∷ Text (codes "555-2") ∷ Int (pos 90210) ∷ []))
     ∷ early 16 (Insert visit (Int (pos 10) ∷ Int (pos 1) ∷ Text (codes "north") ∷ Day (pos 19783) ∷ []))
@@ -70,13 +71,13 @@ abbrev in_south : CondOf Operand
 in_south = All (Compare Eq (ColumnOperand (column_of 0 0)) (ColumnOperand (column_of 1 1)) ∷ Compare Eq (ColumnOperand (column_of 1 2)) (Literal (Text (codes "south"))) ∷ [])
 
 abbrev south : Query
-south = record { items = column_of 0 1 ∷ column_of 0 2 ∷ column_of 1 2 ∷ column_of 1 3 ∷ []; tables = patient ∷ visit ∷ []; cond = in_south }
+south = record { items = column_of 0 1 ∷ column_of 0 2 ∷ column_of 1 2 ∷ column_of 1 3 ∷ []; tables = patient ∷ visit ∷ []; cond = in_south; form = Plain }
 
 abbrev names_and_zips : Query
 names_and_zips = select (column 1 ∷ column 3 ∷ []) always
 
 abbrev wards : Query
-wards = record { items = column 2 ∷ []; tables = visit ∷ []; cond = always }
+wards = record { items = column 2 ∷ []; tables = visit ∷ []; cond = always; form = Plain }
 
 abbrev reading : List Entry → List ℕ → Option Query
 reading history text = if bytes_eq text (codes "south") then Some south else (if bytes_eq text (codes "names") then Some names_and_zips else Some wards)

@@ -1,4 +1,5 @@
 -- A small history, and how the worked examples ask of it.
+use Rattle.hippo_model.specs.declared.query.Form.TheVariants.{Plain}
 use Rattle.std.proofs.Common.{ℕ, ℤ, pos, true, false, List, [], ◌∷◌, Some, None, codes}
 use Rattle.hippo_values.specs.declared.values.Value.{Value}
 use Rattle.hippo_values.specs.declared.values.Value.TheVariants.{Null, Int, Text}
@@ -73,7 +74,7 @@ bob = Int (pos 2) ∷ Text (codes "Bob") ∷ Text (codes "555-2") ∷ Null ∷ [
 abbrev pub clinic : List Entry
 clinic =
     entry 1 (Create patients) ∷ entry 2 (Purpose treatment) ∷ entry 3 (Recipient nurse) ∷ entry 4 (Authorize ann treatment nurse)
-    ∷ entry 5 (Allow treatment nurse patient (0 ∷ 1 ∷ []) None) ∷ entry 6 (Insert patient ada) ∷ entry 7 (Insert patient bob) ∷ []
+    ∷ entry 5 (Allow treatment nurse patient (0 ∷ 1 ∷ []) None None) ∷ entry 6 (Insert patient ada) ∷ entry 7 (Insert patient bob) ∷ []
 
 abbrev pub column : ℕ → Ref
 column place = record { table = 0; column = place }
@@ -86,7 +87,7 @@ equals place value = Compare Eq (ColumnOperand (column place)) (Literal value)
 
 -- columns of the patients for which a condition is true
 abbrev pub select : List Ref → CondOf Operand → Query
-select items condition = record { items = items; tables = patient ∷ []; cond = condition }
+select items condition = record { items = items; tables = patient ∷ []; cond = condition; form = Plain }
 
 abbrev pub always : CondOf Operand
 always = All []

@@ -1,6 +1,6 @@
 -- Entries as they are kept, and stores whose damage shows in their bytes alone.
 use Rattle.std.proofs.Common.{◌≡◌, ℕ, pos, negsuc, true, false, Bool, ◌&&◌, List, [], ◌∷◌, ◌++◌, Some, refl, sym, ap, ◌∙◌, codes, take}
-use Rattle.std.specs.Prelude.{nat_le, map}
+use Rattle.std.specs.Prelude.{None, nat_le, map}
 use Rattle.std.specs.List.{list_all}
 use Rattle.std.specs.Str.{bytes_eq}
 use Rattle.std.specs.Cmp.Lexicographic.{nat_list_eq_equiv}
@@ -38,7 +38,7 @@ table_is_kept : act_bytes (Create (record { name = codes "ward"; columns = requi
     ≡ 4 ∷ codes "ward" ++ 2 ∷ 4 ∷ codes "room" ++ 1 ∷ 1 ∷ 4 ∷ codes "site" ++ 2 ∷ 0 ∷ 2 ∷ 1 ∷ 0 ∷ 1 ∷ []
 table_is_kept = refl
 
-rule_is_kept : act_bytes (Allow (codes "care") (codes "nurse") (codes "ward") (1 ∷ 0 ∷ []) (Some (codes "mail")))
+rule_is_kept : act_bytes (Allow (codes "care") (codes "nurse") (codes "ward") (1 ∷ 0 ∷ []) (Some (codes "mail")) None)
     ≡ 4 ∷ codes "care" ++ 5 ∷ codes "nurse" ++ 4 ∷ codes "ward" ++ 2 ∷ 1 ∷ 0 ∷ 1 ∷ 4 ∷ codes "mail"
 rule_is_kept = refl
 
@@ -64,7 +64,7 @@ is_one_of_thirteen (Recipient name) = refl
 is_one_of_thirteen (Item name kind) = refl
 is_one_of_thirteen (Authorize user purpose recipient) = refl
 is_one_of_thirteen (Deauthorize user purpose recipient) = refl
-is_one_of_thirteen (Allow purpose recipient table columns item) = refl
+is_one_of_thirteen (Allow purpose recipient table columns item days) = refl
 is_one_of_thirteen (Revoke purpose recipient table columns) = refl
 is_one_of_thirteen (Choice subject item agreed) = refl
 is_one_of_thirteen (Asked user purpose recipient text) = refl

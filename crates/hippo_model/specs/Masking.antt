@@ -7,7 +7,7 @@ use Rattle.hippo_model.specs.declared.cells.Cell.{Cell}
 use Rattle.hippo_model.specs.declared.cells.Cell.TheVariants.{Shown, Denied}
 use Rattle.hippo_model.specs.declared.entry.ItemKind.TheVariants.{OptIn, OptOut}
 use Rattle.hippo_model.specs.declared.query.Expr.{Expr}
-use Rattle.hippo_model.specs.declared.query.Expr.TheVariants.{Keep, Null, Case, Literal}
+use Rattle.hippo_model.specs.declared.query.Expr.TheVariants.{Keep, Null, Aged, Case, Literal}
 use Rattle.hippo_model.specs.declared.query.Masked.{Masked}
 use Rattle.hippo_model.specs.declared.query.Ref.{Ref}
 use Rattle.hippo_model.specs.Rows.{cell_at}
@@ -28,7 +28,8 @@ agrees_by choices subject item opt_in =
 abbrev pub masked_cell : (ℤ → List ℕ → Option Bool) → List (List Value) → Expr → Cell
 masked_cell choices rows (Keep column) = Shown (raw_value rows column)
 masked_cell choices rows (Null rule) = Denied rule
-masked_cell choices rows (Case column subject item rule opt_in) =
+masked_cell choices rows (Aged column rule after) = Shown (raw_value rows column)
+masked_cell choices rows (Case column subject item rule opt_in after) =
     if agrees_by choices (number_in (raw_value rows subject)) item opt_in then Shown (raw_value rows column) else Denied rule
 masked_cell choices rows (Literal value) = Shown value
 

@@ -15,7 +15,7 @@ pub data Rule : Type 0 where
   revoked : ℕ → Rule
 
 abbrev pub rule_in : List ℕ → List ℕ → List ℕ → ℕ → ℕ → Act → Option Rule
-rule_in purpose recipient table column number (Allow p r t columns item) =
+rule_in purpose recipient table column number (Allow p r t columns item days) =
     said (bytes_eq p purpose && bytes_eq r recipient && bytes_eq t table && list_any (nat_eq column) columns) (allowed number item)
 rule_in purpose recipient table column number (Revoke p r t columns) =
     said (bytes_eq p purpose && bytes_eq r recipient && bytes_eq t table && list_any (nat_eq column) columns) (revoked number)

@@ -80,7 +80,7 @@ act_kind (Recipient name) = 6
 act_kind (Item name kind) = 7
 act_kind (Authorize user purpose recipient) = 8
 act_kind (Deauthorize user purpose recipient) = 9
-act_kind (Allow purpose recipient table columns item) = 10
+act_kind (Allow purpose recipient table columns item days) = 10
 act_kind (Revoke purpose recipient table columns) = 11
 act_kind (Choice subject item agreed) = 12
 act_kind (Asked user purpose recipient text) = 13
@@ -95,7 +95,7 @@ act_bytes (Recipient name) = name_bytes name
 act_bytes (Item name kind) = name_bytes name ++ item_kind kind ∷ []
 act_bytes (Authorize user purpose recipient) = name_bytes user ++ name_bytes purpose ++ name_bytes recipient
 act_bytes (Deauthorize user purpose recipient) = name_bytes user ++ name_bytes purpose ++ name_bytes recipient
-act_bytes (Allow purpose recipient table columns item) =
+act_bytes (Allow purpose recipient table columns item days) =
     name_bytes purpose ++ name_bytes recipient ++ name_bytes table ++ list_bytes place_bytes columns ++ item_bytes item
 act_bytes (Revoke purpose recipient table columns) =
     name_bytes purpose ++ name_bytes recipient ++ name_bytes table ++ list_bytes place_bytes columns

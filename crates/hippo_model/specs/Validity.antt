@@ -97,7 +97,7 @@ is_acceptable reading history (Recipient name) = not (is_recipient history name)
 is_acceptable reading history (Item name kind) = is_none (item_at history name)
 is_acceptable reading history (Authorize user purpose recipient) = is_purpose history purpose && is_recipient history recipient
 is_acceptable reading history (Deauthorize user purpose recipient) = is_purpose history purpose && is_recipient history recipient
-is_acceptable reading history (Allow purpose recipient table columns item) =
+is_acceptable reading history (Allow purpose recipient table columns item days) =
     is_purpose history purpose && is_recipient history recipient && table_passes history (has_columns columns) table && item_fits history table item
 is_acceptable reading history (Revoke purpose recipient table columns) = is_purpose history purpose && is_recipient history recipient && table_passes history (has_columns columns) table
 is_acceptable reading history (Choice subject item agreed) = is_some (item_at history item)

@@ -54,6 +54,8 @@ pub enum Act {
         table: Name,
         columns: Places,
         item: Option<Name>,
+        /// For how many days from a row's birth its cells are shown; without end where there is no number.
+        days: Option<u32>,
     },
     Revoke {
         purpose: Name,
@@ -112,7 +114,8 @@ impl Duplicate for Act {
                 table,
                 columns,
                 item,
-            } => copied_allow(alloc, purpose, recipient, table, columns, item),
+                days,
+            } => copied_allow(alloc, purpose, recipient, table, columns, item, *days),
             Act::Revoke {
                 purpose,
                 recipient,
@@ -231,9 +234,10 @@ fn copied_allow(
     table: &Name,
     columns: &Places,
     item: &Option<Name>,
+    days: Option<u32>,
 ) -> Result<Act, Memory>
     ensures { IfOk result
-        (λ made. made ≡ Allow purpose.now recipient.now table.now columns.now item.now) }
+        (λ made. made ≡ Allow purpose.now recipient.now table.now columns.now item.now days) }
 {
     let purpose = purpose.copy(alloc)?;
     let recipient = recipient.copy(alloc)?;
@@ -246,6 +250,7 @@ fn copied_allow(
         table,
         columns,
         item,
+        days,
     })
 }
 

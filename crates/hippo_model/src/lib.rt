@@ -17,11 +17,14 @@ pub use cells::{Answer, Cell, CellRow, Cells};
 pub use combo::{ChoiceView, Combo, Plan, Sets, Sizes};
 pub use entry::{Act, Entry, History, ItemKind};
 pub use policy::{Authorization, Gate, Gates, RuleAt, RulesInForce, TableRules, Verdict};
-pub use query::{CondOf, Expr, Exprs, Guard, Guards, Masked, Operand, Operands, Query, Ref, Refs};
+pub use query::{
+    CondOf, Expr, Exprs, Form, Guard, Guards, Masked, Operand, Operands, Out, Outs, Query, Ref,
+    Refs, Shape,
+};
 pub use row_set::RowSet;
 pub use schema::{Column, ColumnKind, Columns, Names, Places, Schema, Schemas};
 pub use statement::{
-    RawAudit, RawColumn, RawColumns, RawCond, RawItem, RawItems, RawOperand, RawSelect, Stmt,
-    Wanted,
+    RawAudit, RawColumn, RawColumns, RawCond, RawForm, RawItem, RawItems, RawOperand, RawOut,
+    RawOuts, RawSelect, Stmt, Wanted,
 };
 pub use stored::{StoredEntry, StoredList};

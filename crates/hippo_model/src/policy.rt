@@ -6,13 +6,14 @@ use hippo_values::{Name, Sequence};
 pub enum RuleAt<'a> {
     /// No rule ever named the cell.
     Unnamed,
-    /// Allowed by this entry.
-    Always(u64),
-    /// Allowed by this entry, as the patient's choice on an item says.
+    /// Allowed by this entry, for so many days from a row's birth, or without end.
+    Always { rule: u64, days: Option<u32> },
+    /// The same, as the patient's choice on an item says.
     With {
         rule: u64,
         item: &'a Name,
         opt_in: bool,
+        days: Option<u32>,
     },
     /// Revoked by this entry.
     Revoked(u64),
@@ -38,7 +39,15 @@ pub enum Verdict {
 pub enum Gate {
     Always,
     Never(u64),
-    With { rule: u64, item: Name, opt_in: bool },
+    /// Shown in rows that were born later than the second `after`.
+    Aged { rule: u64, after: i64 },
+    /// Shown as the patient's choice on an item says, and in no row that was not born later than `after`.
+    With {
+        rule: u64,
+        item: Name,
+        opt_in: bool,
+        after: Option<i64>,
+    },
 }
 
 pub type Gates = Sequence<Gate>;

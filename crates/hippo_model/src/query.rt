@@ -1,5 +1,6 @@
 ghost use Rattle.std.specs.Prelude.{◌≡◌, IfOk};
 ghost use Rattle.hippo_model.specs.declared.query.Operand.TheVariants.{Literal};
+ghost use Rattle.hippo_model.specs.declared.query.Form.TheVariants.{Grouped};
 ghost use Rattle.hippo_model.specs.declared.query.CondOf.TheVariants.{All, Any, Not, Compare, Between, Among, Missing};
 
 use crate::schema::Names;
@@ -39,12 +40,43 @@ pub enum CondOf<O> {
     Missing { value: O },
 }
 
+/// What a group's row shows: each number is a place in the query's items.
+#[derive(Clone, Copy, Debug, PartialEq, Eq)]
+pub enum Out {
+    Column(usize),
+    Min(usize),
+    Max(usize),
+}
+
+pub type Outs = Sequence<Out>;
+
+/// How a grouped query's rows are made: its first `keys` items are the GROUP BY columns, the others the arguments of MIN
+/// and MAX.
+#[derive(Debug, Drop, PartialEq, Eq)]
+pub struct Shape {
+    pub keys: usize,
+    /// The row's cells, in their order.
+    pub outs: Outs,
+}
+
+/// Which rows a query answers.
+#[derive(Debug, Drop, PartialEq, Eq)]
+pub enum Form {
+    /// One for each combination of rows.
+    Plain,
+    /// Equal ones once.
+    Distinct,
+    /// One for each group of rows.
+    Grouped(Shape),
+}
+
 /// A select, each of whose columns is found in one table of its FROM list.
 #[derive(Debug, Drop, PartialEq, Eq)]
 pub struct Query {
     pub items: Refs,
     pub tables: Names,
     pub cond: CondOf<Operand>,
+    pub form: Form,
 }
 
 /// What stands for a column reference where the policy's rules are written into a query.
@@ -52,12 +84,20 @@ pub struct Query {
 pub enum Expr {
     Keep(Ref),
     Null(u64),
+    /// Shown in rows that were born later than the second `after`.
+    Aged {
+        column: Ref,
+        rule: u64,
+        after: i64,
+    },
+    /// Shown as the patient's choice on an item says, and in no row that was not born later than `after`.
     Case {
         column: Ref,
         subject: Ref,
         item: Name,
         rule: u64,
         opt_in: bool,
+        after: Option<i64>,
     },
     Literal(Value),
 }
@@ -219,15 +259,49 @@ fn copied_missing<O: Duplicate + Drop>(alloc: Global, value: &O) -> Result<CondO
     Ok(CondOf::Missing { value })
 }
 
+impl Duplicate for Out {
+    fn copy(&self, _alloc: Global) -> Result<Out, Memory> {
+        Ok(*self)
+    }
+}
+
+impl Duplicate for Shape {
+    fn copy(&self, alloc: Global) -> Result<Shape, Memory> {
+        let outs = self.outs.copy(alloc)?;
+        Ok(Shape {
+            keys: self.keys,
+            outs,
+        })
+    }
+}
+
+fn copied_shape(alloc: Global, shape: &Shape) -> Result<Form, Memory>
+    ensures { IfOk result (λ made. made ≡ Grouped shape.now) }
+{
+    Ok(Form::Grouped(shape.copy(alloc)?))
+}
+
+impl Duplicate for Form {
+    fn copy(&self, alloc: Global) -> Result<Form, Memory> {
+        match self {
+            Form::Plain => Ok(Form::Plain),
+            Form::Distinct => Ok(Form::Distinct),
+            Form::Grouped(shape) => copied_shape(alloc, shape),
+        }
+    }
+}
+
 impl Duplicate for Query {
     fn copy(&self, alloc: Global) -> Result<Query, Memory> {
         let items = self.items.copy(alloc)?;
         let tables = self.tables.copy(alloc)?;
         let cond = self.cond.copy(alloc)?;
+        let form = self.form.copy(alloc)?;
         Ok(Query {
             items,
             tables,
             cond,
+            form,
         })
     }
 }

@@ -32,12 +32,34 @@ pub enum RawItem {
 
 pub type RawItems = Sequence<RawItem>;
 
-/// A select as it is written.
+/// A member of a grouped select's list, as it is written.
+#[derive(Debug, Drop, PartialEq, Eq)]
+pub enum RawOut {
+    Column(RawColumn),
+    Min(RawColumn),
+    Max(RawColumn),
+}
+
+pub type RawOuts = Sequence<RawOut>;
+
+/// Which rows a select answers, as it is written.
+#[derive(Debug, Drop, PartialEq, Eq)]
+pub enum RawForm {
+    /// One for each combination of rows.
+    Plain,
+    /// Equal ones once.
+    Distinct,
+    /// One for each group of rows that are equal in the columns `by`.
+    Grouped { outs: RawOuts, by: RawColumns },
+}
+
+/// A select as it is written. That of a grouped one has no `items`: its list is in its form.
 #[derive(Debug, Drop, PartialEq, Eq)]
 pub struct RawSelect {
     pub items: RawItems,
     pub tables: Names,
     pub cond: RawCond,
+    pub form: RawForm,
 }
 
 /// An audit expression as it is written.
@@ -83,6 +105,8 @@ pub enum Stmt {
         table: Name,
         columns: Names,
         item: Option<Name>,
+        /// For how many days from a row's birth its cells are shown; without end where none is written.
+        days: Option<u32>,
     },
     Revoke {
         purpose: Name,
@@ -114,6 +138,8 @@ pub enum Stmt {
     Explain(i64),
     Audit(RawAudit),
     BeginAudit(RawAudit),
+    /// A standing audit.
+    Watch(RawAudit),
     /// A select, and where its text begins and ends.
     Select {
         select: RawSelect,
@@ -122,6 +148,12 @@ pub enum Stmt {
     },
     /// OPEN: a select whose answer is handed out by and by.
     Ask {
+        select: RawSelect,
+        start: usize,
+        end: usize,
+    },
+    /// A select whose rows are written as records of CSV.
+    Extract {
         select: RawSelect,
         start: usize,
         end: usize,

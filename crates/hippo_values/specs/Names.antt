@@ -11,9 +11,9 @@ folded word = map to_ascii_lowercase word
 unfoldable pub keywords : List (List ℕ)
 keywords =
     codes "and" ∷ codes "allow" ∷ codes "audit" ∷ codes "authorize" ∷ codes "begin" ∷ codes "between" ∷ codes "choice"
-    ∷ codes "create" ∷ codes "date" ∷ codes "deauthorize" ∷ codes "delete" ∷ codes "during" ∷ codes "explain"
-    ∷ codes "for" ∷ codes "from" ∷ codes "in" ∷ codes "inner" ∷ codes "insert" ∷ codes "integer" ∷ codes "into"
-    ∷ codes "is" ∷ codes "item" ∷ codes "join" ∷ codes "key" ∷ codes "no" ∷ codes "not" ∷ codes "null" ∷ codes "on"
+    ∷ codes "create" ∷ codes "date" ∷ codes "deauthorize" ∷ codes "delete" ∷ codes "distinct" ∷ codes "during" ∷ codes "explain"
+    ∷ codes "for" ∷ codes "from" ∷ codes "group" ∷ codes "in" ∷ codes "inner" ∷ codes "insert" ∷ codes "integer" ∷ codes "into"
+    ∷ codes "is" ∷ codes "item" ∷ codes "join" ∷ codes "key" ∷ codes "max" ∷ codes "min" ∷ codes "no" ∷ codes "not" ∷ codes "null" ∷ codes "on"
     ∷ codes "open" ∷ codes "opt" ∷ codes "otherthan" ∷ codes "out" ∷ codes "primary" ∷ codes "purpose"
     ∷ codes "recipient" ∷ codes "revoke" ∷ codes "select" ∷ codes "set" ∷ codes "shown" ∷ codes "subject"
     ∷ codes "table" ∷ codes "text" ∷ codes "to" ∷ codes "update" ∷ codes "values" ∷ codes "where" ∷ codes "with"
@@ -23,8 +23,8 @@ keywords =
 unfoldable pub unsupported_words : List (List ℕ)
 unsupported_words =
     codes "all" ∷ codes "alter" ∷ codes "any" ∷ codes "as" ∷ codes "avg" ∷ codes "case" ∷ codes "cast" ∷ codes "count"
-    ∷ codes "cross" ∷ codes "distinct" ∷ codes "drop" ∷ codes "except" ∷ codes "exists" ∷ codes "full" ∷ codes "group"
-    ∷ codes "having" ∷ codes "intersect" ∷ codes "left" ∷ codes "like" ∷ codes "limit" ∷ codes "max" ∷ codes "min"
+    ∷ codes "cross" ∷ codes "drop" ∷ codes "except" ∷ codes "exists" ∷ codes "full"
+    ∷ codes "having" ∷ codes "intersect" ∷ codes "left" ∷ codes "like" ∷ codes "limit"
     ∷ codes "natural" ∷ codes "offset" ∷ codes "order" ∷ codes "outer" ∷ codes "right" ∷ codes "sum" ∷ codes "union"
     ∷ codes "using" ∷ codes "window" ∷ []
 

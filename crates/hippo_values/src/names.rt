@@ -17,7 +17,7 @@ use std::hash::{Hash, Hasher};
 use std::marker::Model;
 
 // The words that stand in the grammar.
-const KEYWORDS: [&str; 49] = [
+const KEYWORDS: [&str; 53] = [
     "and",
     "allow",
     "audit",
@@ -29,10 +29,12 @@ const KEYWORDS: [&str; 49] = [
     "date",
     "deauthorize",
     "delete",
+    "distinct",
     "during",
     "explain",
     "for",
     "from",
+    "group",
     "in",
     "inner",
     "insert",
@@ -42,6 +44,8 @@ const KEYWORDS: [&str; 49] = [
     "item",
     "join",
     "key",
+    "max",
+    "min",
     "no",
     "not",
     "null",
@@ -70,7 +74,7 @@ const KEYWORDS: [&str; 49] = [
 ];
 
 // Words of SQL that are refused wherever they stand.
-const UNSUPPORTED_WORDS: [&str; 31] = [
+const UNSUPPORTED_WORDS: [&str; 27] = [
     "all",
     "alter",
     "any",
@@ -80,19 +84,15 @@ const UNSUPPORTED_WORDS: [&str; 31] = [
     "cast",
     "count",
     "cross",
-    "distinct",
     "drop",
     "except",
     "exists",
     "full",
-    "group",
     "having",
     "intersect",
     "left",
     "like",
     "limit",
-    "max",
-    "min",
     "natural",
     "offset",
     "order",
