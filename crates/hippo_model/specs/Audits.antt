@@ -1,108 +1,119 @@
 -- Which queries an audit flags, and by which shared tuple (after the indispensable tuples of Agrawal and others, Auditing
--- Compliance with a Hippocratic Database, VLDB 2004; that answers are compared as bags, and that the audit looks at
--- unmasked rows, is this project's own).
-use Rattle.std.specs.Prelude.{ℕ, ℤ, Bool, not, ◌&&◌, List, [], map, filter, find, slice_index_or, Option, None, is_some, option_map, option_and_then, bytes_eq}
-use Rattle.std.specs.List.{list_any, list_all, position_or_len, zip}
-use Rattle.std.specs.Prelude.{int_le}
+-- Compliance with a Hippocratic Database, VLDB 2004; that answers are compared as bags, that a query is judged over its
+-- view and the audit over unmasked rows, and SHOWN are this project's own).
+use Rattle.std.specs.Prelude.{ℕ, Bool, false, not, ◌&&◌, ◌||◌, int_le, List, [], map, filter, find, slice_index_or, Option, None, is_some, option_map, option_and_then, if◌then◌else◌, bytes_eq}
+use Rattle.std.specs.List.{list_any, list_all, position_or_len}
 use Rattle.std.specs.Option.{option_map_or}
-use Rattle.hippo_values.specs.declared.values.Value.{Value}
-use Rattle.hippo_model.specs.declared.cells.Cell.{Cell}
+use Rattle.hippo_values.specs.declared.moments.Moment.{Moment}
+use Rattle.hippo_values.specs.declared.names.Name.{Name}
+use Rattle.hippo_model.specs.declared.audit.Audit.{Audit}
+use Rattle.hippo_model.specs.declared.audit.SharedRow.{SharedRow}
+use Rattle.hippo_model.specs.declared.born_row.BornRow.{BornRow}
 use Rattle.hippo_model.specs.declared.entry.Act.{Act}
 use Rattle.hippo_model.specs.declared.entry.Act.TheVariants.{Asked}
 use Rattle.hippo_model.specs.declared.entry.Entry.{Entry}
-use Rattle.hippo_model.specs.declared.query.CondOf.{CondOf}
-use Rattle.hippo_model.specs.declared.query.Operand.{Operand}
 use Rattle.hippo_model.specs.declared.query.Query.{Query}
 use Rattle.hippo_model.specs.declared.query.Ref.{Ref}
-use Rattle.hippo_model.specs.declared.audit.Audit.{Audit}
-use Rattle.hippo_model.specs.declared.audit.SharedRow.{SharedRow}
+use Rattle.hippo_model.specs.declared.schema.Schema.{Schema}
+use Rattle.hippo_model.specs.Terms.{History, Key, Meaning, ShownRow}
 use Rattle.hippo_model.specs.Values.{same_cells}
-use Rattle.hippo_model.specs.Histories.{said, before_entry, schema_at}
-use Rattle.hippo_model.specs.Rows.{key_of, table_rows}
-use Rattle.hippo_model.specs.Answers.{product, value_in, answer_of, view_at, unmasked_at}
+use Rattle.hippo_model.specs.Histories.{before_entry, schema_at}
+use Rattle.hippo_model.specs.Rows.{key_of, born_row_at, table_rows}
+use Rattle.hippo_model.specs.Verdicts.{Context, verdict}
+use Rattle.hippo_model.specs.Views.{is_shown}
+use Rattle.hippo_model.specs.Forms.{value_in}
+use Rattle.hippo_model.specs.Answers.{product, query_answer, seen_combinations, audit_answer, unmasked_combinations}
 use Rattle.hippo_model.specs.Bags.{same_bag}
 use Rattle.hippo_model.specs.Columns.{names_all}
 
 -- the tables in both FROM lists, in the audit's order
-abbrev pub common : Query → Audit → List (List ℕ)
+abbrev pub common : Query → Audit → List Name
 common query audit = filter (λ table. list_any (bytes_eq table) query.tables) audit.tables
 
--- the places of a table's key
-abbrev pub key_places : List Entry → List ℕ → List ℕ
-key_places history table = option_map_or (λ schema. schema.key) (schema_at history table) []
+-- the rows of a table by their keys
+abbrev pub shared_rows : History → Name → List SharedRow
+shared_rows history table =
+    let by_key : Schema → BornRow → SharedRow = λ schema kept. record { table = table; key = key_of schema.key kept.row } in
+    option_map_or (λ schema. map (by_key schema) (table_rows schema history)) (schema_at history table) []
 
-abbrev pub keys_at : List Entry → List ℕ → List (List Value)
-keys_at history table = option_map_or (λ schema. map (key_of schema.key) (table_rows schema history)) (schema_at history table) []
-
--- a virtual tuple is the key of one row of each common table; they stand in the order of the product
-abbrev pub virtual_tuples : List Entry → List (List ℕ) → List (List (List Value))
-virtual_tuples history tables = product (map (keys_at history) tables)
+-- a virtual tuple is a row of each common table; they stand in the order of the product
+abbrev pub virtual_tuples : History → List Name → List (List SharedRow)
+virtual_tuples history tables = product (map (shared_rows history) tables)
 
 -- the key of a combination's row of one of its tables
-abbrev pub key_in : List Entry → List (List ℕ) → List (List Cell) → List ℕ → List Value
-key_in history tables combination table =
-    key_of (key_places history table) (map value_in (slice_index_or combination (position_or_len (bytes_eq table) tables) []))
+abbrev pub key_at : History → List Name → List ShownRow → Name → Key
+key_at history tables combination table =
+    let row = map value_in (slice_index_or combination (position_or_len (bytes_eq table) tables) []) in
+    option_map_or (λ schema. key_of schema.key row) (schema_at history table) []
 
 -- whether a combination's rows of the common tables have exactly the keys of a virtual tuple
-abbrev pub has_keys : List Entry → List (List ℕ) → List (List ℕ) → List (List Value) → List (List Cell) → Bool
-has_keys history tables shared_tables tuple combination =
-    list_all (λ (table, key). same_cells (key_in history tables combination table) key) (zip shared_tables tuple)
+abbrev pub has_tuple : History → List Name → List SharedRow → List ShownRow → Bool
+has_tuple history tables tuple combination =
+    list_all (λ shared. same_cells (key_at history tables combination shared.table) shared.key) tuple
 
--- the answer without a virtual tuple: over the combinations that are left when those with its keys are taken out
-abbrev pub answer_without : List Entry → List (List ℕ) → List (List ℕ) → List (List Value) → List Ref → CondOf Operand → List (List (List Cell)) → List (List Cell)
-answer_without history tables shared_tables tuple items condition combinations =
-    answer_of items condition (filter (λ combination. not (has_keys history tables shared_tables tuple combination)) combinations)
+-- whether an answer is another bag when the combinations that pass the test are taken out
+abbrev pub needs : (List (List ShownRow) → List ShownRow) → (List ShownRow → Bool) → List (List ShownRow) → Bool
+needs answered is_out combinations =
+    not (same_bag (answered (filter (λ combination. not (is_out combination)) combinations)) (answered combinations))
 
 -- a query needs a virtual tuple where its answer without it is another bag; it is judged over its view
-abbrev pub query_needs : List Entry → ℤ → List ℕ → List ℕ → Query → List (List ℕ) → List (List Value) → Bool
-query_needs history moment purpose recipient query shared_tables tuple =
-    let combinations = product (map (view_at history moment purpose recipient) query.tables) in
-    not (same_bag (answer_without history query.tables shared_tables tuple query.items query.cond combinations)
-    (answer_of query.items query.cond combinations))
+abbrev pub query_needs : History → Context → Query → List SharedRow → Bool
+query_needs history context query tuple =
+    needs (query_answer query) (has_tuple history query.tables tuple) (seen_combinations history context query)
 
--- an audit expression needs it where its answer over unmasked rows, without it, is another bag
-abbrev pub audit_needs : List Entry → Audit → List (List ℕ) → List (List Value) → Bool
-audit_needs history audit shared_tables tuple =
-    let combinations = product (map (unmasked_at history) audit.tables) in
-    not (same_bag (answer_without history audit.tables shared_tables tuple audit.columns audit.cond combinations)
-    (answer_of audit.columns audit.cond combinations))
+-- an audit expression needs it where its answer without it, over unmasked rows, is another bag
+abbrev pub audit_needs : History → Audit → List SharedRow → Bool
+audit_needs history audit tuple =
+    needs (audit_answer audit) (has_tuple history audit.tables tuple) (unmasked_combinations history audit)
 
--- the first virtual tuple that both need
-abbrev pub first_needed : List Entry → ℤ → List ℕ → List ℕ → Query → Audit → Option (List (List Value))
-first_needed history moment purpose recipient query audit =
-    let tables = common query audit in
-    find (λ tuple. query_needs history moment purpose recipient query tables tuple && audit_needs history audit tables tuple)
-    (virtual_tuples history tables)
+-- the row that a virtual tuple names in a table
+abbrev pub row_named : History → List SharedRow → Schema → Option BornRow
+row_named history tuple schema =
+    option_and_then (λ shared. born_row_at schema history shared.key)
+    (find (λ shared. bytes_eq shared.table schema.name) tuple)
 
--- the tuple with the names of its tables
-abbrev pub with_names : List (List ℕ) → List (List Value) → List SharedRow
-with_names tables tuple = map (λ (name, value). record { table = name; key = value }) (zip tables tuple)
+-- whether the verdict on a column's cell, of the row that a virtual tuple names, is Shown
+abbrev pub is_seen : History → Context → List Name → List SharedRow → Ref → Bool
+is_seen history context tables tuple column =
+    let sees : Schema → BornRow → Bool = λ schema kept. is_shown (verdict history context schema kept column.column) in
+    option_map_or (λ schema. option_map_or (sees schema) (row_named history tuple schema) false)
+    (schema_at history (slice_index_or tables column.table [])) false
+
+-- a virtual tuple serves where both need it and, if the audit asks for cells that were shown, each audited one was
+abbrev pub serves : History → Context → Query → Audit → List SharedRow → Bool
+serves history context query audit tuple =
+    query_needs history context query tuple && audit_needs history audit tuple
+    && (not audit.shown || list_all (is_seen history context audit.tables tuple) audit.columns)
 
 -- both ends of the period are included
-abbrev pub in_period : Audit → ℤ → Bool
+abbrev pub in_period : Audit → Moment → Bool
 in_period audit moment = int_le audit.from moment && int_le moment audit.to
 
-abbrev pub is_exempt : Audit → List ℕ → List ℕ → Bool
+abbrev pub is_exempt : Audit → Name → Name → Bool
 is_exempt audit purpose recipient =
     list_any (λ pair. bytes_eq pair.purpose purpose && bytes_eq pair.recipient recipient) audit.exempt
 
--- the shared tuple of an asked query and an audit: none where the query is outside the period, exempt, does not name
--- every audited column, or needs no virtual tuple that the audit needs too
-abbrev pub shared_by : List Entry → ℤ → List ℕ → List ℕ → Query → Audit → Option (List SharedRow)
-shared_by history moment purpose recipient query audit =
-    option_and_then (λ found. found) (said (in_period audit moment && not (is_exempt audit purpose recipient) && names_all query audit)
-    (option_map (with_names (common query audit)) (first_needed history moment purpose recipient query audit)))
+-- whether a query is in the period, not exempt, and names every audited column
+abbrev pub is_candidate : Context → Query → Audit → Bool
+is_candidate context query audit =
+    in_period audit context.moment && not (is_exempt audit context.purpose context.recipient) && names_all query audit
 
--- what an entry shares with an audit; `reading` is the query that a text means after some entries
-abbrev pub shared_in : (List Entry → List ℕ → Option Query) → List Entry → Audit → ℤ → Act → Option (List SharedRow)
-shared_in reading history audit moment (Asked user purpose recipient text) =
-    option_and_then (λ query. shared_by history moment purpose recipient query audit) (reading history text)
-shared_in reading history audit moment act = None
+-- the shared tuple of a query and an audit: the first virtual tuple that serves, where the query is a candidate
+abbrev pub shared_by : History → Context → Query → Audit → Option (List SharedRow)
+shared_by history context query audit =
+    if is_candidate context query audit
+    then find (serves history context query audit) (virtual_tuples history (common query audit)) else None
 
--- the first shared tuple of entry number i and an audit, as of the entry's own time
-abbrev pub shared : (List Entry → List ℕ → Option Query) → List Entry → Audit → ℕ → Entry → Option (List SharedRow)
-shared reading history audit i entry = shared_in reading (before_entry i history) audit entry.moment entry.act
+abbrev pub shared_in : Meaning → History → Audit → Moment → Act → Option (List SharedRow)
+shared_in meaning history audit moment (Asked user purpose recipient text) =
+    let context : Context = record { purpose = purpose; recipient = recipient; moment = moment } in
+    option_and_then (λ query. shared_by history context query audit) (meaning history text)
+shared_in meaning history audit moment act = None
+
+-- the shared tuple of an entry and an audit, as of the entry's own time
+abbrev pub shared : Meaning → History → Audit → Entry → Option (List SharedRow)
+shared meaning history audit entry = shared_in meaning (before_entry entry history) audit entry.moment entry.act
 
 -- an entry is flagged where it has a shared tuple
-abbrev pub flagged : (List Entry → List ℕ → Option Query) → List Entry → Audit → ℕ → Entry → Bool
-flagged reading history audit i entry = is_some (shared reading history audit i entry)
+abbrev pub flagged : Meaning → History → Audit → Entry → Bool
+flagged meaning history audit entry = is_some (shared meaning history audit entry)

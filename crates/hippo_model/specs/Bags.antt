@@ -5,6 +5,7 @@ use Rattle.std.specs.Ordering.{is_eq}
 use Rattle.std.specs.Cmp.Lexicographic.{pointwise}
 use Rattle.hippo_model.specs.declared.cells.Cell.{Cell}
 use Rattle.hippo_model.specs.declared.cells.Cell.TheVariants.{Shown, Denied}
+use Rattle.hippo_model.specs.Terms.{ShownRow}
 use Rattle.hippo_model.specs.Values.{value_cmp}
 
 abbrev pub same_cell : Cell → Cell → Bool
@@ -12,13 +13,13 @@ same_cell (Shown a) (Shown b) = is_eq (value_cmp a b)
 same_cell (Denied a) (Denied b) = a == b
 same_cell a b = false
 
-abbrev pub same_row : List Cell → List Cell → Bool
+abbrev pub same_row : ShownRow → ShownRow → Bool
 same_row = pointwise same_cell
 
 -- how often a row stands in a list
-abbrev pub occurrences : List Cell → List (List Cell) → ℕ
+abbrev pub occurrences : ShownRow → List ShownRow → ℕ
 occurrences row rows = count_by (same_row row) rows
 
 -- each row stands as often in the one list as in the other
-abbrev pub same_bag : List (List Cell) → List (List Cell) → Bool
+abbrev pub same_bag : List ShownRow → List ShownRow → Bool
 same_bag left right = list_all (λ row. occurrences row left == occurrences row right) (left ++ right)

@@ -1,6 +1,7 @@
 -- Which columns a query names.
 use Rattle.std.specs.Prelude.{ℕ, Bool, ◌&&◌, ◌==◌, List, [], ◌∷◌, ◌++◌, map, flat_map, slice_index_or, bytes_eq}
 use Rattle.std.specs.List.{list_any, list_all}
+use Rattle.hippo_values.specs.declared.names.Name.{Name}
 use Rattle.hippo_model.specs.declared.query.Ref.{Ref}
 use Rattle.hippo_model.specs.declared.query.Operand.{Operand}
 use Rattle.hippo_model.specs.declared.query.Operand.TheVariants.{Column, Literal}
@@ -8,6 +9,7 @@ use Rattle.hippo_model.specs.declared.query.CondOf.{CondOf, CondOf-F, fold-CondO
 use Rattle.hippo_model.specs.declared.query.CondOf.TheOpen.{All, Any, Not, Compare, Between, Among, Missing}
 use Rattle.hippo_model.specs.declared.query.Query.{Query}
 use Rattle.hippo_model.specs.declared.audit.Audit.{Audit}
+use Rattle.hippo_model.specs.Terms.{Place}
 
 abbrev pub columns_in : Operand → List Ref
 columns_in (Column column) = column ∷ []
@@ -27,14 +29,14 @@ abbrev pub condition_columns : CondOf Operand → List Ref
 condition_columns condition = fold-CondOf Operand (List Ref) columns_step condition
 
 -- a column by its table's name and its place there
-abbrev pub named_column : List (List ℕ) → Ref → List ℕ × ℕ
+abbrev pub named_column : List Name → Ref → Name × Place
 named_column tables column = (slice_index_or tables column.table [], column.column)
 
--- the columns that stand anywhere in a query: in its items, in ON or in WHERE
-abbrev pub named : Query → List (List ℕ × ℕ)
+-- the columns that stand anywhere in a query: in its items, as an argument, in GROUP BY, in ON or in WHERE
+abbrev pub named : Query → List (Name × Place)
 named query = map (named_column query.tables) (query.items ++ condition_columns query.cond)
 
-abbrev pub same_column : List ℕ × ℕ → List ℕ × ℕ → Bool
+abbrev pub same_column : Name × Place → Name × Place → Bool
 same_column a b = bytes_eq a.0 b.0 && a.1 == b.1
 
 -- whether a query names every audited column

@@ -6,8 +6,9 @@ use Rattle.hippo_values.specs.declared.truths.Truth.{Truth}
 use Rattle.hippo_values.specs.declared.truths.Truth.TheVariants.{False, Unknown, True}
 use Rattle.hippo_values.specs.declared.truths.CompareOp.TheVariants.{Eq, Le, Ge}
 use Rattle.hippo_values.specs.Truths.{truth_and, truth_or, truth_not, truth_of, comparison}
-use Rattle.hippo_model.specs.declared.query.CondOf.{CondOf, CondOf-F, fold-CondOf}
+use Rattle.hippo_model.specs.declared.query.CondOf.{CondOf, CondOf-F, fold-CondOf, out-CondOf}
 use Rattle.hippo_model.specs.declared.query.CondOf.TheOpen.{All, Any, Not, Compare, Between, Among, Missing}
+use Rattle.hippo_model.specs.declared.query.CondOf.TheVariants as conditions
 
 abbrev pub least : List Truth → Truth
 least [] = True
@@ -40,3 +41,21 @@ abbrev pub is_true : Truth → Bool
 is_true True = true
 is_true Unknown = false
 is_true False = false
+
+-- a condition with its operands changed, where its parts are changed already
+abbrev pub changed_step : {O P : Type 0} → (O → P) → CondOf-F O (CondOf P) → CondOf P
+changed_step change (All parts) = conditions.All parts
+changed_step change (Any parts) = conditions.Any parts
+changed_step change (Not part) = conditions.Not part
+changed_step change (Compare op left right) = conditions.Compare op (change left) (change right)
+changed_step change (Between operand low high) = conditions.Between (change operand) (change low) (change high)
+changed_step change (Among operand list) = conditions.Among (change operand) (map change list)
+changed_step change (Missing operand) = conditions.Missing (change operand)
+
+-- a condition with its operands changed
+abbrev pub changed_operands : {O P : Type 0} → (O → P) → CondOf O → CondOf P
+changed_operands {O} {P} change condition = fold-CondOf O (CondOf P) (changed_step change) condition
+
+-- the parts of a condition's outermost All; a condition that is no All is its own one part
+abbrev pub outer_parts : {O : Type 0} → CondOf O → List (CondOf O)
+outer_parts {O} condition = elim (out-CondOf O condition) [ All parts ↦ parts | _ ↦ condition ∷ [] ]

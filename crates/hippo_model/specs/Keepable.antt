@@ -1,16 +1,20 @@
 -- Which entries can be kept: those whose parts have room in the stored form, as the types of numbers, days and names say
 -- and the counts of the stored form allow.
-use Rattle.std.specs.Prelude.{ℕ, ℤ, pos, negsuc, Bool, true, ◌&&◌, List, length, nat_lt, nat_le, int_le, bytes_eq}
+use Rattle.std.specs.Prelude.{ℕ, ℤ, pos, negsuc, Bool, true, ◌&&◌, List, Option, length, nat_lt, nat_le, int_le, bytes_eq}
 use Rattle.std.specs.List.{list_all}
 use Rattle.std.specs.Option.{option_map_or}
 use Rattle.std.specs.Str.{is_utf8}
 use Rattle.hippo_values.specs.Names.{is_name, folded}
+use Rattle.hippo_values.specs.declared.names.Name.{Name}
+use Rattle.hippo_values.specs.declared.texts.Txt.{Txt}
 use Rattle.hippo_values.specs.declared.values.Value.{Value}
 use Rattle.hippo_values.specs.declared.values.Value.TheVariants.{Null, Int, Text, Day}
+use Rattle.hippo_model.specs.declared.schema.Column.{Column}
 use Rattle.hippo_model.specs.declared.schema.Schema.{Schema}
 use Rattle.hippo_model.specs.declared.entry.Act.{Act}
 use Rattle.hippo_model.specs.declared.entry.Act.TheVariants.{Create, Insert, Update, Delete, Purpose, Recipient, Item, Authorize, Deauthorize, Allow, Revoke, Choice, Asked}
 use Rattle.hippo_model.specs.declared.entry.Entry.{Entry}
+use Rattle.hippo_model.specs.Terms.{Row, Place}
 
 -- a number of 64 bits with a sign
 abbrev pub is_signed_number : ℤ → Bool
@@ -24,22 +28,22 @@ abbrev pub is_day : ℤ → Bool
 is_day day = int_le (negsuc 719161) day && int_le day (pos 2932896)
 
 -- a name in lower case
-abbrev pub is_folded_name : List ℕ → Bool
+abbrev pub is_folded_name : Name → Bool
 is_folded_name name = is_name name && bytes_eq (folded name) name
 
 -- UTF-8 of at most so many bytes
-abbrev pub is_text : ℕ → List ℕ → Bool
+abbrev pub is_text : ℕ → Txt → Bool
 is_text limit text = nat_le (length text) limit && is_utf8 text
 
 -- a list whose count goes into one byte
-abbrev pub is_listed : {A : Type 0} → List A → Bool
-is_listed members = nat_lt (length members) 256
+abbrev pub has_count : {A : Type 0} → List A → Bool
+has_count members = nat_lt (length members) 256
 
 -- a list of 1 to 64 members
 abbrev pub is_short : {A : Type 0} → List A → Bool
 is_short members = nat_le 1 (length members) && nat_le (length members) 64
 
-abbrev pub is_place : ℕ → Bool
+abbrev pub is_place : Place → Bool
 is_place place = nat_lt place 256
 
 abbrev pub value_is_keepable : Value → Bool
@@ -48,18 +52,38 @@ value_is_keepable (Int number) = is_signed_number number
 value_is_keepable (Text text) = is_text 4096 text
 value_is_keepable (Day day) = is_day day
 
-abbrev pub cells_are_keepable : List Value → Bool
-cells_are_keepable cells = is_listed cells && list_all value_is_keepable cells
+abbrev pub cells_are_keepable : Row → Bool
+cells_are_keepable cells = has_count cells && list_all value_is_keepable cells
 
-abbrev pub places_are_keepable : List ℕ → Bool
-places_are_keepable places = is_listed places && list_all is_place places
+abbrev pub places_are_keepable : List Place → Bool
+places_are_keepable places = has_count places && list_all is_place places
+
+abbrev pub columns_are_keepable : List Column → Bool
+columns_are_keepable columns = is_short columns && list_all (λ column. is_folded_name column.name) columns
+
+abbrev pub key_is_keepable : List Place → Bool
+key_is_keepable key = is_short key && list_all is_place key
+
+abbrev pub subject_is_keepable : Option Place → Bool
+subject_is_keepable subject = option_map_or (λ place. nat_lt place 255) subject true
 
 abbrev pub schema_is_keepable : Schema → Bool
 schema_is_keepable schema =
-    is_folded_name schema.name && is_short schema.columns && list_all (λ column. is_folded_name column.name) schema.columns
-    && is_short schema.key && list_all is_place schema.key && option_map_or (λ place. nat_lt place 255) schema.subject true
+    is_folded_name schema.name && columns_are_keepable schema.columns && key_is_keepable schema.key
+    && subject_is_keepable schema.subject
 
-abbrev pub rule_is_keepable : List ℕ → List ℕ → List ℕ → List ℕ → Bool
+abbrev pub item_is_keepable : Option Name → Bool
+item_is_keepable item = option_map_or is_folded_name item true
+
+-- a number of 32 bits
+abbrev pub days_are_keepable : Option ℕ → Bool
+days_are_keepable days = option_map_or (λ number. nat_lt number 4294967296) days true
+
+-- the text of a question: 1 to 65,536 bytes
+abbrev pub question_is_keepable : Txt → Bool
+question_is_keepable text = nat_le 1 (length text) && is_text 65536 text
+
+abbrev pub rule_is_keepable : Name → Name → Name → List Place → Bool
 rule_is_keepable purpose recipient table columns =
     is_folded_name purpose && is_folded_name recipient && is_folded_name table && places_are_keepable columns
 
@@ -71,13 +95,16 @@ act_is_keepable (Delete table key) = is_folded_name table && cells_are_keepable 
 act_is_keepable (Purpose name) = is_folded_name name
 act_is_keepable (Recipient name) = is_folded_name name
 act_is_keepable (Item name kind) = is_folded_name name
-act_is_keepable (Authorize user purpose recipient) = is_folded_name user && is_folded_name purpose && is_folded_name recipient
-act_is_keepable (Deauthorize user purpose recipient) = is_folded_name user && is_folded_name purpose && is_folded_name recipient
-act_is_keepable (Allow purpose recipient table columns item days) = rule_is_keepable purpose recipient table columns && option_map_or is_folded_name item true
+act_is_keepable (Authorize user purpose recipient) =
+    is_folded_name user && is_folded_name purpose && is_folded_name recipient
+act_is_keepable (Deauthorize user purpose recipient) =
+    is_folded_name user && is_folded_name purpose && is_folded_name recipient
+act_is_keepable (Allow purpose recipient table columns item days) = 
+    rule_is_keepable purpose recipient table columns && item_is_keepable item && days_are_keepable days
 act_is_keepable (Revoke purpose recipient table columns) = rule_is_keepable purpose recipient table columns
 act_is_keepable (Choice subject item agreed) = is_signed_number subject && is_folded_name item
 act_is_keepable (Asked user purpose recipient text) =
-    is_folded_name user && is_folded_name purpose && is_folded_name recipient && nat_le 1 (length text) && is_text 65536 text
+    is_folded_name user && is_folded_name purpose && is_folded_name recipient && question_is_keepable text
 
 -- whether an entry has a stored form
 abbrev pub is_keepable : Entry → Bool

@@ -1,8 +1,11 @@
--- What a query with the policy's rules written into it answers, over unmasked rows.
-use Rattle.std.specs.Prelude.{ℕ, ℤ, Bool, true, false, ◌&&◌, List, [], map, filter, slice_index_or, Option, if◌then◌else◌}
+-- What a query with the policy's rules written into it answers, over unmasked rows and their births.
+use Rattle.std.specs.Prelude.{ℕ, ℤ, int_le, Bool, true, false, not, ◌&&◌, List, map, filter, slice_get, Option, if◌then◌else◌}
 use Rattle.std.specs.List.{list_all}
 use Rattle.std.specs.Option.{option_map_or}
+use Rattle.hippo_values.specs.declared.names.Name.{Name}
 use Rattle.hippo_values.specs.declared.values.Value.{Value}
+use Rattle.hippo_values.specs.declared.values.Value.TheVariants.{Null as NullValue}
+use Rattle.hippo_model.specs.declared.born_row.BornRow.{BornRow}
 use Rattle.hippo_model.specs.declared.cells.Cell.{Cell}
 use Rattle.hippo_model.specs.declared.cells.Cell.TheVariants.{Shown, Denied}
 use Rattle.hippo_model.specs.declared.entry.ItemKind.TheVariants.{OptIn, OptOut}
@@ -10,43 +13,63 @@ use Rattle.hippo_model.specs.declared.query.Expr.{Expr}
 use Rattle.hippo_model.specs.declared.query.Expr.TheVariants.{Keep, Null, Aged, Case, Literal}
 use Rattle.hippo_model.specs.declared.query.Masked.{Masked}
 use Rattle.hippo_model.specs.declared.query.Ref.{Ref}
+use Rattle.hippo_model.specs.Terms.{Combination, ShownRow}
 use Rattle.hippo_model.specs.Rows.{cell_at}
 use Rattle.hippo_model.specs.Verdicts.{number_in, agrees}
 use Rattle.hippo_model.specs.Conditions.{truth, is_true}
-use Rattle.hippo_model.specs.Answers.{product, value_in}
+use Rattle.hippo_model.specs.Forms.{value_in}
+use Rattle.hippo_model.specs.Answers.{product}
+
+-- the choice of each patient on each item
+abbrev pub Choices : Type 0
+Choices = ℤ → Name → Option Bool
 
 -- the value in a column of a combination of rows
-abbrev pub raw_value : List (List Value) → Ref → Value
-raw_value rows column = cell_at (slice_index_or rows column.table []) column.column
+abbrev pub raw_value : Combination → Ref → Value
+raw_value combination column =
+    option_map_or (λ kept. cell_at kept.row column.column) (slice_get combination column.table) NullValue
+
+-- whether the row of a column was born later than a second
+abbrev pub is_younger : Combination → Ref → ℤ → Bool
+is_younger combination column after =
+    option_map_or (λ kept. not (int_le kept.born after)) (slice_get combination column.table) false
 
 -- whether the patient with a number agrees to an item, by the choices; nobody is no patient
-abbrev pub agrees_by : (ℤ → List ℕ → Option Bool) → Option ℤ → List ℕ → Bool → Bool
+abbrev pub agrees_by : Choices → Option ℤ → Name → Bool → Bool
 agrees_by choices subject item opt_in =
     option_map_or (λ number. agrees (if opt_in then OptIn else OptOut) (choices number item)) subject false
 
+abbrev pub shown_if : Bool → Value → ℕ → Cell
+shown_if test value rule = if test then Shown value else Denied rule
+
 -- the cell that an expression stands for in a combination
-abbrev pub masked_cell : (ℤ → List ℕ → Option Bool) → List (List Value) → Expr → Cell
+abbrev pub masked_cell : Choices → Combination → Expr → Cell
 masked_cell choices rows (Keep column) = Shown (raw_value rows column)
 masked_cell choices rows (Null rule) = Denied rule
-masked_cell choices rows (Aged column rule after) = Shown (raw_value rows column)
+masked_cell choices rows (Aged column rule after) = shown_if (is_younger rows column after) (raw_value rows column) rule
 masked_cell choices rows (Case column subject item rule opt_in after) =
-    if agrees_by choices (number_in (raw_value rows subject)) item opt_in then Shown (raw_value rows column) else Denied rule
+    let agreed = agrees_by choices (number_in (raw_value rows subject)) item opt_in in
+    shown_if (option_map_or (is_younger rows column) after true && agreed) (raw_value rows column) rule
 masked_cell choices rows (Literal value) = Shown value
 
 abbrev pub is_shown_cell : Cell → Bool
 is_shown_cell (Shown value) = true
 is_shown_cell (Denied rule) = false
 
--- a combination stays where each guard is shown
-abbrev pub is_guarded : (ℤ → List ℕ → Option Bool) → Masked → List (List Value) → Bool
+-- whether each guard of a combination is shown
+abbrev pub is_guarded : Choices → Masked → Combination → Bool
 is_guarded choices query rows = list_all (λ guard. is_shown_cell (masked_cell choices rows guard.expr)) query.guards
 
 -- whether the condition is true of a combination
-abbrev pub masked_passes : (ℤ → List ℕ → Option Bool) → Masked → List (List Value) → Bool
+abbrev pub masked_passes : Choices → Masked → Combination → Bool
 masked_passes choices query rows = is_true (truth (λ expr. value_in (masked_cell choices rows expr)) query.cond)
 
+-- the items of a combination
+abbrev pub masked_items : Choices → Masked → Combination → ShownRow
+masked_items choices query rows = map (masked_cell choices rows) query.items
+
 -- the items of the combinations that stay and pass, in the order of the product
-abbrev pub masked_answer : (ℤ → List ℕ → Option Bool) → Masked → List (List (List Value)) → List (List Cell)
+abbrev pub masked_answer : Choices → Masked → List (List BornRow) → List ShownRow
 masked_answer choices query tables =
-    map (λ rows. map (masked_cell choices rows) query.items)
+    map (masked_items choices query)
     (filter (λ rows. is_guarded choices query rows && masked_passes choices query rows) (product tables))

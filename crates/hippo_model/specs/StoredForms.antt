@@ -1,8 +1,11 @@
--- How an entry is kept, in format 1: its number, moment, kind and table, and a body of bytes. Numbers are big-endian, and
+-- How an entry is kept: its number, moment, kind and table, and a body of bytes, in format 1, or in format 2 where a rule
+-- has a number of days. Numbers are big-endian, and
 -- those below 0 in two's complement; a name is its length in one byte and its bytes, a long text its length in four bytes
 -- and its bytes, a list its count in one byte and its members.
 use Rattle.std.specs.Prelude.{ℕ, ◌+◌, ℤ, List, [], ◌∷◌, ◌++◌, flat_map, length, Option, Some, None}
 use Rattle.std.specs.Int.{w32, w64, to_be_bytes, cast_unsigned, from_bool}
+use Rattle.hippo_values.specs.declared.names.Name.{Name}
+use Rattle.hippo_values.specs.declared.texts.Txt.{Txt}
 use Rattle.hippo_values.specs.declared.values.Value.{Value}
 use Rattle.hippo_values.specs.declared.values.Value.TheVariants.{Null, Int, Text, Day}
 use Rattle.hippo_model.specs.declared.schema.Column.{Column}
@@ -25,10 +28,10 @@ signed_bytes number = to_be_bytes w64 (cast_unsigned w64 number)
 abbrev pub day_bytes : ℤ → List ℕ
 day_bytes day = to_be_bytes w32 (cast_unsigned w32 day)
 
-abbrev pub name_bytes : List ℕ → List ℕ
+abbrev pub name_bytes : Name → List ℕ
 name_bytes name = length name ∷ name
 
-abbrev pub text_bytes : List ℕ → List ℕ
+abbrev pub text_bytes : Txt → List ℕ
 text_bytes text = to_be_bytes w32 (length text) ++ text
 
 abbrev pub list_bytes : {A : Type 0} → (A → List ℕ) → List A → List ℕ
@@ -66,9 +69,19 @@ abbrev pub item_kind : ItemKind → ℕ
 item_kind OptIn = 1
 item_kind OptOut = 2
 
-abbrev pub item_bytes : Option (List ℕ) → List ℕ
+abbrev pub item_bytes : Option Name → List ℕ
 item_bytes None = 0 ∷ []
 item_bytes (Some item) = 1 ∷ name_bytes item
+
+-- the days of a rule that has some, in four bytes
+abbrev pub days_bytes : Option ℕ → List ℕ
+days_bytes None = []
+days_bytes (Some days) = to_be_bytes w32 days
+
+-- the format of an act: 2 for a rule with days, else 1
+abbrev pub act_format : Act → ℕ
+act_format (Allow purpose recipient table columns item (Some days)) = 2
+act_format act = 1
 
 abbrev pub act_kind : Act → ℕ
 act_kind (Create schema) = 1
@@ -97,6 +110,7 @@ act_bytes (Authorize user purpose recipient) = name_bytes user ++ name_bytes pur
 act_bytes (Deauthorize user purpose recipient) = name_bytes user ++ name_bytes purpose ++ name_bytes recipient
 act_bytes (Allow purpose recipient table columns item days) =
     name_bytes purpose ++ name_bytes recipient ++ name_bytes table ++ list_bytes place_bytes columns ++ item_bytes item
+    ++ days_bytes days
 act_bytes (Revoke purpose recipient table columns) =
     name_bytes purpose ++ name_bytes recipient ++ name_bytes table ++ list_bytes place_bytes columns
 act_bytes (Choice subject item agreed) = signed_bytes subject ++ name_bytes item ++ from_bool agreed ∷ []
@@ -104,10 +118,11 @@ act_bytes (Asked user purpose recipient text) = name_bytes user ++ name_bytes pu
 
 -- the format, the number, the moment, the kind, and what the act says
 abbrev pub body : Entry → List ℕ
-body entry = 1 ∷ number_bytes entry.seq ++ signed_bytes entry.moment ++ act_kind entry.act ∷ act_bytes entry.act
+body entry =
+    act_format entry.act ∷ number_bytes entry.seq ++ signed_bytes entry.moment ++ act_kind entry.act ∷ act_bytes entry.act
 
 -- the table whose row an act changes
-abbrev pub table_changed : Act → List ℕ
+abbrev pub table_changed : Act → Txt
 table_changed (Insert table row) = table
 table_changed (Update table row) = table
 table_changed (Delete table key) = table

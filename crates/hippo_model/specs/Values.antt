@@ -1,5 +1,5 @@
 -- The order of values, and what fits a column.
-use Rattle.std.specs.Prelude.{ℕ, Bool, not, ◌&&◌, ◌==◌, List, length, nat_le}
+use Rattle.std.specs.Prelude.{ℕ, Bool, true, false, not, ◌&&◌, ◌==◌, List, length, nat_le}
 use Rattle.std.specs.List.{list_all}
 use Rattle.std.specs.Ordering.{is_eq, int_cmp, nat_cmp}
 use Rattle.std.specs.declared.cmp.Ordering.{Ordering}
@@ -36,9 +36,10 @@ abbrev pub keeps_text_rule : List ℕ → Bool
 keeps_text_rule text = nat_le (length text) 4096 && list_all (λ byte. nat_le 32 byte && not (byte == 127)) text
 
 abbrev pub has_kind : ColumnKind → Value → Bool
-has_kind Integer value = kind_rank value == 1
-has_kind TextColumn value = kind_rank value == 2
-has_kind Date value = kind_rank value == 3
+has_kind Integer (Int number) = true
+has_kind TextColumn (Text text) = true
+has_kind Date (Day day) = true
+has_kind kind value = false
 
 -- what may stand in a column: its kind, with texts that keep the text rule, and NULL unless it is NOT NULL
 abbrev pub fits : Column → Value → Bool

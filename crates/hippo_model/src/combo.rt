@@ -1,4 +1,4 @@
-ghost use Rattle.std.specs.Prelude.{◌≡◌, ◌<◌, ◌-◌, ◌↔◌, [], ◌∷◌, ◌++◌, length, take, slice_get, Some, IsTrue, OnOk, OnErr};
+ghost use Rattle.std.specs.Prelude.{◌≡◌, ◌<◌, ◌-◌, ◌↔◌, [], ◌∷◌, ◌++◌, length, take, option_map, slice_get, Some, IsTrue, OnOk, OnErr};
 
 use crate::cells::Cells;
 use crate::row_set::RowSet;
@@ -84,7 +84,7 @@ impl<'a> Sets<'a> {
     }
 }
 
-// A row of a table that stands elsewhere, and the moment at which it was born.
+// A row that stands elsewhere, and the moment at which it was born.
 #[derive(Drop)]
 struct LentRow<'a> {
     row: &'a Cells,
@@ -99,20 +99,17 @@ pub struct Combo<'a> {
 
 impl<'a> Model for Combo<'a> {
     ghost use Rattle.std.specs.Prelude.{map};
-    ghost use Rattle.hippo_model.specs.Combinations.{Combination};
+    ghost use Rattle.hippo_model.specs.Terms.{Combination};
 
     ghost Value = { Combination };
 
-    ghost view = { λ combo. record {
-      rows = map (λ member. member.row.now) combo.rows.items;
-      births = map (λ member. member.born) combo.rows.items;
-    } };
+    ghost view = { λ combo. map (λ member. record { row = member.row.now; born = member.born }) combo.rows.items };
 }
 
 impl<'a> Combo<'a> {
     /// No row; takes no memory.
     pub fn new(alloc: Global) -> Combo<'a>
-        ensures { result ≡ record { rows = []; births = [] } }
+        ensures { result ≡ [] }
     {
         Combo {
             rows: Vec::new(alloc),
@@ -121,10 +118,7 @@ impl<'a> Combo<'a> {
 
     /// Adds the next table's row.
     pub fn push(&mut self, row: &'a Cells, born: Moment) -> Result<(), Memory>
-        ensures ok { OnOk result (self.new ≡ record {
-          rows = self.old.rows ++ row.now ∷ [];
-          births = self.old.births ++ born ∷ [];
-        }) }
+        ensures ok { OnOk result (self.new ≡ self.old ++ record { row = row.now; born = born } ∷ []) }
         ensures err { OnErr result (self.new ≡ self.old) }
     {
         match self.rows.push(LentRow { row, born }) {
@@ -135,38 +129,36 @@ impl<'a> Combo<'a> {
 
     /// Takes away the last table's row, if there is one.
     pub fn pop(&mut self)
-        ensures rows { self.new.rows ≡ take (length self.old.rows - 1) self.old.rows }
-        ensures births { self.new.births ≡ take (length self.old.births - 1) self.old.births }
+        ensures { self.new ≡ take (length self.old - 1) self.old }
     {
         let _ = self.rows.pop();
     }
 
     /// The number of rows.
     pub fn len(&self) -> usize
-        ensures rows { result ≡ length self.now.rows }
-        ensures births { result ≡ length self.now.births }
+        ensures { result ≡ length self.now }
     {
         self.rows.len()
     }
 
     pub fn is_empty(&self) -> bool
-        ensures { IsTrue result ↔ (self.now.rows ≡ []) }
+        ensures { IsTrue result ↔ (self.now ≡ []) }
     {
         self.rows.is_empty()
     }
 
     /// The row of the table at a place, counted from 0.
     pub fn row(&self, place: usize) -> &'a Cells
-        requires { place < length self.now.rows }
-        ensures { slice_get self.now.rows place ≡ Some result.now }
+        requires { place < length self.now }
+        ensures { option_map (λ kept. kept.row) (slice_get self.now place) ≡ Some result.now }
     {
         self.rows[place].row
     }
 
     /// The moment at which the row of the table at a place was born.
     pub fn born(&self, place: usize) -> Moment
-        requires { place < length self.now.rows }
-        ensures { slice_get self.now.births place ≡ Some result }
+        requires { place < length self.now }
+        ensures { option_map (λ kept. kept.born) (slice_get self.now place) ≡ Some result }
     {
         self.rows[place].born
     }

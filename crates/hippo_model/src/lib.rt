@@ -2,6 +2,7 @@
 #![tactic(auto)]
 
 mod audit;
+mod born_row;
 mod cells;
 mod combo;
 mod entry;
@@ -13,6 +14,7 @@ mod statement;
 mod stored;
 
 pub use audit::{Audit, Flag, Flags, Pair, Pairs, SharedRow, SharedTuple};
+pub use born_row::BornRow;
 pub use cells::{Answer, Cell, CellRow, Cells};
 pub use combo::{ChoiceView, Combo, Plan, Sets, Sizes};
 pub use entry::{Act, Entry, History, ItemKind};

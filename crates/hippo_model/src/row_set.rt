@@ -1,9 +1,10 @@
-ghost use Rattle.std.specs.Prelude.{◌≡◌, ◌<◌, ◌↔◌, [], length, map, slice_get, Some, IsTrue, OnOk, OnErr, IsOk, IsSome, IfSome};
+ghost use Rattle.std.specs.Prelude.{◌≡◌, ◌<◌, ◌↔◌, [], length, map, option_map, slice_get, Some, IsTrue, OnOk, OnErr, IsOk, IsSome, IfSome};
 ghost use Rattle.std.specs.List.Sorted.{IsSearchInRange, IsBinarySearchResult};
 ghost use Rattle.hippo_model.specs.Values.{value_cmp, cells_cmp};
 ghost use Rattle.hippo_model.specs.Rows.{cell_at, key_of};
-ghost use Rattle.hippo_model.specs.RowSets.{IsAscending, with_row, without_row, find_row};
+ghost use Rattle.hippo_model.specs.RowSets.{IsAscending, key_in, with_row, without_row, find_row};
 
+use crate::born_row::BornRow;
 use crate::cells::Cells;
 use crate::schema::Places;
 use hippo_values::{Memory, Moment, Value};
@@ -44,13 +45,6 @@ fn row_order(places: &[usize], row: &[Value], other: &[Value]) -> Ordering
     Ordering::Equal
 }
 
-// A row, and the moment at which it was born.
-#[derive(Debug, Drop)]
-struct BornRow {
-    row: Cells,
-    born: Moment,
-}
-
 // The place of the row with a key among rows that stand by their keys, or else where it would stand.
 fn search_key(rows: &[BornRow], places: &[usize], key: &[Value]) -> Result<usize, usize>
     ensures range { IsSearchInRange result (length rows.now) }
@@ -76,24 +70,22 @@ pub struct RowSet {
 
 impl Model for RowSet {
     ghost use Rattle.std.specs.Prelude.{map};
-    ghost use Rattle.hippo_model.specs.Rows.{key_of};
-    ghost use Rattle.hippo_model.specs.RowSets.{KeyedRows, IsAscending};
+    ghost use Rattle.hippo_model.specs.RowSets.{KeyedRows, IsAscending, key_in};
 
     ghost Value = { KeyedRows };
 
     ghost view = { λ set. record {
       key = set.key;
-      rows = map (λ kept. kept.row) set.rows.items;
-      births = map (λ kept. kept.born) set.rows.items;
+      rows = set.rows.items;
     } };
 
-    ghost invariant = { λ set. IsAscending (map (key_of set.key) (map (λ kept. kept.row) set.rows.items)) };
+    ghost invariant = { λ set. IsAscending (map (key_in set.key) set.rows.items) };
 }
 
 impl RowSet {
     /// No rows, for a table whose key has these places; takes no memory.
     pub fn new(alloc: Global, key: Places) -> RowSet
-        ensures { result ≡ record { key = key; rows = []; births = [] } }
+        ensures { result ≡ record { key = key; rows = [] } }
     {
         RowSet {
             key,
@@ -104,7 +96,7 @@ impl RowSet {
     /// Puts a row at its place in the order of keys, instead of a row with its key. The set is unchanged where memory is
     /// short, which it never is over a row with the key.
     pub fn put(&mut self, row: Cells, born: Moment) -> Result<(), Memory>
-        ensures ok { OnOk result (self.new ≡ with_row row born self.old) }
+        ensures ok { OnOk result (self.new ≡ with_row (record { row = row; born = born }) self.old) }
         ensures err { OnErr result (self.new ≡ self.old) }
         ensures replaces { IsSome (find_row self.old.key (key_of self.old.key row) self.old.rows) → IsOk result }
     {
@@ -134,11 +126,18 @@ impl RowSet {
         search_key(&self.rows, self.key.as_slice(), key.as_slice()).ok()
     }
 
+    /// The place of the row that has the same key as this one, none exactly where no row has it.
+    pub fn find_like(&self, row: &Cells) -> Option<usize>
+        ensures place { result ≡ find_row self.now.key (key_of self.now.key row.now) self.now.rows }
+        ensures range { IfSome result (λ place. place < length self.now.rows) }
+    {
+        search_row(&self.rows, self.key.as_slice(), row.as_slice()).ok()
+    }
+
     /// The number of rows.
     pub fn len(&self) -> usize
         ensures rows { result ≡ length self.now.rows }
-        ensures births { result ≡ length self.now.births }
-        ensures order { IsAscending (map (key_of self.now.key) self.now.rows) }
+        ensures order { IsAscending (map (key_in self.now.key) self.now.rows) }
     {
         self.rows.len()
     }
@@ -159,7 +158,7 @@ impl RowSet {
     /// The row at a place, counted from 0.
     pub fn row(&self, place: usize) -> &Cells
         requires { place < length self.now.rows }
-        ensures { slice_get self.now.rows place ≡ Some result.now }
+        ensures { option_map (λ kept. kept.row) (slice_get self.now.rows place) ≡ Some result.now }
     {
         &self.rows[place].row
     }
@@ -167,7 +166,7 @@ impl RowSet {
     /// The moment at which the row at a place was born.
     pub fn born(&self, place: usize) -> Moment
         requires { place < length self.now.rows }
-        ensures { slice_get self.now.births place ≡ Some result }
+        ensures { option_map (λ kept. kept.born) (slice_get self.now.rows place) ≡ Some result }
     {
         self.rows[place].born
     }

@@ -1,0 +1,67 @@
+-- Plain, distinct and grouped answers.
+use Rattle.std.specs.Prelude.{ℕ, Bool, not, List, [], ◌∷◌, map, filter, take, slice_index_or, if◌then◌else◌}
+use Rattle.std.specs.Ordering.{is_le}
+use Rattle.hippo_values.specs.declared.values.Value.{Value}
+use Rattle.hippo_values.specs.declared.values.Value.TheVariants.{Null}
+use Rattle.hippo_model.specs.declared.cells.Cell.{Cell}
+use Rattle.hippo_model.specs.declared.cells.Cell.TheVariants.{Shown, Denied}
+use Rattle.hippo_model.specs.declared.query.Form.{Form}
+use Rattle.hippo_model.specs.declared.query.Form.TheVariants.{Plain, Distinct, Grouped}
+use Rattle.hippo_model.specs.declared.query.Out.{Out}
+use Rattle.hippo_model.specs.declared.query.Out.TheVariants.{Column, Min, Max}
+use Rattle.hippo_model.specs.declared.query.Shape.{Shape}
+use Rattle.hippo_model.specs.Terms.{ShownRow, Place}
+use Rattle.hippo_model.specs.Values.{value_cmp}
+use Rattle.hippo_model.specs.Bags.{same_row}
+
+-- a denied cell counts as null
+abbrev pub value_in : Cell → Value
+value_in (Shown value) = value
+value_in (Denied rule) = Null
+
+-- the different rows, each at its first place
+abbrev pub different : List ShownRow → List ShownRow
+different [] = []
+different (first ∷ rest) = first ∷ filter (λ row. not (same_row first row)) (different rest)
+
+-- the lesser of two values; a null yields to the other
+abbrev pub lesser : Value → Value → Value
+lesser Null other = other
+lesser value Null = value
+lesser value other = if is_le (value_cmp value other) then value else other
+
+-- the greater of two values; null is the least of all
+abbrev pub greater : Value → Value → Value
+greater value other = if is_le (value_cmp value other) then other else value
+
+abbrev pub least_value : List Value → Value
+least_value [] = Null
+least_value (first ∷ rest) = lesser first (least_value rest)
+
+abbrev pub greatest_value : List Value → Value
+greatest_value [] = Null
+greatest_value (first ∷ rest) = greater first (greatest_value rest)
+
+-- the rows whose first cells are these
+abbrev pub members : List ShownRow → ShownRow → Place → List ShownRow
+members rows key keys = filter (λ row. same_row key (take keys row)) rows
+
+abbrev pub values_in : Place → List ShownRow → List Value
+values_in place rows = map (λ row. value_in (slice_index_or row place (Denied 0))) rows
+
+-- a cell of a group's row: one of the cells that all of its members share, or the least or greatest of their values
+abbrev pub group_cell : ShownRow → List ShownRow → Out → Cell
+group_cell key rows (Column place) = slice_index_or key place (Denied 0)
+group_cell key rows (Min place) = Shown (least_value (values_in place rows))
+group_cell key rows (Max place) = Shown (greatest_value (values_in place rows))
+
+-- one row for each different list of the first cells, at the place of its first
+abbrev pub grouped : Shape → List ShownRow → List ShownRow
+grouped shape rows =
+    map (λ key. map (group_cell key (members rows key shape.keys)) shape.outs) (different (map (take shape.keys) rows))
+
+-- the rows of an answer by its form
+abbrev pub formed : Form → List ShownRow → List ShownRow
+formed Plain rows = rows
+formed Distinct rows = different rows
+formed (Grouped shape) rows = grouped shape rows

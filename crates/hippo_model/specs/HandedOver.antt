@@ -1,0 +1,37 @@
+-- Which stored entries fit what was asked of a keeper.
+use Rattle.std.specs.Prelude.{◌≡◌, ℕ, Bool, true, false, ◌&&◌, nat_lt, int_le}
+use Rattle.hippo_values.specs.declared.moments.Moment.{Moment}
+use Rattle.hippo_model.specs.declared.entry.Act.{Act}
+use Rattle.hippo_model.specs.declared.entry.Act.TheVariants.{Asked}
+use Rattle.hippo_model.specs.declared.entry.Entry.{Entry}
+use Rattle.hippo_model.specs.declared.schema.Schema.{Schema}
+use Rattle.hippo_model.specs.declared.stored.StoredEntry.{StoredEntry}
+use Rattle.hippo_model.specs.Terms.{History, Meaning}
+use Rattle.hippo_model.specs.StoredForms.{stored}
+use Rattle.hippo_model.specs.Keepable.{is_keepable}
+use Rattle.hippo_model.specs.Versions.{version_fits}
+use Rattle.hippo_model.specs.Validity.{is_acceptable}
+
+abbrev pub is_asked : Act → Bool
+is_asked (Asked user purpose recipient text) = true
+is_asked act = false
+
+-- whether an act is a question that may follow the entries so far
+abbrev pub question_fits : Meaning → History → Act → Bool
+question_fits meaning history act = is_asked act && is_acceptable meaning history act
+
+-- whether an entry may be handed over where a table's versions above a number are asked for, after these versions
+abbrev pub version_was_asked : Schema → ℕ → History → Entry → Bool
+version_was_asked schema after earlier entry = nat_lt after entry.seq && version_fits schema earlier entry.act
+
+-- whether an entry may be handed over where the questions of a period above a number are asked for, after these entries
+abbrev pub question_was_asked : Meaning → Moment → Moment → ℕ → History → Entry → Bool
+question_was_asked meaning from to after history entry =
+    nat_lt after entry.seq && int_le from entry.moment && int_le entry.moment to && question_fits meaning history entry.act
+
+-- a stored entry fits what was asked where it is the stored form of an entry that does; any other one is unfit
+pub record IsFit (was_asked : Entry → Bool) (kept : StoredEntry) : Type 0 where
+  pub entry : Entry
+  pub form : stored entry ≡ kept
+  pub keepable : is_keepable entry ≡ true
+  pub asked : was_asked entry ≡ true

@@ -1,0 +1,9 @@
+use crate::cells::Cells;
+use hippo_values::Moment;
+
+/// A row of a table, and the moment of the last INSERT of its key.
+#[derive(Debug, Drop, PartialEq, Eq)]
+pub struct BornRow {
+    pub row: Cells,
+    pub born: Moment,
+}
