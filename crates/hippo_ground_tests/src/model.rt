@@ -1,6 +1,7 @@
 use hippo_model::{
-    Act, Answer, Audit, Cell, Cells, Column, ColumnKind, Combo, CondOf, Entry, Flag, History,
-    ItemKind, Operand, Pair, Places, Query, Ref, RowSet, Schema, Sets, SharedRow, StoredEntry,
+    Act, Answer, Audit, Cell, Cells, Column, ColumnKind, Combo, CondOf, Entry, Flag, Form, History,
+    ItemKind, Operand, Out, Pair, Places, Query, Ref, RowSet, Schema, Sets, Shape, SharedRow,
+    StoredEntry,
 };
 use hippo_values::{Boxed, Duplicate, Memory, Moment, Name, Sequence, Txt, Value};
 use std::alloc::Global;
@@ -59,6 +60,7 @@ fn rows_stand_in_the_order_of_their_keys(rt: HostRuntime) -> Result<(), Fail> {
     ];
     for (place, (note, room, site, born)) in wanted.into_iter().enumerate() {
         assert_eq!(rt; set.find(&key(alloc, site, room)?), Some(place), "{note}");
+        assert_eq!(rt; set.find_like(&row(alloc, "", room, site)?), Some(place), "{note}");
         assert!(rt; place < set.len());
         assert_eq!(rt; set.row(place), &row(alloc, note, room, site)?, "{note}");
         assert_eq!(rt; set.born(place), moment(born), "{note}");
@@ -114,6 +116,14 @@ fn not_part(alloc: Global) -> Result<CondOf<Operand>, Memory> {
     Ok(CondOf::Not(Boxed::new(alloc, missing)?))
 }
 
+fn shape(alloc: Global) -> Result<Shape, Memory> {
+    let mut outs = Sequence::new(alloc);
+    outs.push(Out::Column(0))?;
+    outs.push(Out::Min(1))?;
+    outs.push(Out::Max(2))?;
+    Ok(Shape { keys: 1, outs })
+}
+
 fn query(alloc: Global) -> Result<Query, Memory> {
     let mut parts = Sequence::new(alloc);
     parts.push(either_part(alloc)?)?;
@@ -122,6 +132,7 @@ fn query(alloc: Global) -> Result<Query, Memory> {
         items: Sequence::new(alloc),
         tables: Sequence::new(alloc),
         cond: CondOf::All(parts),
+        form: Form::Grouped(shape(alloc)?),
     })
 }
 
@@ -255,6 +266,7 @@ fn allow(alloc: Global) -> Result<Act, Memory> {
         table,
         columns,
         item,
+        days: Some(30),
     })
 }
 
