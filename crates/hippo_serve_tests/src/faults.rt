@@ -144,6 +144,18 @@ fn faults_one_at_a_time(rt: HostRuntime) -> Result<(), Memory> {
 }
 
 #[test]
+fn a_sink_without_room(rt: HostRuntime) -> Result<(), Memory> {
+    let alloc = rt.alloc();
+    let full = Outside {
+        room: 0,
+        ..FAULTLESS
+    };
+    // The usage line cannot be written.
+    check(&rt, alloc, &[], b"hello\n", &full, Ending::WriteFault, "")?;
+    check(&rt, alloc, &["run"], b"", &full, Ending::Served, "")
+}
+
+#[test]
 fn read_fault_behind_a_full_buffer(rt: HostRuntime) -> Result<(), Memory> {
     let alloc = rt.alloc();
     // The first call takes 65537 bytes, the second the others, and the third fails.
