@@ -6,7 +6,7 @@ use Rattle.std.specs.declared.cmp.Ordering.{Ordering}
 use Rattle.std.specs.declared.cmp.Ordering.TheVariants.{Less, Equal, Greater}
 use Rattle.std.proofs.lemmas.Cmp.{tied_itself}
 use Rattle.hippo_values.specs.declared.values.Value.{Value}
-use Rattle.hippo_model.specs.Values.{cells_cmp, same_cells}
+use Rattle.hippo_values.specs.Order.{cells_cmp, same_cells}
 use Rattle.hippo_model.specs.Rows.{key_of, insert_key}
 use Rattle.hippo_model.specs.RowSets.{IsBelowAll, IsAscending, put_row, take_row, row_with}
 use Rattle.hippo_model.proofs.Orders.{cells_total, cells_exact, same_exact}

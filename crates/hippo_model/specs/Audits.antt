@@ -16,7 +16,7 @@ use Rattle.hippo_model.specs.declared.query.Query.{Query}
 use Rattle.hippo_model.specs.declared.query.Ref.{Ref}
 use Rattle.hippo_model.specs.declared.audit.Audit.{Audit}
 use Rattle.hippo_model.specs.declared.audit.SharedRow.{SharedRow}
-use Rattle.hippo_model.specs.Values.{same_cells}
+use Rattle.hippo_values.specs.Order.{same_cells}
 use Rattle.hippo_model.specs.Histories.{said, before_entry, schema_at}
 use Rattle.hippo_model.specs.Rows.{key_of, table_rows}
 use Rattle.hippo_model.specs.Answers.{product, value_in, answer_of, view_at, unmasked_at}

@@ -1,9 +1,10 @@
 -- Which entries can be kept: those whose parts have room in the stored form, as the types of numbers, days and names say
 -- and the counts of the stored form allow.
-use Rattle.std.specs.Prelude.{ℕ, ℤ, pos, negsuc, Bool, true, ◌&&◌, List, length, nat_lt, nat_le, int_le, bytes_eq}
+use Rattle.std.specs.Prelude.{ℕ, Bool, true, ◌&&◌, List, length, nat_lt, nat_le, bytes_eq}
 use Rattle.std.specs.List.{list_all}
 use Rattle.std.specs.Option.{option_map_or}
 use Rattle.std.specs.Str.{is_utf8}
+use Rattle.hippo_values.specs.Moments.{is_day, is_moment, is_signed_number}
 use Rattle.hippo_values.specs.Names.{is_name, folded}
 use Rattle.hippo_values.specs.declared.values.Value.{Value}
 use Rattle.hippo_values.specs.declared.values.Value.TheVariants.{Null, Int, Text, Day}
@@ -11,17 +12,6 @@ use Rattle.hippo_model.specs.declared.schema.Schema.{Schema}
 use Rattle.hippo_model.specs.declared.entry.Act.{Act}
 use Rattle.hippo_model.specs.declared.entry.Act.TheVariants.{Create, Insert, Update, Delete, Purpose, Recipient, Item, Authorize, Deauthorize, Allow, Revoke, Choice, Asked}
 use Rattle.hippo_model.specs.declared.entry.Entry.{Entry}
-
--- a number of 64 bits with a sign
-abbrev pub is_signed_number : ℤ → Bool
-is_signed_number number = int_le (negsuc 9223372036854775807) number && int_le number (pos 9223372036854775807)
-
--- a second, and a day, of the years 0001 to 9999
-abbrev pub is_moment : ℤ → Bool
-is_moment second = int_le (negsuc 62135596799) second && int_le second (pos 253402300799)
-
-abbrev pub is_day : ℤ → Bool
-is_day day = int_le (negsuc 719161) day && int_le day (pos 2932896)
 
 -- a name in lower case
 abbrev pub is_folded_name : List ℕ → Bool

@@ -3,7 +3,7 @@ use Rattle.std.specs.Prelude.{◌≡◌, ℕ, suc, ℤ, List, [], ◌∷◌, Opt
 use Rattle.std.specs.Ordering.{match_ordering}
 use Rattle.std.specs.declared.cmp.Ordering.TheVariants.{Less}
 use Rattle.hippo_values.specs.declared.values.Value.{Value}
-use Rattle.hippo_model.specs.Values.{cells_cmp, same_cells}
+use Rattle.hippo_values.specs.Order.{cells_cmp, same_cells}
 use Rattle.hippo_model.specs.Rows.{key_of}
 
 -- the places of the key, the rows, and the moment at which each was born

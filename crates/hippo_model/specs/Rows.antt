@@ -8,7 +8,7 @@ use Rattle.hippo_model.specs.declared.schema.Schema.{Schema}
 use Rattle.hippo_model.specs.declared.entry.Act.{Act}
 use Rattle.hippo_model.specs.declared.entry.Act.TheVariants.{Insert, Update, Delete}
 use Rattle.hippo_model.specs.declared.entry.Entry.{Entry}
-use Rattle.hippo_model.specs.Values.{cells_cmp, same_cells}
+use Rattle.hippo_values.specs.Order.{cells_cmp, same_cells}
 use Rattle.hippo_model.specs.Histories.{said, last_word}
 
 -- the value in a row's column
