@@ -3,7 +3,7 @@ use Rattle.std.proofs.Common.{◌≡◌, ℕ, ◌+◌, ◌<◌, ◌≤◌, Bool,
 use Rattle.std.proofs.lemmas.List.{take-append-drop, drop_more}
 use Rattle.std.specs.Io.BufRead.{drop_through}
 use Rattle.hippo_io.specs.Lines.{too_long_line, line_feed, line_limit, pieces, with_first, lines, line_of, feeds}
-use Rattle.hippo_io.specs.Steps.{BeginsWithLine}
+use Rattle.hippo_io.specs.Moves.{BeginsWithLine}
 use Rattle.hippo_io.proofs.FeedLemmas.{is_feed, feeds-append, feeds-cons}
 use Rattle.hippo_io.proofs.LineLemmas.{line_of-long}
 

@@ -8,7 +8,7 @@ use Rattle.std.proofs.lemmas.List.Quantifiers.{position-Some}
 use Rattle.std.specs.Prelude.{Option, position}
 use Rattle.std.specs.List.{position_or_len}
 use Rattle.hippo_io.specs.Lines.{feeds}
-use Rattle.hippo_io.specs.Steps.{BeginsWithLine}
+use Rattle.hippo_io.specs.Moves.{BeginsWithLine}
 
 abbrev pub is_feed : ℕ → Bool
 is_feed byte = eqb byte 10

@@ -1,4 +1,4 @@
--- What was handed out stays so over the steps from one line to the next.
+-- What was handed out stays so while the reader moves on from one line to the next.
 use Rattle.std.proofs.Common.{◌≡◌, ℕ, ◌+◌, ◌-◌, ◌<◌, ◌≤◌, Bool, true, List, [], ◌∷◌, ◌++◌, Some, length, take, drop, refl, sym, ap, ◌∙◌, arith, append_assoc, append-nil, length-append, length-drop, IsTrue, IsFalse, subst, Result, Ok, Err, OnErr}
 use Rattle.std.proofs.Math.Seq.{take-add, take-append_seam}
 use Rattle.std.proofs.lemmas.Bool.{false≢true}
@@ -7,8 +7,8 @@ use Rattle.std.specs.Prelude.{Option}
 use Rattle.std.specs.Io.BufRead.{drop_through}
 use Rattle.hippo_io.specs.Lines.{LineText, too_long_line, line_feed, line_limit, lines, line_of, feeds}
 use Rattle.hippo_io.specs.Position.{Position}
-use Rattle.hippo_io.specs.Reading.{HasHandedOut, HasGivenUp}
-use Rattle.hippo_io.specs.Steps.{BeginsWithLine, IsGoing, Refills, FailsToRefill}
+use Rattle.hippo_io.specs.HandingOut.{HasHandedOut, HasGivenUp}
+use Rattle.hippo_io.specs.Moves.{BeginsWithLine, IsGoing, Refills, FailsToRefill}
 use Rattle.hippo_io.specs.Told.{IsAtEnd}
 use Rattle.hippo_io.specs.declared.lines.LineFault.{LineFault}
 use Rattle.hippo_io.proofs.FeedLemmas.{feeds-append}
@@ -48,7 +48,7 @@ pub HasHandedOut-refilled : (input : List ℕ) (handed : List LineText) (before 
 HasHandedOut-refilled input handed before after left_before left_after n going more h =
     let m = moved input before after left_before left_after n more h.within h.told in
     record {
-      sound = more.going.sound;
+      unfailed = more.going.unfailed;
       within = m.within;
       told = m.told;
       others = h.others ∙ ap (λ l. handed ++ lines l) (sym m.ahead);
@@ -83,7 +83,7 @@ module _ (input : List ℕ) (handed : List LineText) (reader : Position) (left :
   HasHandedOut-whole n line =
       let rest = drop reader.taken input in
       record {
-        sound = going.sound;
+        unfailed = going.unfailed;
         within = h.within;
         told = h.told;
         others = h.others ∙ ap (λ l. handed ++ l) (lines-whole reader.waiting rest n line) ∙ sym (append_assoc handed (line_of (take n reader.waiting) ∷ []) (lines (drop (n + 1) reader.waiting ++ rest)));
@@ -96,7 +96,7 @@ module _ (input : List ℕ) (handed : List LineText) (reader : Position) (left :
     pub HasHandedOut-rest : feeds reader.waiting ≡ 0 → 0 < length reader.waiting
         → HasHandedOut input (handed ++ line_of reader.waiting ∷ []) (record reader { waiting = []; ended = true }) left
     HasHandedOut-rest clear some = record {
-      sound = going.sound;
+      unfailed = going.unfailed;
       within = h.within;
       told = h.told;
       others =
@@ -113,7 +113,7 @@ module _ (input : List ℕ) (handed : List LineText) (reader : Position) (left :
     HasHandedOut-end none =
         let all : lines input ≡ handed = h.others ∙ ap (λ l. handed ++ lines l) (ap (λ l. l ++ drop reader.taken input) none ∙ end) ∙ append-nil handed in (
           record {
-            sound = going.sound;
+            unfailed = going.unfailed;
             within = h.within;
             told = h.told;
             others = all ∙ sym (ap (λ l. handed ++ lines l) end ∙ append-nil handed);
@@ -176,7 +176,7 @@ HasHandedOut-skipped input handed before after left n going line e h =
     let rest = drop before.taken input in
     let P : Position → Type 0 = λ p. HasHandedOut input (handed ++ too_long_line ∷ []) p left in
     subst P (sym e) (record {
-      sound = going.sound;
+      unfailed = going.unfailed;
       within = h.within;
       told = h.told;
       others =
@@ -192,7 +192,7 @@ pub HasHandedOut-skipped_end : (input : List ℕ) (handed : List LineText) (read
 HasHandedOut-skipped_end input handed reader left going none end h =
     let ahead : reader.waiting ++ drop reader.taken input ≡ [] = ap (λ l. l ++ drop reader.taken input) none ∙ end in
     record {
-      sound = going.sound;
+      unfailed = going.unfailed;
       within = h.within;
       told = h.told;
       others =

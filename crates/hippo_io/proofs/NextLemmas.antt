@@ -4,8 +4,8 @@ use Rattle.std.specs.Prelude.{Option, slice_range}
 use Rattle.hippo_io.specs.Lines.{LineText, line_of, lines}
 use Rattle.hippo_io.specs.LineTexts.{line_text}
 use Rattle.hippo_io.specs.Position.{Position}
-use Rattle.hippo_io.specs.Reading.{input_limit, consumed, HasHandedOut, NextLine}
-use Rattle.hippo_io.specs.Steps.{IsGoing, FindsWhole, FindsRest}
+use Rattle.hippo_io.specs.HandingOut.{input_limit, consumed, HasHandedOut, NextLine}
+use Rattle.hippo_io.specs.Moves.{IsGoing, FindsWhole, FindsRest}
 use Rattle.hippo_io.specs.declared.lines.Line.{Line}
 use Rattle.hippo_io.specs.declared.lines.LineFault.TheVariants.{TooMuch}
 use Rattle.hippo_io.specs.Window.{position_of, IsWindow}
@@ -18,23 +18,23 @@ HasLimit reader = (reader.failure ≡ Some TooMuch) ↔ (input_limit < reader.ta
 
 -- a reader without a failure has not taken too much
 within_limit : (reader : Position) → reader.failure ≡ None → HasLimit reader → input_limit < reader.taken → ⊥
-within_limit reader sound limit over = cc (limit.1 over)
+within_limit reader unfailed limit over = cc (limit.1 over)
 
 -- a line was found
 found : (before after : Position) (left_before left_after : Option (List ℕ)) (line : Line) (text : LineText) → IsGoing before → after.failure ≡ None → HasLimit after
     → line_text line ≡ Some text → consumed before < consumed after
     → ((input : List ℕ) (handed : List LineText) → HasHandedOut input handed before left_before → HasHandedOut input (handed ++ text ∷ []) after left_after)
     → NextLine before after left_before left_after (Ok line)
-found before after left_before left_after line text going sound_after limit is later step = record {
+found before after left_before left_after line text going unfailed_after limit is later moved_on = record {
   line = λ input handed h.
       let P : Option LineText → Type 0 =
       λ o. MatchOption o (HasHandedOut input handed after left_after × (handed ≡ lines input) × (left_after ≡ Some [])) (λ t. HasHandedOut input (handed ++ t ∷ []) after left_after) in
-      subst P (sym is) (step input handed h);
+      subst P (sym is) (moved_on input handed h);
   gives_up = tt;
-  failure = sound_after;
-  again = λ fault e. let sound = going.sound in cc;
+  failure = unfailed_after;
+  again = λ fault e. let unfailed = going.unfailed in cc;
   over = λ e ended. let unended = going.unended in cc;
-  too_much = (λ e. cc, λ over. absurd (within_limit after sound_after limit over));
+  too_much = (λ e. cc, λ over. absurd (within_limit after unfailed_after limit over));
   progress = let P : Option LineText → Type 0 = λ o. IfSome o (λ t. consumed before < consumed after) in subst P (sym is) later;
 }
 
@@ -50,7 +50,7 @@ module _ (fields : Inside) (window : IsWindow fields) (before mid : Position) (l
       let after : Position = record (position_of fields) { waiting = drop (n + 1) waiting } in
       let e : position_of (record fields { start = fields.start + (n + 1) }) ≡ after = ap (λ w. record after { waiting = w }) (window_later bytes fields.start (n + 1) fields.end) in
       subst (λ p. NextLine before p left_before left_after (Ok line)) (sym e)
-      (found before after left_before left_after line (line_of (take n waiting)) going finds.going.sound window.limit
+      (found before after left_before left_after line (line_of (take n waiting)) going finds.going.unfailed window.limit
       (is ∙ ap (λ l. Some (line_of l)) (window_front bytes fields.start n fields.end (omega (arith, finds.line.inside))))
       (omega (arith, finds.same, finds.line.inside, length-drop (n + 1) waiting, window.taken))
       (λ input handed h. HasHandedOut-whole input handed (position_of fields) left_after finds.going (finds.kept input handed h) n finds.line))
@@ -67,6 +67,6 @@ module _ (fields : Inside) (window : IsWindow fields) (before mid : Position) (l
       let after : Position = record (position_of fields) { waiting = []; ended = true } in
       let e : position_of (record fields { start = fields.end; ended = true }) ≡ after = ap (λ w. record after { waiting = w }) (window_none bytes fields.end) in
       subst (λ p. NextLine before p left_before left_after (Ok line)) (sym e)
-      (found before after left_before left_after line (line_of waiting) going finds.going.sound window.limit is
+      (found before after left_before left_after line (line_of waiting) going finds.going.unfailed window.limit is
       (omega (arith, finds.same, window.taken))
       (λ input handed h. HasHandedOut-rest input handed (position_of fields) left_after finds.going (finds.kept input handed h) (finds.end input handed h) finds.unfed some))

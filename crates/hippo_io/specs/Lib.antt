@@ -1,10 +1,10 @@
 pub mod Adapters
 pub mod Faults
+pub mod HandingOut
 pub mod LineTexts
 pub mod Lines
+pub mod Moves
 pub mod Playback
 pub mod Position
-pub mod Reading
-pub mod Steps
 pub mod Told
 pub mod Window

@@ -2,7 +2,7 @@
 use Rattle.std.specs.Prelude.{◌≡◌, ◌+◌, ◌-◌, ◌≤◌, ◌<◌, ◌↔◌, Some, vec_len, slice_range}
 use Rattle.hippo_io.specs.Lines.{line_limit}
 use Rattle.hippo_io.specs.Position.{Position}
-use Rattle.hippo_io.specs.Reading.{input_limit}
+use Rattle.hippo_io.specs.HandingOut.{input_limit}
 use Rattle.hippo_io.specs.declared.lines.LineReader.TheInside.{Inside}
 use Rattle.hippo_io.specs.declared.lines.LineFault.TheVariants.{TooMuch}
 

@@ -1,10 +1,10 @@
-ghost use Rattle.std.specs.Prelude.{◌≡◌, ℕ, List, ◌+◌, ◌-◌, ◌<◌, ◌≤◌, ◌↔◌, ◌⊎◌, length, take, drop, slice_range, true, [], Some, None, OnOk, OnErr, IfOk, IfErr, IsErrOf, IsSome, IsTrue, MatchOption, position, ◌==◌};
+ghost use Rattle.std.specs.Prelude.{◌≡◌, ◌≢◌, ℕ, List, ◌+◌, ◌-◌, ◌<◌, ◌≤◌, ◌↔◌, ◌⊎◌, length, take, drop, slice_range, true, [], Some, None, Err, OnOk, OnErr, IfOk, IfErr, IsErrOf, IsSome, IsTrue, MatchOption, position, ◌==◌};
 ghost use Rattle.std.specs.Borrow.{sem};
 ghost use Rattle.std.specs.Io.BufRead.{Rests, strip_last};
 ghost use Rattle.hippo_io.specs.Faults.{HasRisen};
 ghost use Rattle.hippo_io.specs.Lines.{line_of, line_feed, carriage_return, line_limit, feeds};
 ghost use Rattle.hippo_io.specs.LineTexts.{line_text};
-ghost use Rattle.hippo_io.specs.Steps.{BeginsWithLine};
+ghost use Rattle.hippo_io.specs.Moves.{BeginsWithLine};
 ghost use Rattle.hippo_io.specs.Told.{Keeps, IsAtEnd, TakesBehind};
 
 use crate::source::{Failed, Source};
@@ -104,6 +104,7 @@ fn read_behind<S: Source>(
     ensures failed { OnErr result (Keeps (S.left source.old) (S.left source.new)) }
     ensures kept { take filled buffer.new ≡ take filled buffer.old }
     ensures cause { OnErr result (HasRisen (S.faults source.old) (S.faults source.new)) }
+    ensures unfailed { OnOk result (S.faults source.new ≡ S.faults source.old) }
     ensures faults { S.faults source.old ≤ S.faults source.new }
 {
     let room = buffer.len() - filled;
@@ -148,8 +149,8 @@ fn text_of(piece: &[u8]) -> Line<'_>
 }
 
 impl LineReader {
-    ghost use Rattle.hippo_io.specs.Reading.{at_beginning, NextLine, HasHandedOut, HasGivenUp, input_limit, consumed};
-    ghost use Rattle.hippo_io.specs.Steps.{IsGoing, Refills, FailsToRefill, SkipsLine, GivesUp, Finds};
+    ghost use Rattle.hippo_io.specs.HandingOut.{at_beginning, NextLine, HasHandedOut, HasGivenUp, input_limit, consumed};
+    ghost use Rattle.hippo_io.specs.Moves.{IsGoing, Refills, FailsToRefill, SkipsLine, GivesUp, Finds};
     ghost use Rattle.std.specs.Result.{result_err};
     ghost use Rattle.hippo_io.specs.contracts.lines.LineReader.{the_row};
     ghost use Rattle.hippo_io.specs.declared.lines.LineFault.TheVariants.{Read, TooMuch};
@@ -209,6 +210,7 @@ impl LineReader {
             (FailsToRefill self.old self.new (S.left source.old) (S.left source.new)) }
         ensures limit { (self.new.failure ≡ Some TooMuch) ↔ (input_limit < self.new.taken) }
         ensures cause { IsErrOf result LineFault.Read → HasRisen (S.faults source.old) (S.faults source.new) }
+        ensures unfailed { result ≢ Err LineFault.Read → S.faults source.new ≡ S.faults source.old }
         ensures faults { S.faults source.old ≤ S.faults source.new }
     {
         move_to_front(self.buffer.as_mut_slice(), self.start, self.end);
@@ -244,6 +246,7 @@ impl LineReader {
         ensures later { OnOk result (consumed self.old < consumed self.new) }
         ensures limit { (self.new.failure ≡ Some TooMuch) ↔ (input_limit < self.new.taken) }
         ensures cause { IsErrOf result LineFault.Read → HasRisen (S.faults source.old) (S.faults source.new) }
+        ensures unfailed { result ≢ Err LineFault.Read → S.faults source.new ≡ S.faults source.old }
         ensures faults { S.faults source.old ≤ S.faults source.new }
     {
         loop {
@@ -267,6 +270,7 @@ impl LineReader {
         ensures failure { self.new.failure ≡ result_err result }
         ensures limit { (self.new.failure ≡ Some TooMuch) ↔ (input_limit < self.new.taken) }
         ensures cause { IsErrOf result LineFault.Read → HasRisen (S.faults source.old) (S.faults source.new) }
+        ensures unfailed { result ≢ Err LineFault.Read → S.faults source.new ≡ S.faults source.old }
         ensures faults { S.faults source.old ≤ S.faults source.new }
     {
         let mut searched = 0;
@@ -290,11 +294,13 @@ impl LineReader {
     ///
     /// Answers `Read` only where the source failed, in this call or in an earlier one, and `TooMuch` exactly where more
     /// than 2^40 bytes were taken from it. After a fault, and after the end, it answers the same again and does not read.
+    /// The source's count of faults is as before, unless the answer is `Read`.
     pub fn next_line<S: Source>(&mut self, source: &mut S) -> Result<Line<'_>, LineFault>
         ensures* next { sem 𝓛 (Rests the_row self.entry (λ new.
             NextLine self.old new (S.left source.old) (S.left source.new) result)) }
         ensures cause { IsErrOf result LineFault.Read →
             (self.old.failure ≡ Some LineFault.Read) ⊎ HasRisen (S.faults source.old) (S.faults source.new) }
+        ensures unfailed { result ≢ Err LineFault.Read → S.faults source.new ≡ S.faults source.old }
         ensures faults { S.faults source.old ≤ S.faults source.new }
         ensures after_end { IsTrue self.old.ended → source.new ≡ source.old }
         ensures after_fault { IsSome self.old.failure → source.new ≡ source.old }

@@ -1,4 +1,4 @@
-ghost use Rattle.std.specs.Prelude.{◌≡◌, ℕ, ◌<◌, ◌≤◌, [], Some, length, take, IfOk, OnErr, is_err};
+ghost use Rattle.std.specs.Prelude.{◌≡◌, ℕ, ◌<◌, ◌≤◌, [], Some, length, take, IfOk, OnOk, OnErr, is_err};
 ghost use Rattle.hippo_io.specs.Faults.{HasRisen};
 ghost use Rattle.hippo_io.specs.Playback.{new_tally, write_fails, tally_after};
 ghost use Rattle.hippo_io.specs.Told.{Keeps, Appends};
@@ -63,6 +63,7 @@ impl Sink for MemorySink {
         ensures appended { IfOk result (λ n. Appends (Some self.old.written) (Some self.new.written) (take n piece.now)) }
         ensures failed { OnErr result (Keeps (Some self.old.written) (Some self.new.written)) }
         ensures cause { OnErr result (HasRisen self.old.tally.faults self.new.tally.faults) }
+        ensures unfailed { OnOk result (self.new.tally.faults ≡ self.old.tally.faults) }
         ensures faults { self.old.tally.faults ≤ self.new.tally.faults }
         ensures fails { is_err result ≡ write_fails self.old (length piece.now) }
         ensures all { IfOk result (λ n. n ≡ length piece.now) }

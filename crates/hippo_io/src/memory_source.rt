@@ -1,4 +1,4 @@
-ghost use Rattle.std.specs.Prelude.{◌≡◌, ℕ, ◌<◌, ◌≤◌, Some, length, min, take, IfOk, OnErr, is_err};
+ghost use Rattle.std.specs.Prelude.{◌≡◌, ℕ, ◌<◌, ◌≤◌, Some, length, min, take, IfOk, OnOk, OnErr, is_err};
 ghost use Rattle.hippo_io.specs.Faults.{HasRisen};
 ghost use Rattle.hippo_io.specs.Playback.{new_tally, fails_next, tally_after};
 ghost use Rattle.hippo_io.specs.Told.{Keeps, Takes, IsAtEnd};
@@ -62,6 +62,7 @@ impl Source for MemorySource {
         ensures end { IfOk result (λ n. n ≡ 0 → 0 < length buffer.old → IsAtEnd (Some self.old.left)) }
         ensures failed { OnErr result (Keeps (Some self.old.left) (Some self.new.left)) }
         ensures cause { OnErr result (HasRisen self.old.tally.faults self.new.tally.faults) }
+        ensures unfailed { OnOk result (self.new.tally.faults ≡ self.old.tally.faults) }
         ensures faults { self.old.tally.faults ≤ self.new.tally.faults }
         ensures fails { is_err result ≡ fails_next self.old.tally }
         ensures tally { self.new.tally ≡ tally_after (is_err result) self.old.tally }

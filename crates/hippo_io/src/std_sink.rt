@@ -1,5 +1,7 @@
-ghost use Rattle.std.specs.Prelude.{◌≡◌};
+ghost use Rattle.std.specs.Prelude.{◌≡◌, ℕ, ◌<◌, ◌≤◌, length, take, IfOk, OnOk, OnErr};
 ghost use Rattle.hippo_io.specs.Adapters.{writer_of, write_faults};
+ghost use Rattle.hippo_io.specs.Faults.{HasRisen, counted};
+ghost use Rattle.hippo_io.specs.Told.{Keeps, Appends};
 
 use crate::counts::one_more;
 use crate::sink::Sink;
@@ -29,7 +31,16 @@ impl<W: Write> Sink for StdSink<W> {
 
     ghost faults = { write_faults };
 
-    fn write(&mut self, piece: &[u8]) -> Result<usize, Failed> {
+    fn write(&mut self, piece: &[u8]) -> Result<usize, Failed>
+        ensures count { IfOk result (λ n. n ≤ length piece.now) }
+        ensures some { IfOk result (λ n. 0 < length piece.now → 0 < n) }
+        ensures appended { IfOk result (λ n. Appends (W.contents (writer_of self.old)) (W.contents (writer_of self.new)) (take n piece.now)) }
+        ensures failed { OnErr result (Keeps (W.contents (writer_of self.old)) (W.contents (writer_of self.new))) }
+        ensures cause { OnErr result (HasRisen (write_faults self.old) (write_faults self.new)) }
+        ensures unfailed { OnOk result (write_faults self.new ≡ write_faults self.old) }
+        ensures faults { write_faults self.old ≤ write_faults self.new }
+        ensures counted { OnErr result (write_faults self.new ≡ counted (write_faults self.old)) }
+    {
         match self.inner.write(piece) {
             Ok(n) if n > 0 || piece.is_empty() => Ok(n),
             _ => {

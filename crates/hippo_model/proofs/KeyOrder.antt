@@ -3,7 +3,7 @@ use Rattle.std.proofs.Common.{◌≡◌, ℕ, zero, suc, min, List, [], ◌∷�
 use Rattle.std.specs.Ordering.{nat_cmp}
 use Rattle.std.proofs.lemmas.Bool.Decides.{nat_tests}
 use Rattle.hippo_values.specs.declared.values.Value.{Value}
-use Rattle.hippo_model.specs.Values.{cells_cmp}
+use Rattle.hippo_values.specs.Order.{cells_cmp}
 use Rattle.hippo_model.specs.Rows.{key_of}
 
 -- keys that are equal up to the shorter one's end are ordered by their lengths

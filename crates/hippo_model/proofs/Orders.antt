@@ -7,27 +7,8 @@ use Rattle.std.specs.FinMap.{IsAntisymmetric, slice_cmp-IsAntisymmetric, int_cmp
 use Rattle.std.proofs.lemmas.Cmp.{lists_total}
 use Rattle.hippo_values.specs.declared.values.Value.{Value}
 use Rattle.hippo_values.specs.declared.values.Value.TheVariants.{Null, Int, Text, Day}
-use Rattle.hippo_values.specs.contracts.values.ValueOrd.TheImpl as derived
-use Rattle.hippo_values.specs.contracts.values.ValueOrd.TheImpl.Laws.{total-law}
-use Rattle.hippo_model.specs.Values.{value_cmp, cells_cmp, same_cells}
-
--- the order that is derived for values is the definition's
-value_cmp-derived : (a b : Value) → value_cmp a b ≡ (derived.ghosts).cmp a b
-value_cmp-derived Null Null = refl
-value_cmp-derived Null (Int b) = refl
-value_cmp-derived Null (Text b) = refl
-value_cmp-derived Null (Day b) = refl
-value_cmp-derived (Int a) (Int b) = refl
-value_cmp-derived (Text a) (Text b) = refl
-value_cmp-derived (Day a) (Day b) = refl
-value_cmp-derived a b = refl
-
-pub value_total : IsTotalOrder value_cmp
-value_total = record {
-  antisymm = λ x y. rw (value_cmp-derived x y, value_cmp-derived y x) (total-law.antisymm x y);
-  trans = λ x y z. rw (value_cmp-derived x y, value_cmp-derived y z, value_cmp-derived x z) (total-law.trans x y z);
-  congr = λ x y z. rw (value_cmp-derived x y, value_cmp-derived y z, value_cmp-derived x z) (total-law.congr x y z);
-}
+use Rattle.hippo_values.specs.OrderLaws.{value_total}
+use Rattle.hippo_values.specs.Order.{value_cmp, cells_cmp, same_cells}
 
 value_exact : IsAntisymmetric value_cmp
 value_exact Null Null same = refl

@@ -13,7 +13,7 @@ use Rattle.hippo_model.specs.declared.entry.Act.{Act}
 use Rattle.hippo_model.specs.declared.entry.Act.TheVariants.{Insert, Update, Delete}
 use Rattle.hippo_model.specs.declared.entry.Entry.{Entry}
 use Rattle.hippo_model.specs.Terms.{History, Row, Key}
-use Rattle.hippo_model.specs.Values.{same_cells}
+use Rattle.hippo_values.specs.Order.{same_cells}
 use Rattle.hippo_model.specs.Histories.{last_word}
 use Rattle.hippo_model.specs.Rows.{key_of, key_named, row_left, names_key, row_at, is_insert, born_at, born_row_at, with_key, keys_named, table_rows}
 use Rattle.hippo_model.specs.RowSets.{kept_at, key_in, IsAscending, put_row, take_row, row_with}

@@ -7,7 +7,7 @@ use Rattle.std.specs.declared.cmp.Ordering.TheVariants.{Less, Equal, Greater}
 use Rattle.std.proofs.lemmas.Cmp.{tied_itself}
 use Rattle.hippo_model.specs.declared.born_row.BornRow.{BornRow}
 use Rattle.hippo_model.specs.Terms.{Key, Place}
-use Rattle.hippo_model.specs.Values.{cells_cmp, same_cells}
+use Rattle.hippo_values.specs.Order.{cells_cmp, same_cells}
 use Rattle.hippo_model.specs.Rows.{insert_key}
 use Rattle.hippo_model.specs.RowSets.{key_in, IsBelowAll, IsAscending, put_row, take_row, row_with}
 use Rattle.hippo_model.proofs.Orders.{cells_total, cells_exact, same_exact}

@@ -16,7 +16,7 @@ use Rattle.hippo_model.specs.declared.query.Query.{Query}
 use Rattle.hippo_model.specs.declared.query.Ref.{Ref}
 use Rattle.hippo_model.specs.declared.schema.Schema.{Schema}
 use Rattle.hippo_model.specs.Terms.{History, Key, Meaning, ShownRow}
-use Rattle.hippo_model.specs.Values.{same_cells}
+use Rattle.hippo_values.specs.Order.{same_cells}
 use Rattle.hippo_model.specs.Histories.{before_entry, schema_at}
 use Rattle.hippo_model.specs.Rows.{key_of, born_row_at, table_rows}
 use Rattle.hippo_model.specs.Verdicts.{Context, verdict}

@@ -6,7 +6,7 @@ use Rattle.std.specs.Cmp.Lexicographic.{pointwise}
 use Rattle.hippo_model.specs.declared.cells.Cell.{Cell}
 use Rattle.hippo_model.specs.declared.cells.Cell.TheVariants.{Shown, Denied}
 use Rattle.hippo_model.specs.Terms.{ShownRow}
-use Rattle.hippo_model.specs.Values.{value_cmp}
+use Rattle.hippo_values.specs.Order.{value_cmp}
 
 abbrev pub same_cell : Cell → Cell → Bool
 same_cell (Shown a) (Shown b) = is_eq (value_cmp a b)

@@ -11,7 +11,7 @@ use Rattle.hippo_model.specs.declared.query.Out.{Out}
 use Rattle.hippo_model.specs.declared.query.Out.TheVariants.{Column, Min, Max}
 use Rattle.hippo_model.specs.declared.query.Shape.{Shape}
 use Rattle.hippo_model.specs.Terms.{ShownRow, Place}
-use Rattle.hippo_model.specs.Values.{value_cmp}
+use Rattle.hippo_values.specs.Order.{value_cmp}
 use Rattle.hippo_model.specs.Bags.{same_row}
 
 -- a denied cell counts as null

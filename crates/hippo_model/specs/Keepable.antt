@@ -1,9 +1,11 @@
 -- Which entries can be kept: those whose parts have room in the stored form, as the types of numbers, days and names say
 -- and the counts of the stored form allow.
-use Rattle.std.specs.Prelude.{ℕ, ℤ, pos, negsuc, Bool, true, ◌&&◌, List, Option, length, nat_lt, nat_le, int_le, bytes_eq}
+use Rattle.std.specs.Prelude.{ℕ, Bool, true, ◌&&◌, List, Option, length, nat_lt, nat_le, bytes_eq}
 use Rattle.std.specs.List.{list_all}
 use Rattle.std.specs.Option.{option_map_or}
 use Rattle.std.specs.Str.{is_utf8}
+use Rattle.hippo_values.specs.Limits.{text_limit, line_limit}
+use Rattle.hippo_values.specs.Moments.{is_day, is_moment, is_signed_number}
 use Rattle.hippo_values.specs.Names.{is_name, folded}
 use Rattle.hippo_values.specs.declared.names.Name.{Name}
 use Rattle.hippo_values.specs.declared.texts.Txt.{Txt}
@@ -15,17 +17,6 @@ use Rattle.hippo_model.specs.declared.entry.Act.{Act}
 use Rattle.hippo_model.specs.declared.entry.Act.TheVariants.{Create, Insert, Update, Delete, Purpose, Recipient, Item, Authorize, Deauthorize, Allow, Revoke, Choice, Asked}
 use Rattle.hippo_model.specs.declared.entry.Entry.{Entry}
 use Rattle.hippo_model.specs.Terms.{Row, Place}
-
--- a number of 64 bits with a sign
-abbrev pub is_signed_number : ℤ → Bool
-is_signed_number number = int_le (negsuc 9223372036854775807) number && int_le number (pos 9223372036854775807)
-
--- a second, and a day, of the years 0001 to 9999
-abbrev pub is_moment : ℤ → Bool
-is_moment second = int_le (negsuc 62135596799) second && int_le second (pos 253402300799)
-
-abbrev pub is_day : ℤ → Bool
-is_day day = int_le (negsuc 719161) day && int_le day (pos 2932896)
 
 -- a name in lower case
 abbrev pub is_folded_name : Name → Bool
@@ -49,7 +40,7 @@ is_place place = nat_lt place 256
 abbrev pub value_is_keepable : Value → Bool
 value_is_keepable Null = true
 value_is_keepable (Int number) = is_signed_number number
-value_is_keepable (Text text) = is_text 4096 text
+value_is_keepable (Text text) = is_text text_limit text
 value_is_keepable (Day day) = is_day day
 
 abbrev pub cells_are_keepable : Row → Bool
@@ -81,7 +72,7 @@ days_are_keepable days = option_map_or (λ number. nat_lt number 4294967296) day
 
 -- the text of a question: 1 to 65,536 bytes
 abbrev pub question_is_keepable : Txt → Bool
-question_is_keepable text = nat_le 1 (length text) && is_text 65536 text
+question_is_keepable text = nat_le 1 (length text) && is_text line_limit text
 
 abbrev pub rule_is_keepable : Name → Name → Name → List Place → Bool
 rule_is_keepable purpose recipient table columns =

@@ -1,9 +1,10 @@
 -- Which rows a table has (the backlog tables of Agrawal and others, Auditing Compliance with a Hippocratic Database,
 -- VLDB 2004).
-use Rattle.std.specs.Prelude.{ℕ, Bool, true, false, ◌&&◌, List, [], ◌∷◌, map, filter_map, Option, Some, None, unwrap_or, option_map, option_and_then, slice_index_or, bytes_eq, negsuc}
+use Rattle.std.specs.Prelude.{ℕ, Bool, true, false, ◌&&◌, List, [], ◌∷◌, map, filter_map, Option, Some, None, unwrap_or, option_map, option_and_then, slice_index_or, bytes_eq}
 use Rattle.std.specs.Bool.{then_some}
 use Rattle.std.specs.Option.{option_map_or}
 use Rattle.std.specs.Ordering.{match_ordering}
+use Rattle.hippo_values.specs.Moments.{first_moment}
 use Rattle.hippo_values.specs.declared.moments.Moment.{Moment}
 use Rattle.hippo_values.specs.declared.values.Value.{Value}
 use Rattle.hippo_values.specs.declared.values.Value.TheVariants.{Null}
@@ -12,7 +13,7 @@ use Rattle.hippo_model.specs.declared.schema.Schema.{Schema}
 use Rattle.hippo_model.specs.declared.entry.Act.{Act}
 use Rattle.hippo_model.specs.declared.entry.Act.TheVariants.{Insert, Update, Delete}
 use Rattle.hippo_model.specs.Terms.{History, Row, Key, Place}
-use Rattle.hippo_model.specs.Values.{cells_cmp, same_cells}
+use Rattle.hippo_values.specs.Order.{cells_cmp, same_cells}
 use Rattle.hippo_model.specs.Histories.{last_word}
 
 -- the value in a row's column
@@ -56,7 +57,7 @@ is_insert act = false
 abbrev pub born_at : Schema → History → Key → Moment
 born_at schema history key =
     unwrap_or (last_word (λ entry. then_some (is_insert entry.act && names_key schema key entry.act) entry.moment) history)
-    (negsuc 62135596799)
+    first_moment
 
 -- the row with a key, and the moment at which it was born
 abbrev pub born_row_at : Schema → History → Key → Option BornRow

@@ -1,6 +1,6 @@
 ghost use Rattle.std.specs.Prelude.{◌≡◌, ◌<◌, ◌↔◌, [], length, map, option_map, slice_get, Some, IsTrue, OnOk, OnErr, IsOk, IsSome, IfSome};
 ghost use Rattle.std.specs.List.Sorted.{IsSearchInRange, IsBinarySearchResult};
-ghost use Rattle.hippo_model.specs.Values.{value_cmp, cells_cmp};
+ghost use Rattle.hippo_values.specs.Order.{value_cmp, cells_cmp};
 ghost use Rattle.hippo_model.specs.Rows.{cell_at, key_of};
 ghost use Rattle.hippo_model.specs.RowSets.{IsAscending, key_in, with_row, without_row, find_row};
 

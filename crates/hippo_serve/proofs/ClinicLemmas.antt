@@ -18,7 +18,7 @@ use Rattle.hippo_model.proofs.RowsAfter.{table_rows-Insert, table_rows-other, ro
 use Rattle.hippo_model.proofs.KeptRows.{slice_get-find_row}
 use Rattle.hippo_serve.specs.declared.world.World.{World}
 use Rattle.hippo_serve.specs.World.{patient, patient_name, treatment, nurse, clock}
-use Rattle.hippo_serve.specs.Replies.{Step, with_entry, asked, conflict, step_by, ok_line, key_there_line}
+use Rattle.hippo_serve.specs.Replies.{Effect, with_entry, asked, conflict, effect_of_change, ok_line, key_there_line}
 use Rattle.hippo_serve.specs.Clinics.{rule_of, rule_now, IsKept, IsClinic, allowing_with}
 
 rule_after : (history : List Entry) (act : Act) (column : ℕ) → rule_now (with_entry history act) column ≡ or_else (rule_in treatment nurse patient_name column (length history + 1) act) (rule_now history column)
@@ -47,21 +47,21 @@ rule_by_test false number below before old above e = e
 -- an ALLOW is the rule of its columns
 pub kept_after_allow : (history : List Entry) (kept : KeyedRows) (allowing allowing' places : List ℕ) → IsKept history kept allowing
     → ((column : ℕ) → column < 4 → slice_index allowing' column ≡ allowing_with places (length history + 1) allowing column)
-    → IsKept (with_entry history (Allow treatment nurse patient_name places None)) kept allowing'
+    → IsKept (with_entry history (Allow treatment nurse patient_name places None None)) kept allowing'
 kept_after_allow history kept allowing allowing' places is now = record {
   key = is.key;
-  rows = is.rows ∙ sym (table_rows-other patient history record { seq = length history + 1; moment = clock; act = Allow treatment nurse patient_name places None } refl);
-  rules = λ column within. rule_after history (Allow treatment nurse patient_name places None) column
+  rows = is.rows ∙ sym (table_rows-other patient history record { seq = length history + 1; moment = clock; act = Allow treatment nurse patient_name places None None } refl);
+  rules = λ column within. rule_after history (Allow treatment nurse patient_name places None None) column
       ∙ rule_by_test (list_any (nat_eq column) places) (length history + 1) (length history) (rule_now history column) (slice_index allowing column) (add-one (length history)) (is.rules column within)
       ∙ ap rule_of (sym (now column within));
 }
 
-same_step : {out out' : List ℕ} {entries entries' : List Entry} → out ≡ out' → entries ≡ entries' → ◌≡◌ {A = Step} (record { reply = out; after = entries }) (record { reply = out'; after = entries' })
-same_step e f = λ i. record { reply = e i; after = f i }
+same_effect : {out out' : List ℕ} {entries entries' : List Entry} → out ≡ out' → entries ≡ entries' → ◌≡◌ {A = Effect} (record { reply = out; after = entries }) (record { reply = out'; after = entries' })
+same_effect e f = λ i. record { reply = e i; after = f i }
 
 module _ (world : World) (history : List Entry) (kept : KeyedRows) (allowing : List ℕ) (is : IsClinic world history kept allowing) where
   pub clinic_after_allow : (entries : List Entry) (allowing' places purpose recipient table : List ℕ) (number : ℕ)
-      → entries ≡ with_entry history (Allow purpose recipient table places None)
+      → entries ≡ with_entry history (Allow purpose recipient table places None None)
       → purpose ≡ world.purpose → recipient ≡ world.recipient → table ≡ world.table → number ≡ length history + 1
       → ((column : ℕ) → column < 4 → slice_index allowing' column ≡ allowing_with places number allowing column)
       → IsClinic world entries kept allowing'
@@ -109,27 +109,27 @@ module _ (world : World) (history : List Entry) (kept : KeyedRows) (allowing : L
   one_found (Some place) h within = (get_or kept.rows place [], slice_get-get_or kept.rows place [] within)
 
   -- a new patient whose number no row has
-  pub insert_step : {E : Type 0} (r : Result (Unit {0}) E) (now entries : List Entry) (before out : List ℕ) (row cells : List Value) (pid : ℤ) (key : List Value) (table : List ℕ) (number : ℕ) (found : Option ℕ)
+  pub insert_effect : {E : Type 0} (r : Result (Unit {0}) E) (now entries : List Entry) (before out : List ℕ) (row cells : List Value) (pid : ℤ) (key : List Value) (table : List ℕ) (number : ℕ) (found : Option ℕ)
       → history ≡ now → key ≡ Int pid ∷ [] → found ≡ find_row kept.key key kept.rows → is_some found ≡ false
       → OnOk r (entries ≡ with_entry history (Insert table row)) → table ≡ world.table → row ≡ cells → key_of patient.key cells ≡ Int pid ∷ []
       → number ≡ length history + 1 → before ≡ [] → out ≡ before ++ ok_line number
-      → OnOk r (◌≡◌ {A = Step} (record { reply = out; after = entries }) (step_by now (Insert patient_name cells) (conflict now (Insert patient_name cells))))
-  insert_step r now entries before out row cells pid key table number found h k f none e t same_row same_key n nothing made =
+      → OnOk r (◌≡◌ {A = Effect} (record { reply = out; after = entries }) (effect_of_change now (Insert patient_name cells) (conflict now (Insert patient_name cells))))
+  insert_effect r now entries before out row cells pid key table number found h k f none e t same_row same_key n nothing made =
       let missing : row_at patient history (Int pid ∷ []) ≡ None = sym (found_row pid key k) ∙ ap (option_and_then (slice_get kept.rows)) (sym f) ∙ none_found found none in
-      let step : step_by now (Insert patient_name cells) (conflict now (Insert patient_name cells)) ≡ record { reply = ok_line (length history + 1); after = with_entry history (Insert patient_name cells) } = rw (← h, same_key, missing) refl in
+      let effect : effect_of_change now (Insert patient_name cells) (conflict now (Insert patient_name cells)) ≡ record { reply = ok_line (length history + 1); after = with_entry history (Insert patient_name cells) } = rw (← h, same_key, missing) refl in
       on_ok_weaker r
-      (λ recorded. same_step (made ∙ ap (λ front. front ++ ok_line number) nothing ∙ ap ok_line n)
+      (λ recorded. same_effect (made ∙ ap (λ front. front ++ ok_line number) nothing ∙ ap ok_line n)
       (recorded ∙ ap (λ name. with_entry history (Insert name row)) (t ∙ is.names.table) ∙ ap (λ values. with_entry history (Insert patient_name values)) same_row)
-      ∙ sym step)
+      ∙ sym effect)
       e
 
   -- a patient whose number a row has
-  pub there_step : (now : List Entry) (before out : List ℕ) (cells : List Value) (pid : ℤ) (key : List Value) (number : ℕ) (found : Option ℕ)
+  pub there_effect : (now : List Entry) (before out : List ℕ) (cells : List Value) (pid : ℤ) (key : List Value) (number : ℕ) (found : Option ℕ)
       → history ≡ now → key ≡ Int pid ∷ [] → found ≡ find_row kept.key key kept.rows → is_some found ≡ true → IfSome found (λ place. place < length kept.rows)
       → key_of patient.key cells ≡ Int pid ∷ [] → last_at patient history (Int pid ∷ []) ≡ Some number → before ≡ [] → out ≡ before ++ key_there_line number
-      → ◌≡◌ {A = Step} (record { reply = out; after = now }) (step_by now (Insert patient_name cells) (conflict now (Insert patient_name cells)))
-  there_step now before out cells pid key number found h k f some within same_key last nothing made =
+      → ◌≡◌ {A = Effect} (record { reply = out; after = now }) (effect_of_change now (Insert patient_name cells) (conflict now (Insert patient_name cells)))
+  there_effect now before out cells pid key number found h k f some within same_key last nothing made =
       let one = one_found found some within in
       let there : row_at patient history (Int pid ∷ []) ≡ Some one.0 = sym (found_row pid key k) ∙ ap (option_and_then (slice_get kept.rows)) (sym f) ∙ one.1 in
-      let step : step_by now (Insert patient_name cells) (conflict now (Insert patient_name cells)) ≡ record { reply = key_there_line number; after = history } = rw (← h, same_key, there, last) refl in
-      same_step (made ∙ ap (λ front. front ++ key_there_line number) nothing) (sym h) ∙ sym step
+      let effect : effect_of_change now (Insert patient_name cells) (conflict now (Insert patient_name cells)) ≡ record { reply = key_there_line number; after = history } = rw (← h, same_key, there, last) refl in
+      same_effect (made ∙ ap (λ front. front ++ key_there_line number) nothing) (sym h) ∙ sym effect

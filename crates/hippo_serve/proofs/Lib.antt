@@ -4,6 +4,6 @@ pub mod ListLemmas
 mod EntryLemmas
 mod ClinicLemmas
 mod ViewLemmas
-mod StepLemmas
+mod EffectLemmas
 mod RunLemmas
 mod StatusLemmas

@@ -20,7 +20,7 @@ use Rattle.hippo_model.specs.RowSets.{KeyedRows}
 use Rattle.hippo_model.proofs.Truths.{truth-All}
 use Rattle.hippo_serve.specs.World.{patient, treatment, nurse, user_name, clock}
 use Rattle.hippo_serve.specs.Forms.{query_for}
-use Rattle.hippo_serve.specs.Replies.{Step, rows_for, answer_lines, with_entry, asked}
+use Rattle.hippo_serve.specs.Replies.{Effect, rows_for, answer_lines, with_entry, asked}
 use Rattle.hippo_serve.specs.Clinics.{rule_of, verdict_of, IsKept, cell_shown, all_shown, rows_shown}
 
 -- a cell of a masked row
@@ -106,10 +106,10 @@ module _ (history : List Entry) (kept : KeyedRows) (allowing : List ℕ) (is : I
   rows_for-kept places within =
       rw (← is.rows) (by_key (slice_index allowing 0) places (recursion_from_All _ places within) refl)
 
-  -- a query's step: its entry is added, and it is answered over the view as it stood before
-  pub asked_step : (now entries : List Entry) (before out : List ℕ) (text places kept_text user purpose recipient : List ℕ) → history ≡ now
+  -- a query's effect: its entry is added, and it is answered over the view as it stood before
+  pub asked_effect : (now entries : List Entry) (before out : List ℕ) (text places kept_text user purpose recipient : List ℕ) → history ≡ now
       → entries ≡ with_entry history (Asked user purpose recipient kept_text) → user ≡ user_name → purpose ≡ treatment → recipient ≡ nurse → kept_text ≡ text
       → All (λ place. place < 4) places → before ≡ [] → out ≡ before ++ answer_lines (rows_shown allowing places kept.rows)
-      → ◌≡◌ {A = Step} (record { reply = out; after = entries }) (record { reply = answer_lines (rows_for now (query_for places)); after = with_entry now (asked text) })
-  asked_step now entries before out text places kept_text user purpose recipient h e u p r t within nothing made =
+      → ◌≡◌ {A = Effect} (record { reply = out; after = entries }) (record { reply = answer_lines (rows_for now (query_for places)); after = with_entry now (asked text) })
+  asked_effect now entries before out text places kept_text user purpose recipient h e u p r t within nothing made =
       rw (← h, e, u, p, r, t, made, nothing, rows_for-kept places within) refl

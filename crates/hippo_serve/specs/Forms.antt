@@ -7,6 +7,7 @@ use Rattle.hippo_model.specs.declared.entry.Act.{Act}
 use Rattle.hippo_model.specs.declared.entry.Act.TheVariants.{Insert, Allow}
 use Rattle.hippo_model.specs.declared.query.Query.{Query}
 use Rattle.hippo_model.specs.declared.query.CondOf.TheVariants.{All}
+use Rattle.hippo_model.specs.declared.query.Form.TheVariants.{Plain}
 use Rattle.hippo_model.specs.Values.{keeps_text_rule}
 use Rattle.hippo_model.specs.Histories.{or_else, said}
 use Rattle.hippo_serve.specs.Cuts.{after, before, around, number_of}
@@ -51,7 +52,7 @@ where_holds test found = option_and_then (λ x. said (test x) x) found
 -- 0 ALLOW treatment TO nurse ON patient (C, C), with 1 to 4 different columns
 abbrev pub allow_of : List ℕ → Option Meaning
 allow_of line =
-    option_map (λ places. change (Allow treatment nurse patient_name places None))
+    option_map (λ places. change (Allow treatment nurse patient_name places None None))
     (where_holds (λ places. nat_le (length places) 4 && all_differ places) (option_and_then columns_of
     (option_and_then (before (codes ")")) (after (codes "0 ALLOW treatment TO nurse ON patient (") line))))
 
@@ -96,7 +97,7 @@ insert_of line =
 
 -- the query for these columns of all patients
 abbrev pub query_for : List ℕ → Query
-query_for places = record { items = map (λ place. record { table = 0; column = place }) places; tables = patient_name ∷ []; cond = All [] }
+query_for places = record { items = map (λ place. record { table = 0; column = place }) places; tables = patient_name ∷ []; cond = All []; form = Plain }
 
 -- 1 SELECT C, C FROM patient, with 1 to 128 columns; its text begins at the word SELECT
 abbrev pub select_of : List ℕ → Option Meaning

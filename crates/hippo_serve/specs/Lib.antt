@@ -4,7 +4,7 @@ pub mod Pushes
 pub mod Forms
 pub mod Requests
 pub mod Replies
+pub mod ReplyTexts
 pub mod Clinics
-pub mod Outcomes
 pub mod Turns
 pub mod Runs

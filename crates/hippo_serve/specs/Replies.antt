@@ -1,4 +1,4 @@
--- The reply to a line, and the history after it.
+-- The effect of a line: its reply, and the history after it.
 use Rattle.std.specs.Prelude.{◌≡◌, ℕ, ◌+◌, Bool, ◌||◌, ◌==◌, List, [], ◌∷◌, ◌++◌, length, flat_map, Option, Some, None, option_and_then, codes, decimal, if◌then◌else◌, ◌⊎◌, nat_eq}
 use Rattle.std.specs.List.{list_all, starts_with}
 use Rattle.hippo_values.specs.Printing.{value_text}
@@ -40,8 +40,8 @@ ok_line number = codes "0 ok " ++ decimal number ++ codes "\n"
 abbrev pub key_there_line : ℕ → List ℕ
 key_there_line number = codes "0 no 43 KeyThere " ++ decimal number ++ codes "\n"
 
--- a reply, and the history after it
-pub record Step : Type 0 where
+-- what a line leaves: its reply, and the history after it
+pub record Effect : Type 0 where
   pub reply : List ℕ
   pub after : List Entry
 
@@ -57,9 +57,9 @@ conflict history (Insert table row) =
 conflict history act = None
 
 -- a change is recorded, unless it inserts a key that is there
-abbrev pub step_by : List Entry → Act → Option ℕ → Step
-step_by history act None = record { reply = ok_line (length history + 1); after = with_entry history act }
-step_by history act (Some number) = record { reply = key_there_line number; after = history }
+abbrev pub effect_of_change : List Entry → Act → Option ℕ → Effect
+effect_of_change history act None = record { reply = ok_line (length history + 1); after = with_entry history act }
+effect_of_change history act (Some number) = record { reply = key_there_line number; after = history }
 
 -- a question is recorded and answered over the view as it stood before
 abbrev pub asked : List ℕ → Act
@@ -68,10 +68,10 @@ asked text = Asked user_name treatment nurse text
 abbrev pub rows_for : List Entry → Query → List (List Cell)
 rows_for history query = answer_of query.items query.cond (product (view history clock treatment nurse patient ∷ []))
 
-abbrev pub step_for : List Entry → Option Meaning → Step
-step_for history None = record { reply = codes "- no 99 NotBuilt\n"; after = history }
-step_for history (Some (change act)) = step_by history act (conflict history act)
-step_for history (Some (question text query)) =
+abbrev pub effect_of_meaning : List Entry → Option Meaning → Effect
+effect_of_meaning history None = record { reply = codes "- no 99 NotBuilt\n"; after = history }
+effect_of_meaning history (Some (change act)) = effect_of_change history act (conflict history act)
+effect_of_meaning history (Some (question text query)) =
     record { reply = answer_lines (rows_for history query); after = with_entry history (asked text) }
 
 -- an empty line, one of spaces only, and one that begins with `#`
@@ -79,18 +79,18 @@ abbrev pub is_silent : List ℕ → Bool
 is_silent text = list_all (λ byte. byte == 32) text || starts_with nat_eq text (codes "#")
 
 -- what the rules make of a line
-abbrev pub step_of : List Entry → List ℕ → Step
-step_of history text = if is_silent text then record { reply = []; after = history } else step_for history (meaning_of text)
+abbrev pub effect_of : List Entry → List ℕ → Effect
+effect_of history text = if is_silent text then record { reply = []; after = history } else effect_of_meaning history (meaning_of text)
 
 -- a change may instead be refused for want of memory, and leaves nothing behind; a question may be refused too, and then
 -- is recorded or not
-abbrev pub IsMemoryStep : List Entry → Option Meaning → Step → Type 0
-IsMemoryStep history None step = ⊥
-IsMemoryStep history (Some (change act)) step = step ≡ record { reply = codes "0 no 90 Memory\n"; after = history }
-IsMemoryStep history (Some (question text query)) step =
-    (step ≡ record { reply = codes "1 no 90 Memory\n"; after = history })
-    ⊎ (step ≡ record { reply = codes "1 no 90 Memory\n"; after = with_entry history (asked text) })
+abbrev pub IsMemoryEffect : List Entry → Option Meaning → Effect → Type 0
+IsMemoryEffect history None effect = ⊥
+IsMemoryEffect history (Some (change act)) effect = effect ≡ record { reply = codes "0 no 90 Memory\n"; after = history }
+IsMemoryEffect history (Some (question text query)) effect =
+    (effect ≡ record { reply = codes "1 no 90 Memory\n"; after = history })
+    ⊎ (effect ≡ record { reply = codes "1 no 90 Memory\n"; after = with_entry history (asked text) })
 
--- a step of a text line is what the rules make of it, or want of memory
-abbrev pub IsStep : List Entry → List ℕ → Step → Type 0
-IsStep history text step = (step ≡ step_of history text) ⊎ IsMemoryStep history (meaning_of text) step
+-- the effect of a text line is what the rules make of it, or want of memory
+abbrev pub IsEffect : List Entry → List ℕ → Effect → Type 0
+IsEffect history text effect = (effect ≡ effect_of history text) ⊎ IsMemoryEffect history (meaning_of text) effect

@@ -22,7 +22,7 @@ abbrev pub patient_cells : NewPatient → List Value
 patient_cells new = Int new.pid ∷ text_value new.name ∷ text_value new.phone ∷ number_value new.zip ∷ []
 
 abbrev pub meaning : Request → Meaning
-meaning (AllowRequest places) = change (Allow treatment nurse patient_name places.items None)
+meaning (AllowRequest places) = change (Allow treatment nurse patient_name places.items None None)
 meaning (InsertRequest new) = change (Insert patient_name (patient_cells new))
 meaning (SelectRequest text places) = question text.now (query_for places.items)
 

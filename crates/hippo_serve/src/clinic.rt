@@ -7,13 +7,13 @@ ghost use Rattle.hippo_model.specs.RowSets.{with_row};
 ghost use Rattle.hippo_serve.specs.World.{clock, patient, patient_name, treatment, nurse};
 ghost use Rattle.hippo_serve.specs.Forms.{change, question, query_for};
 ghost use Rattle.hippo_serve.specs.Requests.{text_value, patient_cells};
-ghost use Rattle.hippo_serve.specs.Replies.{Step, with_entry, asked, step_for};
+ghost use Rattle.hippo_serve.specs.Replies.{Effect, with_entry, asked, effect_of_meaning};
 ghost use Rattle.hippo_serve.specs.Clinics.{allowing_with};
 
 use crate::entries::{clock, last_naming, next_number, push_entry};
-use crate::printing::{COLUMNS, print_answer, print_key_there, print_ok};
+use crate::printing::{print_answer, print_key_there, print_ok};
 use crate::requests::NewPatient;
-use crate::world::World;
+use crate::world::{COLUMNS, World};
 use hippo_model::{Act, Cells, History, Places, RowSet};
 use hippo_values::{Duplicate, Memory, Txt, Value};
 use std::alloc::Global;
@@ -140,7 +140,7 @@ impl Clinic {
     ) -> Result<(), Memory>
         requires { out.old ≡ [] }
         ensures ok { OnOk result (record { reply = out.new; after = self.new }
-            ≡ step_for self.old (Some (change (Insert patient_name (patient_cells new.now))))) }
+            ≡ effect_of_meaning self.old (Some (change (Insert patient_name (patient_cells new.now))))) }
         ensures err { OnErr result (self.new ≡ self.old) }
     {
         let key = key_of(alloc, new)?;
@@ -167,7 +167,7 @@ impl Clinic {
     ) -> Result<(), Memory>
         requires { out.old ≡ [] }
         ensures ok { OnOk result (record { reply = out.new; after = self.new }
-            ≡ step_for self.old (Some (change (Allow treatment nurse patient_name places.now None)))) }
+            ≡ effect_of_meaning self.old (Some (change (Allow treatment nurse patient_name places.now None None)))) }
         ensures err { OnErr result (self.new ≡ self.old) }
     {
         let number = next_number(&self.entries)?;
@@ -178,6 +178,7 @@ impl Clinic {
             table: self.world.table.copy(alloc)?,
             columns: Places::from_vec(Vec::from_slice(alloc, places)?),
             item: None,
+            days: None,
         };
         push_entry(&mut self.entries, number, act)?;
         allow_columns(&mut self.allowing, places, number);
@@ -195,7 +196,7 @@ impl Clinic {
         requires made { out.old ≡ [] }
         requires columns { All (λ place. place < 4) places.now }
         ensures ok { OnOk result (record { reply = out.new; after = self.new }
-            ≡ step_for self.old (Some (question text.now (query_for places.now)))) }
+            ≡ effect_of_meaning self.old (Some (question text.now (query_for places.now)))) }
         ensures err { OnErr result ((self.new ≡ self.old) ⊎ (self.new ≡ with_entry self.old (asked text.now))) }
     {
         let number = next_number(&self.entries)?;

@@ -9,7 +9,7 @@ use arrayvec::ArrayVec;
 const MOST_COLUMNS: usize = 128;
 
 /// Places of columns, in the order of the text.
-pub type ColumnList = ArrayVec<usize, MOST_COLUMNS>;
+pub type FixedPlaces = ArrayVec<usize, MOST_COLUMNS>;
 
 #[tactic(auto, unfolding(crate::specs::Forms::column_of))]
 fn column(name: &str) -> Option<usize>
@@ -25,7 +25,7 @@ fn column(name: &str) -> Option<usize>
     }
 }
 
-fn push_column(places: &mut ColumnList, name: &str) -> bool
+fn push_column(places: &mut FixedPlaces, name: &str) -> bool
     ensures pushed { IsPushed places.old.items (column_of name.now) result places.new.items }
     ensures within { All (λ place. place < 4) places.old.items → All (λ place. place < 4) places.new.items }
 {
@@ -39,12 +39,12 @@ fn push_column(places: &mut ColumnList, name: &str) -> bool
 }
 
 /// The columns of a list, with a comma and a space between them; none also where there are more than 128.
-pub fn columns(list: &str) -> Option<ColumnList>
+pub fn columns(list: &str) -> Option<FixedPlaces>
     ensures within { IfSome result (λ places. All (λ place. place < 4) places.items) }
     ensures list { option_map (λ places. places.items) result
         ≡ where_holds (λ places. nat_le (length places) 128) (columns_of list.now) }
 {
-    let mut places = ColumnList::new();
+    let mut places = FixedPlaces::new();
     let mut rest = list;
     while let Some((name, more)) = around_comma(rest) {
         if !push_column(&mut places, name) {

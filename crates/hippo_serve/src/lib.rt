@@ -1,12 +1,12 @@
-//! The database as a service of lines: each line of the input is answered before the next is read.
+//! The database as a service of lines: each line of the input has its reply before the next is read.
 #![tactic(auto)]
 
-mod answers;
 mod clinic;
 mod columns;
 mod cuts;
 mod entries;
 mod printing;
+mod replies;
 mod requests;
 mod top;
 mod turns;

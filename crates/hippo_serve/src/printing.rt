@@ -41,9 +41,6 @@ fn print_denied(rule: u64, out: &mut Txt) -> Result<(), Memory>
     print_numbered("DENIED(", rule, ")", out)
 }
 
-/// How many columns the table has.
-pub const COLUMNS: usize = 4;
-
 fn print_cell(row: &[Value], column: usize, allowing: &[u64], out: &mut Txt) -> Result<(), Memory>
     requires { column < length allowing.now }
     ensures { OnOk result (out.new ≡ out.old ++ cell_text (cell_shown allowing.now row.now column)) }

@@ -4,8 +4,9 @@ ghost use Rattle.hippo_model.specs.Values.{keeps_text_rule};
 ghost use Rattle.hippo_serve.specs.Forms.{text_cell, number_cell, cells_from_phone, cells_of, insert_of, all_differ, allow_of, select_of, meaning_of};
 ghost use Rattle.hippo_serve.specs.Requests.{text_value, number_value, patient_cells, meaning, HasColumns};
 
-use crate::columns::{ColumnList, columns};
+use crate::columns::{FixedPlaces, columns};
 use crate::cuts::{after, around_comma, around_quote, before, number};
+use crate::world::COLUMNS;
 
 /// The cells of a new patient, in the order of the columns; texts are the line's own.
 #[derive(Clone, Copy, Debug)]
@@ -19,14 +20,11 @@ pub struct NewPatient<'a> {
 /// What a line asks for.
 #[derive(Drop)]
 pub enum Request<'a> {
-    Allow(ColumnList),
+    Allow(FixedPlaces),
     Insert(NewPatient<'a>),
     /// The text from the word SELECT on, and its columns.
-    Select(&'a str, ColumnList),
+    Select(&'a str, FixedPlaces),
 }
-
-/// How many columns the table has.
-const TABLE_COLUMNS: usize = 4;
 
 /// The longest text that a cell takes, in bytes.
 const TEXT_LIMIT: usize = 4096;
@@ -123,7 +121,7 @@ fn allow_of(line: &str) -> Option<Request<'_>>
 {
     let list = after(line, "0 ALLOW treatment TO nurse ON patient (")?;
     let places = columns(before(list, ")")?)?;
-    if places.len() <= TABLE_COLUMNS && all_differ(places.as_slice()) {
+    if places.len() <= COLUMNS && all_differ(places.as_slice()) {
         Some(Request::Allow(places))
     } else {
         None

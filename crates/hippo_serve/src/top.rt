@@ -1,11 +1,11 @@
 ghost use Rattle.std.specs.Prelude.{◌≡◌, ℕ, ◌<◌, ◌≤◌, List, [], Option, Some, None, MatchOption, IfNone, IfOk, ◌⊎◌, ◌≢◌, ◌∷◌, Any, IsTrue, IsFalse};
 ghost use Rattle.hippo_io.specs.Faults.{HasRisen};
 ghost use Rattle.hippo_io.specs.Told.{Appends, AppendsFront};
-ghost use Rattle.hippo_io.specs.Reading.{at_beginning, consumed, input_limit, HasHandedOut};
+ghost use Rattle.hippo_io.specs.HandingOut.{at_beginning, consumed, input_limit, HasHandedOut};
 ghost use Rattle.hippo_serve.specs.declared.top.Ending.TheVariants.{Refused, ReadFault, WriteFault, NoMemory};
 ghost use Rattle.hippo_serve.specs.Runs.{is_run, usage, Ends, HasServed, ForTold, IsServed, IsCutOff, IsUnwritten, status_of};
 
-use crate::answers::outcome_text;
+use crate::replies::reply_text;
 use crate::clinic::Clinic;
 use crate::turns::take_turn;
 use hippo_io::{LineFault, LineReader, Sink, Source, write_whole};
@@ -55,13 +55,13 @@ fn serve_line<S: Source, K: Sink>(
         (λ ending. Ends ending input before (S.left source.new) (K.written sink.new)) }
     ensures read_fault { result ≡ Some ReadFault → HasRisen (S.faults source.old) (S.faults source.new) }
     ensures write_fault { result ≡ Some WriteFault → HasRisen (K.faults sink.old) (K.faults sink.new) }
-    ensures source_faults { S.faults source.old ≤ S.faults source.new }
-    ensures sink_faults { K.faults sink.old ≤ K.faults sink.new }
+    ensures unfailed_read { result ≢ Some ReadFault → S.faults source.new ≡ S.faults source.old }
+    ensures unfailed_write { result ≢ Some WriteFault → K.faults sink.new ≡ K.faults sink.old }
 {
     match take_turn(alloc, clinic, reader, source, out) {
-        Ok(Some(outcome)) => {
-            let reply = outcome_text(outcome, out);
-            if write_whole(sink, reply.as_bytes()).is_err() {
+        Ok(Some(reply)) => {
+            let text = reply_text(reply, out);
+            if write_whole(sink, text.as_bytes()).is_err() {
                 return Some(Ending::WriteFault);
             }
             None
@@ -88,6 +88,8 @@ fn run<S: Source, K: Sink>(
     ensures status { (result ≢ Refused) × (result ≢ NoMemory) }
     ensures read_fault { result ≡ ReadFault → HasRisen (S.faults source.old) (S.faults source.new) }
     ensures write_fault { result ≡ WriteFault → HasRisen (K.faults sink.old) (K.faults sink.new) }
+    ensures unfailed_read { result ≢ ReadFault → S.faults source.new ≡ S.faults source.old }
+    ensures unfailed_write { result ≢ WriteFault → K.faults sink.new ≡ K.faults sink.old }
 {
     loop {
         if let Some(ending) = serve_line(alloc, clinic, reader, source, sink, out) {
@@ -112,6 +114,7 @@ fn is_run(words: &[Txt]) -> bool
 fn refuse<K: Sink>(sink: &mut K) -> Ending
     ensures written { result ≡ Refused → Appends (K.written sink.old) (K.written sink.new) usage }
     ensures failed { result ≡ WriteFault → AppendsFront (K.written sink.old) (K.written sink.new) usage × HasRisen (K.faults sink.old) (K.faults sink.new) }
+    ensures unfailed { result ≢ WriteFault → K.faults sink.new ≡ K.faults sink.old }
     ensures status { (result ≡ Refused) ⊎ (result ≡ WriteFault) }
 {
     if write_whole(sink, USAGE.as_bytes()).is_ok() {
@@ -165,9 +168,11 @@ pub fn hippo_top<S: Source, K: Sink>(
         (λ input before. (taken : ℕ) × IsCutOff input before (S.left source.new) (K.written sink.new) taken × (input_limit < taken)) }
     ensures nothing { result ≡ 7 → (source.new ≡ source.old) × (sink.new ≡ sink.old) }
 
-    // A fault comes only where its object's count rose.
+    // A fault comes where its object's count rose, and only there.
     ensures read_fault { result ≡ 4 → HasRisen (S.faults source.old) (S.faults source.new) }
     ensures write_fault { result ≡ 5 → HasRisen (K.faults sink.old) (K.faults sink.new) }
+    ensures unfailed_read { result ≢ 4 → S.faults source.new ≡ S.faults source.old }
+    ensures unfailed_write { result ≢ 5 → K.faults sink.new ≡ K.faults sink.old }
 {
     if !is_run(words) {
         return refuse(sink).status();

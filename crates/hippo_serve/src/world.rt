@@ -4,6 +4,9 @@ ghost use Rattle.hippo_values.specs.Names.{folded};
 use hippo_values::{Memory, Name};
 use std::alloc::Global;
 
+/// How many columns the one table has.
+pub const COLUMNS: usize = 4;
+
 /// The names of the one table, and for whom and for what session 1 asks.
 #[derive(Debug, Drop)]
 pub struct World {

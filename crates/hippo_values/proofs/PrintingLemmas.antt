@@ -1,38 +1,37 @@
 -- A text is printed in pieces, from one quote to the next.
-use Rattle.std.proofs.Common.{◌≡◌, ◌≢◌, ℕ, suc, ◌+◌, ◌/◌, ◌%◌, ◌^◌, ◌<◌, ◌≤◌, List, [], ◌∷◌, ◌++◌, length, get_or, refl, ap, ◌∙◌, arith, append_assoc}
+use Rattle.std.proofs.Common.{◌≡◌, ◌≢◌, ℕ, suc, false, inl, inr, ◌+◌, ◌/◌, ◌%◌, ◌^◌, ◌<◌, ◌≤◌, List, [], ◌∷◌, ◌++◌, length, get_or, refl, ap, ◌∙◌, arith, append_assoc}
 use Rattle.std.specs.Fmt.{decimal}
 use Rattle.std.specs.Char.{encode_utf8}
 use Rattle.std.proofs.lemmas.Fmt.{decimal_step, decimal_digit}
 use Rattle.std.proofs.lemmas.Str.{encode_ascii}
 use Rattle.std.proofs.lemmas.List.{length-take, take-append-le}
-use Rattle.std.proofs.lemmas.Grind.{flat_map-append}
+use Rattle.std.proofs.lemmas.Bool.{cases_Bool}
 use Rattle.std.proofs.lemmas.Bool.Decides.{nat_tests}
-use Rattle.hippo_values.specs.Printing.{quoted_byte, doubled_quotes, KeepsFront}
+use Rattle.hippo_values.specs.Printing.{KeepsFront}
+use Rattle.hippo_values.specs.Quoting.{is_quote, doubled}
 
 -- the text has no quote
 abbrev pub HasNoQuote : List ℕ → Type 0
 HasNoQuote text = (i : ℕ) → i < length text → get_or text i 0 ≢ 39
 
-quoted_byte-other : (byte : ℕ) → byte ≢ 39 → quoted_byte byte ≡ byte ∷ []
-quoted_byte-other byte h = grind (arith, nat_tests)
+is_quote-other : (byte : ℕ) → byte ≢ 39 → is_quote byte ≡ false
+is_quote-other byte h = grind (arith, nat_tests)
 
-pub doubled_quotes-without : (text : List ℕ) → HasNoQuote text → doubled_quotes text ≡ text
-unfolding doubled_quotes
-doubled_quotes-without [] h = refl
-doubled_quotes-without (b ∷ bs) h =
-    rw (quoted_byte-other b (h 0 (omega arith))) (ap (λ t. b ∷ t) (doubled_quotes-without bs (λ i lt. h (suc i) (omega arith))))
+pub doubled-without : (text : List ℕ) → HasNoQuote text → doubled text ≡ text
+doubled-without [] h = refl
+doubled-without (b ∷ bs) h =
+    rw (is_quote-other b (h 0 (omega arith))) (ap (λ t. b ∷ t) (doubled-without bs (λ i lt. h (suc i) (omega arith))))
 
-doubled_quotes-append : (xs ys : List ℕ) → doubled_quotes (xs ++ ys) ≡ doubled_quotes xs ++ doubled_quotes ys
-unfolding doubled_quotes
-doubled_quotes-append xs ys = flat_map-append quoted_byte xs ys
+doubled-append : (xs ys : List ℕ) → doubled (xs ++ ys) ≡ doubled xs ++ doubled ys
+doubled-append [] ys = refl
+doubled-append (b ∷ bs) ys = elim (cases_Bool (is_quote b)) [
+  | inl quote ↦ rw quote (ap (λ t. 39 ∷ 39 ∷ t) (doubled-append bs ys))
+  | inr other ↦ rw other (ap (λ t. b ∷ t) (doubled-append bs ys))
+]
 
-doubled_quotes-quote : (rest : List ℕ) → doubled_quotes (39 ∷ rest) ≡ 39 ∷ 39 ∷ doubled_quotes rest
-unfolding doubled_quotes
-doubled_quotes-quote rest = refl
-
-pub doubled_quotes-split : (text before after : List ℕ) → text ≡ before ++ (39 ∷ after) → HasNoQuote before → doubled_quotes text ≡ before ++ (39 ∷ 39 ∷ doubled_quotes after)
-doubled_quotes-split text before after e none =
-    rw (e, doubled_quotes-append, doubled_quotes-without before none, doubled_quotes-quote) refl
+pub doubled-split : (text before after : List ℕ) → text ≡ before ++ (39 ∷ after) → HasNoQuote before → doubled text ≡ before ++ (39 ∷ 39 ∷ doubled after)
+doubled-split text before after e none =
+    rw (e, doubled-append, doubled-without before none) refl
 
 -- what is added at the end keeps the front
 pub KeepsFront-append : (old new more : List ℕ) → KeepsFront old new → KeepsFront old (new ++ more)
@@ -41,14 +40,14 @@ KeepsFront-append old new more h =
     take-append-le (length old) new more within ∙ h
 
 -- one more quote is printed
-pub doubled_quotes-step : (initial text out rest before after first second : List ℕ) → out ++ doubled_quotes rest ≡ initial ++ doubled_quotes text → (rest ≡ before ++ (39 ∷ after)) × HasNoQuote before → first ≡ out ++ before → second ≡ first ++ (39 ∷ 39 ∷ []) → second ++ doubled_quotes after ≡ initial ++ doubled_quotes text
-doubled_quotes-step initial text out rest before after first second whole split ef es =
-    let e = doubled_quotes-split rest before after split.0 split.1 in
+pub doubled-step : (initial text out rest before after first second : List ℕ) → out ++ doubled rest ≡ initial ++ doubled text → (rest ≡ before ++ (39 ∷ after)) × HasNoQuote before → first ≡ out ++ before → second ≡ first ++ (39 ∷ 39 ∷ []) → second ++ doubled after ≡ initial ++ doubled text
+doubled-step initial text out rest before after first second whole split ef es =
+    let e = doubled-split rest before after split.0 split.1 in
     rw (es, ef, ← whole, e) (simp append_assoc)
 
 -- and the rest, which has none
-pub doubled_quotes-last : (initial text out rest new : List ℕ) → out ++ doubled_quotes rest ≡ initial ++ doubled_quotes text → HasNoQuote rest → new ≡ out ++ rest → new ≡ initial ++ doubled_quotes text
-doubled_quotes-last initial text out rest new whole none e = e ∙ rw (← whole, doubled_quotes-without rest none) refl
+pub doubled-last : (initial text out rest new : List ℕ) → out ++ doubled rest ≡ initial ++ doubled text → HasNoQuote rest → new ≡ out ++ rest → new ≡ initial ++ doubled text
+doubled-last initial text out rest new whole none e = e ∙ rw (← whole, doubled-without rest none) refl
 
 -- the last digit after those before it
 pub decimal-last : (old front new : List ℕ) (n digit : ℕ) → n < 2 ^ 64 → 10 ≤ n → digit ≡ 48 + n % 10 → front ≡ old ++ decimal (n / 10) → new ≡ front ++ encode_utf8 digit → new ≡ old ++ decimal n

@@ -1,6 +1,11 @@
 pub mod Dates
+pub mod Limits
 pub mod Moments
 pub mod Names
+pub mod Order
+pub mod OrderLaws
 pub mod Printing
+pub mod Quoting
+pub mod Texts
 pub mod Truths
 pub mod formers

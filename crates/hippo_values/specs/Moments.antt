@@ -1,10 +1,40 @@
--- The ranges of days and moments: the years 0001 to 9999.
-use Rattle.std.specs.Prelude.{ℤ, pos, negsuc, ◌≤ℤ◌}
+-- The ranges of numbers, and of the days and moments of the years 0001 to 9999.
+use Rattle.std.specs.Prelude.{ℤ, pos, negsuc, ◌≤ℤ◌, Bool, ◌&&◌, int_le}
 
--- a day, counted from 1970-01-01, of the years 0001 to 9999
+-- the least and the greatest number of 64 bits with a sign
+abbrev pub least_number : ℤ
+least_number = negsuc 9223372036854775807
+
+abbrev pub greatest_number : ℤ
+greatest_number = pos 9223372036854775807
+
+-- 0001-01-01 and 9999-12-31, in days from 1970-01-01
+abbrev pub first_day : ℤ
+first_day = negsuc 719161
+
+abbrev pub last_day : ℤ
+last_day = pos 2932896
+
+-- 0001-01-01T00:00:00Z and 9999-12-31T23:59:59Z, in seconds from 1970-01-01T00:00:00Z
+abbrev pub first_moment : ℤ
+first_moment = negsuc 62135596799
+
+abbrev pub last_moment : ℤ
+last_moment = pos 253402300799
+
+-- as facts
 abbrev pub IsDayNumber : ℤ → Type 0
-IsDayNumber day = (negsuc 719161 ≤ℤ day) × (day ≤ℤ pos 2932896)
+IsDayNumber day = (first_day ≤ℤ day) × (day ≤ℤ last_day)
 
--- a second, counted from 1970-01-01T00:00:00Z, of the years 0001 to 9999
 abbrev pub IsMoment : ℤ → Type 0
-IsMoment second = (negsuc 62135596799 ≤ℤ second) × (second ≤ℤ pos 253402300799)
+IsMoment second = (first_moment ≤ℤ second) × (second ≤ℤ last_moment)
+
+-- and as tests
+abbrev pub is_signed_number : ℤ → Bool
+is_signed_number number = int_le least_number number && int_le number greatest_number
+
+abbrev pub is_day : ℤ → Bool
+is_day day = int_le first_day day && int_le day last_day
+
+abbrev pub is_moment : ℤ → Bool
+is_moment second = int_le first_moment second && int_le second last_moment

@@ -3,6 +3,7 @@
 
 mod boxed;
 mod dates;
+mod limits;
 mod memory;
 mod moments;
 mod names;
@@ -14,12 +15,13 @@ mod values;
 
 pub use boxed::Boxed;
 pub use dates::{day_text, moment_text, read_day, read_moment};
+pub use limits::{LINE_LIMIT, NAME_LIMIT, TEXT_LIMIT};
 pub use memory::{Duplicate, Memory};
 pub use moments::{DayNumber, Moment};
 pub use names::{Name, is_keyword, is_name, is_unsupported_word};
 pub use printing::print_value;
 pub use sequence::Sequence;
-pub use texts::Txt;
+pub use texts::{Txt, keeps_text_rule};
 pub use truths::{CompareOp, Truth, compare, truth_and, truth_not, truth_or};
 pub use values::Value;
 

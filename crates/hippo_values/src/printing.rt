@@ -1,7 +1,8 @@
 ghost use Rattle.std.specs.Prelude.{◌≡◌, ◌<◌, [], ◌∷◌, ◌++◌, decimal, OnOk, OnErr};
 ghost use Rattle.std.specs.Fmt.{signed_decimal};
 ghost use Rattle.hippo_values.specs.Dates.{day_text};
-ghost use Rattle.hippo_values.specs.Printing.{doubled_quotes, quoted, value_text, KeepsFront};
+ghost use Rattle.hippo_values.specs.Printing.{value_text, KeepsFront};
+ghost use Rattle.hippo_values.specs.Quoting.{doubled, quoted};
 
 use crate::dates;
 use crate::memory::Memory;
@@ -30,7 +31,7 @@ fn append_integer(number: i64, out: &mut Txt) -> Result<(), Memory>
 }
 
 fn append_doubled(text: &str, out: &mut Txt) -> Result<(), Memory>
-    ensures ok { OnOk result (out.new ≡ out.old ++ doubled_quotes text.now) }
+    ensures ok { OnOk result (out.new ≡ out.old ++ doubled text.now) }
     ensures err { OnErr result (KeepsFront out.old out.new) }
 {
     let mut rest = text;

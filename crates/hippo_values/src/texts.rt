@@ -1,10 +1,13 @@
-ghost use Rattle.std.specs.Prelude.{◌≡◌, [], ◌++◌, length, take, nat_eq, refl, string_bytes, Some, IfOk, OnOk, OnErr};
+ghost use Rattle.std.specs.Prelude.{◌≡◌, ◌==◌, ◌&&◌, not, nat_le, [], ◌++◌, length, take, nat_eq, refl, string_bytes, Some, IfOk, OnOk, OnErr};
 ghost use Rattle.std.specs.Char.{encode_utf8};
 ghost use Rattle.std.specs.Str.{IsUtf8};
 ghost use Rattle.std.specs.Ordering.{nat_cmp};
+ghost use Rattle.std.specs.List.{list_all};
 ghost use Rattle.std.specs.Cmp.{partial_equiv_from_equiv};
 ghost use Rattle.std.specs.Cmp.Lexicographic.{pointwise, slice_cmp, nat_list_eq_equiv, nat_list_cmp_total, texts_ties, texts_po};
+ghost use Rattle.hippo_values.specs.Texts.{is_plain, keeps_text_rule};
 
+use crate::limits::TEXT_LIMIT;
 use crate::memory::{Duplicate, Memory};
 use std::alloc::Global;
 use std::cmp::Ordering;
@@ -145,4 +148,24 @@ impl Ord for Txt {
     fn cmp(&self, other: &Txt) -> Ordering {
         self.as_str().cmp(other.as_str())
     }
+}
+
+fn is_plain(byte: u8) -> bool
+    ensures { result ≡ is_plain byte }
+{
+    byte >= 32 && byte != 127
+}
+
+fn are_plain(bytes: &[u8]) -> bool
+    ensures { result ≡ list_all is_plain bytes.now }
+{
+    bytes.iter().all(|byte| is_plain(*byte))
+}
+
+/// Whether a text may stand in a cell: at most 4096 bytes, and no character U+0000 to U+001F or U+007F.
+pub fn keeps_text_rule(text: &str) -> bool
+    ensures { result ≡ keeps_text_rule text.now }
+{
+    let bytes = text.as_bytes();
+    bytes.len() <= TEXT_LIMIT && are_plain(bytes)
 }

@@ -2,7 +2,7 @@ use super::*;
 use crate::memory_source::MemorySource;
 use crate::std_source::StdSource;
 use hippo_values::{Bytes, Calls};
-use std::io::Read;
+use std::io::{self, ErrorKind, Read};
 use std::process::Abort;
 
 // The reader answers these lines, and then twice the same last answer.
@@ -140,6 +140,32 @@ fn joins_pieces(rt: HostRuntime) -> Result<(), Memory> {
     let expected = [Line::Text("ab"), Line::Text(""), Line::Text("c")];
     let mut reader = LineReader::new(rt.alloc())?;
     gives(&rt, &mut reader, &mut source, &expected, Ok(Line::End));
+    Ok(())
+}
+
+/// Gives a line and a half at the first call, errs at the second, and gives the same at the others.
+#[derive(Drop)]
+struct Faltering {
+    calls: u64,
+}
+
+impl Read for Faltering {
+    fn read(&mut self, buffer: &mut [u8]) -> io::Result<usize> {
+        self.calls = self.calls.saturating_add(1);
+        if self.calls == 2 {
+            return Err(io::Error::from(ErrorKind::Interrupted));
+        }
+        let mut piece: &[u8] = b"a\nb";
+        piece.read(buffer)
+    }
+}
+
+#[test]
+fn stops_where_a_reader_errs(rt: HostRuntime) -> Result<(), Memory> {
+    let mut source = StdSource::new(Faltering { calls: 0 });
+    let mut reader = LineReader::new(rt.alloc())?;
+    let lines = [Line::Text("a")];
+    gives(&rt, &mut reader, &mut source, &lines, Err(LineFault::Read));
     Ok(())
 }
 

@@ -5,6 +5,37 @@ use crate::std_sink::StdSink;
 use crate::std_source::StdSource;
 use hippo_values::{Calls, Memory};
 use std::fs;
+use std::io::{self, ErrorKind, Write};
+
+/// Takes bytes at one call, errs at the next, and so on.
+#[derive(Drop)]
+struct Faltering {
+    errs: bool,
+}
+
+impl Write for Faltering {
+    fn write(&mut self, piece: &[u8]) -> io::Result<usize> {
+        self.errs = !self.errs;
+        if self.errs {
+            Ok(piece.len().min(2))
+        } else {
+            Err(io::Error::from(ErrorKind::Interrupted))
+        }
+    }
+
+    fn flush(&mut self) -> io::Result<()> {
+        Ok(())
+    }
+}
+
+#[test]
+fn stops_where_a_writer_errs(rt: HostRuntime) {
+    let mut sink = StdSink::new(Faltering { errs: false });
+    // The first two bytes are taken; the next write errs, and is not tried again.
+    assert_eq!(rt; write_whole(&mut sink, b"abc"), Err(Failed));
+    assert_eq!(rt; write_whole(&mut sink, b"d"), Ok(()));
+    assert_eq!(rt; write_whole(&mut sink, b"e"), Err(Failed));
+}
 
 #[test]
 fn writes_to_memory(rt: HostRuntime) -> Result<(), Memory> {

@@ -1,6 +1,6 @@
 -- The keys are equal up to the pairs so far, so what is left decides.
 use Rattle.std.proofs.Common.{◌≡◌, length, drop}
-use Rattle.hippo_model.specs.Values.{cells_cmp}
+use Rattle.hippo_values.specs.Order.{cells_cmp}
 use Rattle.hippo_model.specs.Rows.{key_of}
 use Rattle.hippo_model.proofs.row_set.key_order.Given as goal
 

@@ -1,6 +1,6 @@
 -- The keys are equal up to the index, so what is left decides.
 use Rattle.std.proofs.Common.{◌≡◌, drop}
-use Rattle.hippo_model.specs.Values.{cells_cmp}
+use Rattle.hippo_values.specs.Order.{cells_cmp}
 use Rattle.hippo_model.specs.Rows.{key_of}
 use Rattle.hippo_model.proofs.row_set.row_order.Given as goal
 

@@ -4,14 +4,14 @@ use Rattle.hippo_serve.proofs.top.run.Goals as goal
 
 pub loop-ending-init : goal.loop-ending-init
 loop-ending-init g c = record {
-  sound = search rules;
+  unfailed = search rules;
   limit = search rules;
   source_faults = search rules;
   sink_faults = search rules;
   served = λ input before left written. record {
     handed = [];
-    steps = [];
-    reading = rw left (c.requires.handed input);
+    effects = [];
+    handing = rw left (c.requires.handed input);
     run = tt;
     history = c.requires.clinic;
     written = written ∙ ap Some (sym (append-nil before));

@@ -37,5 +37,5 @@ loop-length-preserved g c =
       same = omega (arith, c.loop-length.invariant.same, more.count, more.taken);
       within = omega (arith, more.count, ap length bytes);
       clear = ap (λ l. feeds (take (length l) c.refill.new.self.waiting)) bytes ∙ ap feeds more.front ∙ ap feeds (sym bytes) ∙ c.in_default.ensures;
-      faults = omega (arith, c.loop-length.invariant.faults, c.refill.ensures.faults);
+      faults = c.in_ok-refill.ensures.unfailed (λ e. cc) ∙ c.loop-length.invariant.faults;
     }

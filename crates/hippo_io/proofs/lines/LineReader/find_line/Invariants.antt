@@ -3,8 +3,8 @@ use Rattle.std.proofs.Common.{◌≡◌, ℕ, ◌+◌, ◌-◌, ◌≤◌, List,
 use Rattle.std.specs.Prelude.{Option}
 use Rattle.hippo_io.specs.Lines.{line_limit, feeds}
 use Rattle.hippo_io.specs.Position.{Position}
-use Rattle.hippo_io.specs.Reading.{consumed}
-use Rattle.hippo_io.specs.Steps.{IsGoing, KeepsHandedOut}
+use Rattle.hippo_io.specs.HandingOut.{consumed}
+use Rattle.hippo_io.specs.Moves.{IsGoing, KeepsHandedOut}
 use Rattle.hippo_io.proofs.lines.LineReader.find_line.Given as goal
 
 pub record IsSearching (before reader : Position) (left_before left : Option (List ℕ)) (faults_before faults_now searched : ℕ) : Type 0 where
@@ -13,7 +13,7 @@ pub record IsSearching (before reader : Position) (left_before left : Option (Li
   pub same : consumed reader ≡ consumed before
   pub within : searched ≤ length reader.waiting
   pub clear : feeds (take searched reader.waiting) ≡ 0
-  pub faults : faults_before ≤ faults_now
+  pub faults : faults_now ≡ faults_before
 
 abbrev pub invariant-loop-length : goal.invariant-loop-length
 invariant-loop-length g l =

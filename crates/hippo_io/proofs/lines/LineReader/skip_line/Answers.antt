@@ -1,7 +1,7 @@
 -- A line that is too long, from its first bytes to its end.
-use Rattle.std.proofs.Common.{ap, sym, subst, ◌∙◌, arith}
+use Rattle.std.proofs.Common.{refl, ap, sym, subst, ◌∙◌, arith}
 use Rattle.hippo_io.specs.Lines.{feeds}
-use Rattle.hippo_io.specs.Steps.{BeginsWithLine}
+use Rattle.hippo_io.specs.Moves.{BeginsWithLine}
 use Rattle.hippo_io.proofs.HandedLemmas.{IsSkipping-begun, IsSkipping-emptied, IsSkipping-refilled, HasGivenUp-skipping, HasHandedOut-skipped, HasHandedOut-skipped_last, on_err}
 use Rattle.hippo_io.proofs.lines.LineReader.skip_line.Goals as goal
 
@@ -11,7 +11,7 @@ loop-self-init g c = record {
   clear = c.requires.clear;
   skipping = λ input handed h. IsSkipping-begun input handed _ _ c.requires.going c.requires.clear c.requires.long h;
   later = omega arith;
-  faults = omega arith;
+  faults = refl;
 }
 
 pub returns-in_err-refill-clause-gives_up : goal.returns-in_err-refill-clause-gives_up
@@ -41,5 +41,5 @@ loop-self-preserved g c = record {
       let inside = IsSkipping-emptied input handed c.loop-self.self c.skip_waiting.new.self _ c.loop-self.invariant.clear c.skip_waiting.ensures (c.loop-self.invariant.skipping input handed h) in
       IsSkipping-refilled input handed c.skip_waiting.new.self c.refill.new.self _ _ c.in_ok-refill.field-0 c.in_ok-refill.ensures.more inside;
   later = omega (arith, c.loop-self.invariant.later, c.in_ok-refill.ensures.more.taken, ap (λ p. p.taken) c.skip_waiting.ensures);
-  faults = omega (arith, c.loop-self.invariant.faults, c.refill.ensures.faults);
+  faults = c.in_ok-refill.ensures.unfailed (λ e. cc) ∙ c.loop-self.invariant.faults;
 }

@@ -3,8 +3,8 @@ use Rattle.std.proofs.Common.{◌≡◌, ℕ, ◌-◌, ◌<◌, ◌≤◌, List}
 use Rattle.std.specs.Prelude.{Option}
 use Rattle.hippo_io.specs.Lines.{LineText, feeds}
 use Rattle.hippo_io.specs.Position.{Position}
-use Rattle.hippo_io.specs.Reading.{input_limit, consumed, HasHandedOut}
-use Rattle.hippo_io.specs.Steps.{IsGoing}
+use Rattle.hippo_io.specs.HandingOut.{input_limit, consumed, HasHandedOut}
+use Rattle.hippo_io.specs.Moves.{IsGoing}
 use Rattle.hippo_io.proofs.HandedLemmas.{IsSkipping}
 use Rattle.hippo_io.proofs.lines.LineReader.skip_line.Given as goal
 
@@ -13,7 +13,7 @@ pub record IsInside (before reader : Position) (left_before left : Option (List 
   pub clear : feeds reader.waiting ≡ 0
   pub skipping : (input : List ℕ) (handed : List LineText) → HasHandedOut input handed before left_before → IsSkipping input handed reader left
   pub later : consumed before < reader.taken
-  pub faults : faults_before ≤ faults_now
+  pub faults : faults_now ≡ faults_before
 
 abbrev pub invariant-loop-self : goal.invariant-loop-self
 invariant-loop-self g l =

@@ -1,16 +1,16 @@
 ghost use Rattle.std.specs.Prelude.{◌≡◌, ◌==◌, ◌||◌, nat_eq, codes, IfSome};
 ghost use Rattle.std.specs.List.{list_all, starts_with};
-ghost use Rattle.hippo_serve.specs.Replies.{Step, is_silent, IsStep};
-ghost use Rattle.hippo_serve.specs.Outcomes.{outcome_text};
+ghost use Rattle.hippo_serve.specs.Replies.{Effect, is_silent, IsEffect};
+ghost use Rattle.hippo_serve.specs.ReplyTexts.{reply_text};
 
 use crate::clinic::Clinic;
 use crate::requests::{Request, request_of};
 use hippo_values::Txt;
 use std::alloc::Global;
 
-/// What became of a line.
+/// How a line is replied to.
 #[derive(Clone, Copy, Debug, PartialEq, Eq)]
-pub enum Outcome {
+pub enum Reply {
     /// The line has no reply.
     Silent,
     /// The reply was made.
@@ -37,50 +37,50 @@ fn is_silent(line: &str) -> bool
 }
 
 impl Clinic {
-    /// Answers a line. The reply that was made stands in `out`.
-    pub fn answer(&mut self, alloc: Global, line: &str, out: &mut Txt) -> Outcome
-        ensures { IsStep self.old line.now (record { reply = outcome_text result out.new; after = self.new }) }
+    /// Gives a line its effect, and answers its reply. The text of a reply that was made stands in `out`.
+    pub fn reply_to(&mut self, alloc: Global, line: &str, out: &mut Txt) -> Reply
+        ensures { IsEffect self.old line.now (record { reply = reply_text result out.new; after = self.new }) }
     {
         out.clear();
         if is_silent(line) {
-            return Outcome::Silent;
+            return Reply::Silent;
         }
         match request_of(line) {
-            None => Outcome::NotBuilt,
+            None => Reply::NotBuilt,
             Some(Request::Allow(places)) => {
                 if self.allow(alloc, places.as_slice(), out).is_ok() {
-                    Outcome::Made
+                    Reply::Made
                 } else {
-                    Outcome::ConsoleMemory
+                    Reply::ConsoleMemory
                 }
             }
             Some(Request::Insert(new)) => {
                 if self.insert(alloc, &new, out).is_ok() {
-                    Outcome::Made
+                    Reply::Made
                 } else {
-                    Outcome::ConsoleMemory
+                    Reply::ConsoleMemory
                 }
             }
             Some(Request::Select(text, places)) => {
                 if self.ask(alloc, text, places.as_slice(), out).is_ok() {
-                    Outcome::Made
+                    Reply::Made
                 } else {
-                    Outcome::SessionMemory
+                    Reply::SessionMemory
                 }
             }
         }
     }
 }
 
-/// The reply of an outcome, as bytes; that which was made is `made`.
-pub fn outcome_text<'a>(outcome: Outcome, made: &'a Txt) -> &'a str
-    ensures { result.now ≡ outcome_text outcome made.now }
+/// The bytes of a reply; those of one that was made are `made`.
+pub fn reply_text<'a>(reply: Reply, made: &'a Txt) -> &'a str
+    ensures { result.now ≡ reply_text reply made.now }
 {
-    match outcome {
-        Outcome::Silent => "",
-        Outcome::Made => made.as_str(),
-        Outcome::NotBuilt => "- no 99 NotBuilt\n",
-        Outcome::ConsoleMemory => "0 no 90 Memory\n",
-        Outcome::SessionMemory => "1 no 90 Memory\n",
+    match reply {
+        Reply::Silent => "",
+        Reply::Made => made.as_str(),
+        Reply::NotBuilt => "- no 99 NotBuilt\n",
+        Reply::ConsoleMemory => "0 no 90 Memory\n",
+        Reply::SessionMemory => "1 no 90 Memory\n",
     }
 }

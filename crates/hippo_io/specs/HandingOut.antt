@@ -23,7 +23,7 @@ consumed reader = reader.taken - length reader.waiting
 
 -- Of the input, the reader has handed out these lines, and the source tells the bytes that it did not take.
 pub record HasHandedOut (input : List ℕ) (handed : List LineText) (reader : Position) (left : Option (List ℕ)) : Type 0 where
-  pub sound : reader.failure ≡ None
+  pub unfailed : reader.failure ≡ None
   pub within : reader.taken ≤ length input
   pub told : left ≡ Some (drop reader.taken input)
   -- the lines of the bytes that wait or are left are the others

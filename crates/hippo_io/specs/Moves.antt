@@ -1,8 +1,8 @@
--- The steps from one line to the next.
+-- How a line reader moves on from one line to the next.
 use Rattle.std.specs.Prelude.{◌≡◌, ℕ, ◌+◌, ◌-◌, ◌<◌, ◌≤◌, min, IsFalse, List, [], ◌∷◌, ◌++◌, length, take, drop, slice_index, Option, Some, None}
 use Rattle.hippo_io.specs.Lines.{LineText, too_long_line, line_feed, line_limit, feeds}
 use Rattle.hippo_io.specs.Position.{Position}
-use Rattle.hippo_io.specs.Reading.{input_limit, consumed, HasHandedOut, HasGivenUp}
+use Rattle.hippo_io.specs.HandingOut.{input_limit, consumed, HasHandedOut, HasGivenUp}
 use Rattle.hippo_io.specs.Told.{TakesBehind}
 use Rattle.hippo_io.specs.declared.lines.Found.{Found}
 use Rattle.hippo_io.specs.declared.lines.Found.TheVariants.{Whole, Rest, Skipped}
@@ -17,7 +17,7 @@ pub record BeginsWithLine (bytes : List ℕ) (n : ℕ) : Type 0 where
 -- neither at the end of the input nor stopped by a fault
 pub record IsGoing (reader : Position) : Type 0 where
   pub unended : IsFalse reader.ended
-  pub sound : reader.failure ≡ None
+  pub unfailed : reader.failure ≡ None
 
 -- n more bytes wait
 pub record Refills (before after : Position) (left_before left_after : Option (List ℕ)) (n : ℕ) : Type 0 where
@@ -73,7 +73,7 @@ pub record FindsRest (before after : Position) (left_before left_after : Option 
 
 -- a line that is too long was skipped
 pub record FindsSkipped (before after : Position) (left_before left_after : Option (List ℕ)) : Type 0 where
-  pub sound : after.failure ≡ None
+  pub unfailed : after.failure ≡ None
   pub skipped : SkipsLine before after left_before left_after
   pub later : consumed before < consumed after
 
