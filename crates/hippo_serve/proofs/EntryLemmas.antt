@@ -7,8 +7,9 @@ use Rattle.std.proofs.lemmas.Bool.{false≢true}
 use Rattle.hippo_values.specs.declared.values.Value.{Value}
 use Rattle.hippo_values.specs.declared.values.Value.TheVariants.{Int}
 use Rattle.hippo_model.specs.declared.entry.Entry.{Entry}
-use Rattle.hippo_model.specs.Values.{value_cmp, same_cells}
-use Rattle.hippo_model.specs.Histories.{said, or_else}
+use Rattle.hippo_values.specs.Order.{value_cmp, same_cells}
+use Rattle.std.specs.Bool.{then_some}
+use Rattle.std.specs.Option.{option_or}
 use Rattle.hippo_model.specs.Rows.{names_key, last_at}
 use Rattle.hippo_model.proofs.LastWords.{last_word-append}
 use Rattle.hippo_serve.specs.World.{patient}
@@ -24,14 +25,14 @@ other_length [] pid h = refl
 other_length (v ∷ []) pid h = absurd (false≢true (sym h))
 other_length (v ∷ w ∷ vs) pid h = h ∙ sym (longer_differs (value_cmp v (Int pid)))
 
-by_name : (b : Bool) (number : ℕ) (last last' : Option ℕ) → last' ≡ cond b (Some number) last → last' ≡ or_else (said b number) last
+by_name : (b : Bool) (number : ℕ) (last last' : Option ℕ) → last' ≡ cond b (Some number) last → last' ≡ option_or (then_some b number) last
 by_name true number last last' e = e
 by_name false number last last' e = e
 
 -- one entry more says the last word, or leaves it
 pub last_at-append : (history : List Entry) (entry : Entry) (key : List Value) (last last' : Option ℕ) → last ≡ last_at patient history key
-    → last' ≡ cond (names_key patient key entry) (Some entry.seq) last → last' ≡ last_at patient (history ++ entry ∷ []) key
+    → last' ≡ cond (names_key patient key entry.act) (Some entry.seq) last → last' ≡ last_at patient (history ++ entry ∷ []) key
 last_at-append history entry key last last' e f =
-    by_name (names_key patient key entry) entry.seq last last' f
-    ∙ ap (or_else (said (names_key patient key entry) entry.seq)) e
-    ∙ sym (last_word-append (λ other. said (names_key patient key other) other.seq) history entry)
+    by_name (names_key patient key entry.act) entry.seq last last' f
+    ∙ ap (option_or (then_some (names_key patient key entry.act) entry.seq)) e
+    ∙ sym (last_word-append (λ other. then_some (names_key patient key other.act) other.seq) history entry)

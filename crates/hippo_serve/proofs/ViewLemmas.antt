@@ -1,11 +1,12 @@
 -- The answer over the view is what the rows and rules that a clinic keeps show.
-use Rattle.std.proofs.Common.{◌≡◌, ℕ, ℤ, zero, suc, ◌+◌, ◌<◌, false, cond, List, [], ◌∷◌, ◌++◌, map, filter, filter_map, slice_index, slice_index_or, slice_get, Option, Some, None, refl, ap, ◌∙◌, arith, zero-add, eqb, All}
+use Rattle.std.proofs.Common.{◌≡◌, ℕ, ℤ, ◌-ℤ◌, zero, suc, ◌+◌, ◌<◌, false, cond, List, [], ◌∷◌, ◌++◌, map, filter, filter_map, slice_index, slice_index_or, slice_get, Option, Some, None, refl, ap, ◌∙◌, arith, zero-add, eqb, All}
 use Rattle.std.specs.List.{AllByRecursion}
 use Rattle.std.specs.Option.{option_map_or}
 use Rattle.std.specs.List.{enumerate_from}
 use Rattle.std.proofs.lemmas.List.Elements.{recursion_from_All}
 use Rattle.std.proofs.lemmas.Bool.Decides.{nat_tests}
 use Rattle.hippo_values.specs.declared.values.Value.{Value}
+use Rattle.hippo_model.specs.declared.born_row.BornRow.{BornRow}
 use Rattle.hippo_model.specs.declared.cells.Cell.{Cell}
 use Rattle.hippo_model.specs.declared.cells.Cell.TheVariants.{Denied as DeniedCell}
 use Rattle.hippo_model.specs.declared.entry.Act.TheVariants.{Asked}
@@ -18,7 +19,7 @@ use Rattle.hippo_model.specs.Views.{cell_by, masked_row, view_row}
 use Rattle.hippo_model.specs.Answers.{product, cell_in, operand_value, passes, selected, answer_of}
 use Rattle.hippo_model.specs.RowSets.{KeyedRows}
 use Rattle.hippo_model.proofs.Truths.{truth-All}
-use Rattle.hippo_serve.specs.World.{patient, treatment, nurse, user_name, clock}
+use Rattle.hippo_serve.specs.World.{patient, treatment, nurse, user_name, clock, session}
 use Rattle.hippo_serve.specs.Forms.{query_for}
 use Rattle.hippo_serve.specs.Replies.{Effect, rows_for, answer_lines, with_entry, asked}
 use Rattle.hippo_serve.specs.Clinics.{rule_of, verdict_of, IsKept, cell_shown, all_shown, rows_shown}
@@ -33,9 +34,9 @@ masked_at verdicts (value ∷ row) from (suc place) other =
     masked_at verdicts row (from + 1) place other
     ∙ ap (λ n. option_map_or (cell_by (verdicts n)) (slice_get row place) other) (omega arith)
 
-verdict_by-rule : (history : List Entry) (subject : Option ℤ) (number : ℕ) → verdict_by history subject (rule_of number) ≡ verdict_of number
-verdict_by-rule history subject zero = refl
-verdict_by-rule history subject (suc number) = refl
+verdict_by-rule : (history : List Entry) (age : ℤ) (subject : Option ℤ) (number : ℕ) → verdict_by history age subject (rule_of number) ≡ verdict_of number
+verdict_by-rule history age subject zero = refl
+verdict_by-rule history age subject (suc number) = refl
 
 -- every combination passes the empty condition
 all_pass : (combinations : List (List (List Cell))) → filter (passes (AllOf [])) combinations ≡ combinations
@@ -50,46 +51,47 @@ above_zero : (number : ℕ) → eqb (suc number) 0 ≡ false
 above_zero number = grind (arith, nat_tests)
 
 module _ (history : List Entry) (kept : KeyedRows) (allowing : List ℕ) (is : IsKept history kept allowing) where
-  abbrev verdicts_on : List Value → ℕ → Verdict
-  verdicts_on row = verdict history clock treatment nurse patient row
+  abbrev verdicts_on : BornRow → ℕ → Verdict
+  verdicts_on row = verdict history session patient row
 
-  verdict_now : (row : List Value) (column : ℕ) → column < 4 → verdicts_on row column ≡ verdict_of (slice_index allowing column)
+  verdict_now : (row : BornRow) (column : ℕ) → column < 4 → verdicts_on row column ≡ verdict_of (slice_index allowing column)
   verdict_now row column within =
-      ap (verdict_by history (subject_of patient row)) (is.rules column within) ∙ verdict_by-rule history (subject_of patient row) (slice_index allowing column)
+      ap (verdict_by history (clock -ℤ row.born) (subject_of patient row.row)) (is.rules column within)
+      ∙ verdict_by-rule history (clock -ℤ row.born) (subject_of patient row.row) (slice_index allowing column)
 
   abbrev ref_to : ℕ → Ref
   ref_to place = record { table = 0; column = place }
 
-  cell_now : (row : List Value) (place : ℕ) → place < 4 → cell_in (masked_row (verdicts_on row) row ∷ []) (ref_to place) ≡ cell_shown allowing row place
+  cell_now : (row : BornRow) (place : ℕ) → place < 4 → cell_in (masked_row (verdicts_on row) row.row ∷ []) (ref_to place) ≡ cell_shown allowing row.row place
   cell_now row place within =
-      masked_at (verdicts_on row) row 0 place (DeniedCell 0)
-      ∙ ap (λ n. option_map_or (cell_by (verdicts_on row n)) (slice_get row place) (DeniedCell 0)) (zero-add place)
-      ∙ ap (λ v. option_map_or (cell_by v) (slice_get row place) (DeniedCell 0)) (verdict_now row place within)
+      masked_at (verdicts_on row) row.row 0 place (DeniedCell 0)
+      ∙ ap (λ n. option_map_or (cell_by (verdicts_on row n)) (slice_get row.row place) (DeniedCell 0)) (zero-add place)
+      ∙ ap (λ v. option_map_or (cell_by v) (slice_get row.row place) (DeniedCell 0)) (verdict_now row place within)
 
-  cells_now : (row : List Value) (places : List ℕ) → AllByRecursion (λ place. place < 4) places
-      → selected (map ref_to places) (masked_row (verdicts_on row) row ∷ []) ≡ map (cell_shown allowing row) places
+  cells_now : (row : BornRow) (places : List ℕ) → AllByRecursion (λ place. place < 4) places
+      → selected (map ref_to places) (masked_row (verdicts_on row) row.row ∷ []) ≡ map (cell_shown allowing row.row) places
   cells_now row [] within = refl
   cells_now row (place ∷ places) within = rw (cell_now row place within.0, cells_now row places within.1) refl
 
-  abbrev visible : List Value → Option (List Cell)
-  visible row = view_row history clock treatment nurse patient row
+  abbrev visible : BornRow → Option (List Cell)
+  visible row = view_row history session patient row
 
-  hidden_row : slice_index allowing 0 ≡ 0 → (row : List Value) → visible row ≡ None
+  hidden_row : slice_index allowing 0 ≡ 0 → (row : BornRow) → visible row ≡ None
   hidden_row e row = rw (verdict_now row 0 (omega arith), e) refl
 
-  open_row : (number : ℕ) → slice_index allowing 0 ≡ suc number → (row : List Value) → visible row ≡ Some (masked_row (verdicts_on row) row)
+  open_row : (number : ℕ) → slice_index allowing 0 ≡ suc number → (row : BornRow) → visible row ≡ Some (masked_row (verdicts_on row) row.row)
   open_row number e row = rw (verdict_now row 0 (omega arith), e) refl
 
-  none_visible : (rows : List (List Value)) → slice_index allowing 0 ≡ 0 → filter_map visible rows ≡ []
+  none_visible : (rows : List BornRow) → slice_index allowing 0 ≡ 0 → filter_map visible rows ≡ []
   none_visible [] e = refl
   none_visible (row ∷ rows) e = rw (hidden_row e row, none_visible rows e) refl
 
-  all_visible : (number : ℕ) (rows : List (List Value)) → slice_index allowing 0 ≡ suc number → filter_map visible rows ≡ map (λ row. masked_row (verdicts_on row) row) rows
+  all_visible : (number : ℕ) (rows : List BornRow) → slice_index allowing 0 ≡ suc number → filter_map visible rows ≡ map (λ row. masked_row (verdicts_on row) row.row) rows
   all_visible number [] e = refl
   all_visible number (row ∷ rows) e = rw (open_row number e row, all_visible number rows e) refl
 
-  answers_now : (places : List ℕ) → AllByRecursion (λ place. place < 4) places → (rows : List (List Value))
-      → map (selected (map ref_to places)) (map (λ row. row ∷ []) (map (λ row. masked_row (verdicts_on row) row) rows)) ≡ all_shown allowing places rows
+  answers_now : (places : List ℕ) → AllByRecursion (λ place. place < 4) places → (rows : List BornRow)
+      → map (selected (map ref_to places)) (map (λ row. row ∷ []) (map (λ row. masked_row (verdicts_on row) row.row) rows)) ≡ all_shown allowing places rows
   answers_now places within [] = refl
   answers_now places within (row ∷ rows) = rw (cells_now row places within, answers_now places within rows) refl
 
@@ -99,7 +101,7 @@ module _ (history : List Entry) (kept : KeyedRows) (allowing : List ℕ) (is : I
   by_key : (number : ℕ) (places : List ℕ) → AllByRecursion (λ place. place < 4) places → slice_index allowing 0 ≡ number
       → answer_of (map ref_to places) (AllOf []) (product (filter_map visible kept.rows ∷ [])) ≡ cond (eqb number 0) [] (all_shown allowing places kept.rows)
   by_key zero places within e = rw (none_visible kept.rows e) refl
-  by_key (suc number) places within e = rw (above_zero number, all_visible number kept.rows e, view_answered places (map (λ row. masked_row (verdicts_on row) row) kept.rows)) (answers_now places within kept.rows)
+  by_key (suc number) places within e = rw (above_zero number, all_visible number kept.rows e, view_answered places (map (λ row. masked_row (verdicts_on row) row.row) kept.rows)) (answers_now places within kept.rows)
 
   -- the answer for these columns of all patients is what the clinic shows
   pub rows_for-kept : (places : List ℕ) → All (λ place. place < 4) places → rows_for history (query_for places) ≡ rows_shown allowing places kept.rows

@@ -3,6 +3,7 @@ use Rattle.std.specs.Prelude.{◌≡◌, ℕ, zero, suc, ◌<◌, List, [], map,
 use Rattle.std.specs.List.{list_any}
 use Rattle.std.specs.Option.{option_map_or}
 use Rattle.hippo_values.specs.declared.values.Value.{Value}
+use Rattle.hippo_model.specs.declared.born_row.BornRow.{BornRow}
 use Rattle.hippo_model.specs.declared.cells.Cell.{Cell}
 use Rattle.hippo_model.specs.declared.cells.Cell.TheVariants.{Denied as DeniedCell}
 use Rattle.hippo_model.specs.declared.entry.Entry.{Entry}
@@ -18,7 +19,7 @@ use Rattle.hippo_serve.specs.World.{patient, patient_name, treatment, nurse, use
 -- the rule of the entry that allows a column; 0 stands for none
 abbrev pub rule_of : ℕ → Option Rule
 rule_of zero = None
-rule_of (suc n) = Some (allowed (suc n) None)
+rule_of (suc n) = Some (allowed (suc n) None None)
 
 abbrev pub verdict_of : ℕ → Verdict
 verdict_of zero = Denied 0
@@ -38,11 +39,11 @@ abbrev pub cell_shown : List ℕ → List Value → ℕ → Cell
 cell_shown allowing row column = option_map_or (cell_by (verdict_of (slice_index allowing column))) (slice_get row column) (DeniedCell 0)
 
 -- the rows with these columns
-abbrev pub all_shown : List ℕ → List ℕ → List (List Value) → List (List Cell)
-all_shown allowing places rows = map (λ row. map (cell_shown allowing row) places) rows
+abbrev pub all_shown : List ℕ → List ℕ → List BornRow → List (List Cell)
+all_shown allowing places rows = map (λ kept. map (cell_shown allowing kept.row) places) rows
 
 -- the answer's rows: none where the key is forbidden
-abbrev pub rows_shown : List ℕ → List ℕ → List (List Value) → List (List Cell)
+abbrev pub rows_shown : List ℕ → List ℕ → List BornRow → List (List Cell)
 rows_shown allowing places rows =
     if slice_index allowing 0 == 0 then [] else all_shown allowing places rows
 

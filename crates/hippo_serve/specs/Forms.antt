@@ -8,8 +8,10 @@ use Rattle.hippo_model.specs.declared.entry.Act.TheVariants.{Insert, Allow}
 use Rattle.hippo_model.specs.declared.query.Query.{Query}
 use Rattle.hippo_model.specs.declared.query.CondOf.TheVariants.{All}
 use Rattle.hippo_model.specs.declared.query.Form.TheVariants.{Plain}
-use Rattle.hippo_model.specs.Values.{keeps_text_rule}
-use Rattle.hippo_model.specs.Histories.{or_else, said}
+use Rattle.hippo_values.specs.Texts.{keeps_text_rule}
+use Rattle.std.specs.Bool.{then_some}
+use Rattle.std.specs.Option.{option_or}
+use Rattle.hippo_model.specs.Validity.{all_differ}
 use Rattle.hippo_serve.specs.Cuts.{after, before, around, number_of}
 use Rattle.hippo_serve.specs.World.{patient, patient_name, treatment, nurse}
 
@@ -41,19 +43,14 @@ columns_in (piece ∷ pieces) = onto (column_of piece) (later_columns pieces)
 abbrev pub columns_of : List ℕ → Option (List ℕ)
 columns_of list = columns_in (slice_split (λ byte. byte == 44) list)
 
--- no place stands twice
-abbrev pub all_differ : List ℕ → Bool
-all_differ [] = true
-all_differ (place ∷ places) = not (list_any (nat_eq place) places) && all_differ places
-
 abbrev pub where_holds : {A : Type 0} → (A → Bool) → Option A → Option A
-where_holds test found = option_and_then (λ x. said (test x) x) found
+where_holds test found = option_and_then (λ x. then_some (test x) x) found
 
 -- 0 ALLOW treatment TO nurse ON patient (C, C), with 1 to 4 different columns
 abbrev pub allow_of : List ℕ → Option Meaning
 allow_of line =
     option_map (λ places. change (Allow treatment nurse patient_name places None None))
-    (where_holds (λ places. nat_le (length places) 4 && all_differ places) (option_and_then columns_of
+    (where_holds (λ places. nat_le (length places) 4 && all_differ nat_eq places) (option_and_then columns_of
     (option_and_then (before (codes ")")) (after (codes "0 ALLOW treatment TO nurse ON patient (") line))))
 
 -- NULL, and what stands behind it
@@ -63,15 +60,15 @@ null_cell text = option_map (λ rest. (Null, rest)) (after (codes "NULL") text)
 -- a text between quotes, and what stands behind it
 abbrev pub quoted_cell : List ℕ → Option (Value × List ℕ)
 quoted_cell text =
-    option_and_then (λ (inner, rest). said (keeps_text_rule inner) (Text inner, rest))
+    option_and_then (λ (inner, rest). then_some (keeps_text_rule inner) (Text inner, rest))
     (option_and_then (around 39) (after (codes "'") text))
 
 abbrev pub text_cell : List ℕ → Option (Value × List ℕ)
-text_cell text = or_else (null_cell text) (quoted_cell text)
+text_cell text = option_or (null_cell text) (quoted_cell text)
 
 -- a number, or NULL
 abbrev pub number_cell : List ℕ → Option Value
-number_cell text = or_else (option_map Int (number_of text)) (option_map (λ _. Null) (where_holds (bytes_eq (codes "NULL")) (Some text)))
+number_cell text = option_or (option_map Int (number_of text)) (option_map (λ _. Null) (where_holds (bytes_eq (codes "NULL")) (Some text)))
 
 -- the cells of a row from the phone on, then from the name on, then all
 abbrev pub cells_from_phone : List ℕ → Option (List Value)
@@ -109,4 +106,4 @@ select_of line =
 
 -- what a line asks for, where it has one of the three forms
 abbrev pub meaning_of : List ℕ → Option Meaning
-meaning_of line = or_else (allow_of line) (or_else (insert_of line) (select_of line))
+meaning_of line = option_or (allow_of line) (option_or (insert_of line) (select_of line))

@@ -11,7 +11,7 @@ use Rattle.hippo_model.specs.declared.query.Query.{Query}
 use Rattle.hippo_model.specs.Rows.{key_of, row_at, last_at}
 use Rattle.hippo_model.specs.Views.{view}
 use Rattle.hippo_model.specs.Answers.{product, answer_of}
-use Rattle.hippo_serve.specs.World.{patient, treatment, nurse, user_name, clock}
+use Rattle.hippo_serve.specs.World.{patient, treatment, nurse, user_name, clock, session}
 use Rattle.hippo_serve.specs.Forms.{Meaning, change, question, meaning_of}
 
 -- a cell as it is printed
@@ -66,7 +66,7 @@ abbrev pub asked : List ℕ → Act
 asked text = Asked user_name treatment nurse text
 
 abbrev pub rows_for : List Entry → Query → List (List Cell)
-rows_for history query = answer_of query.items query.cond (product (view history clock treatment nurse patient ∷ []))
+rows_for history query = answer_of query.items query.cond (product (view history session patient ∷ []))
 
 abbrev pub effect_of_meaning : List Entry → Option Meaning → Effect
 effect_of_meaning history None = record { reply = codes "- no 99 NotBuilt\n"; after = history }

@@ -1,7 +1,9 @@
 -- The one table, and for whom and for what session 1 asks.
-use Rattle.std.specs.Prelude.{ℕ, ℤ, negsuc, true, false, List, [], ◌∷◌, Some, codes}
+use Rattle.std.specs.Prelude.{ℕ, ℤ, true, false, List, [], ◌∷◌, Some, codes}
+use Rattle.hippo_values.specs.Moments.{first_moment}
 use Rattle.hippo_model.specs.declared.schema.Schema.{Schema}
 use Rattle.hippo_model.specs.declared.schema.ColumnKind.TheVariants.{Integer, Text}
+use Rattle.hippo_model.specs.Verdicts.{Context}
 
 abbrev pub patient_name : List ℕ
 patient_name = codes "patient"
@@ -17,7 +19,11 @@ user_name = codes "ann"
 
 -- the clock stands at 0001-01-01T00:00:00Z
 abbrev pub clock : ℤ
-clock = negsuc 62135596799
+clock = first_moment
+
+-- session 1 asks for treatment, as a nurse
+abbrev pub session : Context
+session = record { purpose = treatment; recipient = nurse; moment = clock }
 
 abbrev pub patient : Schema
 patient = record {

@@ -86,7 +86,7 @@ fn record_row(
 ) -> Result<(), Memory>
     requires { number ≡ length entries.old + 1 }
     ensures entry { OnOk result (entries.new ≡ with_entry entries.old act) }
-    ensures row { OnOk result (rows.new ≡ with_row row clock rows.old) }
+    ensures row { OnOk result (rows.new ≡ with_row (record { row = row; born = clock }) rows.old) }
     ensures same_entries { OnErr result (entries.new ≡ entries.old) }
     ensures same_rows { OnErr result (rows.new ≡ rows.old) }
 {

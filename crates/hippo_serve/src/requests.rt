@@ -1,7 +1,8 @@
 ghost use Rattle.std.specs.Prelude.{◌≡◌, ◌==◌, ◌&&◌, not, nat_le, [], ◌∷◌, option_map, IfSome};
 ghost use Rattle.std.specs.List.{list_all};
 ghost use Rattle.hippo_model.specs.Values.{keeps_text_rule};
-ghost use Rattle.hippo_serve.specs.Forms.{text_cell, number_cell, cells_from_phone, cells_of, insert_of, all_differ, allow_of, select_of, meaning_of};
+ghost use Rattle.hippo_model.specs.Validity.{all_differ};
+ghost use Rattle.hippo_serve.specs.Forms.{text_cell, number_cell, cells_from_phone, cells_of, insert_of, allow_of, select_of, meaning_of};
 ghost use Rattle.hippo_serve.specs.Requests.{text_value, number_value, patient_cells, meaning, HasColumns};
 
 use crate::columns::{FixedPlaces, columns};
@@ -107,7 +108,7 @@ fn insert_of(line: &str) -> Option<Request<'_>>
 }
 
 fn all_differ(places: &[usize]) -> bool
-    ensures { result ≡ all_differ places.now }
+    ensures { result ≡ all_differ nat_eq places.now }
 {
     match places {
         [] => true,
