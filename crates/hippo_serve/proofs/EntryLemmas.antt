@@ -7,7 +7,7 @@ use Rattle.std.proofs.lemmas.Bool.{false≢true}
 use Rattle.hippo_values.specs.declared.values.Value.{Value}
 use Rattle.hippo_values.specs.declared.values.Value.TheVariants.{Int}
 use Rattle.hippo_model.specs.declared.entry.Entry.{Entry}
-use Rattle.hippo_model.specs.Values.{value_cmp, same_cells}
+use Rattle.hippo_values.specs.Order.{value_cmp, same_cells}
 use Rattle.hippo_model.specs.Histories.{said, or_else}
 use Rattle.hippo_model.specs.Rows.{names_key, last_at}
 use Rattle.hippo_model.proofs.LastWords.{last_word-append}

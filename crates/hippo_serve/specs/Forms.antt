@@ -8,7 +8,7 @@ use Rattle.hippo_model.specs.declared.entry.Act.TheVariants.{Insert, Allow}
 use Rattle.hippo_model.specs.declared.query.Query.{Query}
 use Rattle.hippo_model.specs.declared.query.CondOf.TheVariants.{All}
 use Rattle.hippo_model.specs.declared.query.Form.TheVariants.{Plain}
-use Rattle.hippo_model.specs.Values.{keeps_text_rule}
+use Rattle.hippo_values.specs.Texts.{keeps_text_rule}
 use Rattle.hippo_model.specs.Histories.{or_else, said}
 use Rattle.hippo_serve.specs.Cuts.{after, before, around, number_of}
 use Rattle.hippo_serve.specs.World.{patient, patient_name, treatment, nurse}

@@ -1,7 +1,7 @@
 ghost use Rattle.std.specs.Prelude.{◌≡◌, ◌+◌, ◌∷◌, [], length, unwrap_or, option_copied, IfOk, OnOk, OnErr};
 ghost use Rattle.hippo_values.specs.declared.values.Value.TheVariants.{Null, Int};
 ghost use Rattle.std.specs.Ordering.{is_eq};
-ghost use Rattle.hippo_model.specs.Values.{value_cmp, same_cells};
+ghost use Rattle.hippo_values.specs.Order.{value_cmp, same_cells};
 ghost use Rattle.hippo_model.specs.Rows.{key_named, names_key, last_at};
 ghost use Rattle.hippo_serve.specs.World.{patient, clock};
 ghost use Rattle.hippo_serve.specs.Replies.{with_entry};
