@@ -2,7 +2,8 @@
 use Rattle.std.proofs.Common.{◌≡◌, ℕ, ◌+◌, ◌<◌, ◌≤◌, Bool, true, false, cond, List, [], ◌∷◌, ◌++◌, map, length, take, drop, refl, sym, ap, ◌∙◌, arith, append-nil, append_assoc, length-append}
 use Rattle.std.proofs.lemmas.List.{take-append-drop, drop_more}
 use Rattle.std.specs.Io.BufRead.{drop_through}
-use Rattle.hippo_io.specs.Lines.{too_long_line, line_feed, line_limit, pieces, with_first, lines, line_of, feeds}
+use Rattle.hippo_values.specs.Limits.{line_limit}
+use Rattle.hippo_io.specs.Lines.{too_long_line, line_feed, pieces, with_first, lines, line_of, feeds}
 use Rattle.hippo_io.specs.Moves.{BeginsWithLine}
 use Rattle.hippo_io.proofs.FeedLemmas.{is_feed, feeds-append, feeds-cons}
 use Rattle.hippo_io.proofs.LineLemmas.{line_of-long}

@@ -5,7 +5,8 @@ use Rattle.std.proofs.lemmas.Bool.{false≢true}
 use Rattle.std.proofs.lemmas.List.{take-append-drop, drop-drop}
 use Rattle.std.specs.Prelude.{Option}
 use Rattle.std.specs.Io.BufRead.{drop_through}
-use Rattle.hippo_io.specs.Lines.{LineText, too_long_line, line_feed, line_limit, lines, line_of, feeds}
+use Rattle.hippo_values.specs.Limits.{line_limit}
+use Rattle.hippo_io.specs.Lines.{LineText, too_long_line, line_feed, lines, line_of, feeds}
 use Rattle.hippo_io.specs.Position.{Position}
 use Rattle.hippo_io.specs.HandingOut.{HasHandedOut, HasGivenUp}
 use Rattle.hippo_io.specs.Moves.{BeginsWithLine, IsGoing, Refills, FailsToRefill}

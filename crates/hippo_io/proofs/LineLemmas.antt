@@ -5,7 +5,8 @@ use Rattle.std.proofs.lemmas.Str.{IsUtf8-from_is_utf8, is_utf8-from_IsUtf8}
 use Rattle.std.specs.Prelude.{IsUtf8}
 use Rattle.std.specs.Str.{is_utf8}
 use Rattle.std.specs.Io.BufRead.{strip_last}
-use Rattle.hippo_io.specs.Lines.{text_line, too_long_line, not_utf8_line, carriage_return, line_limit, line_of, text_or_not}
+use Rattle.hippo_values.specs.Limits.{line_limit}
+use Rattle.hippo_io.specs.Lines.{text_line, too_long_line, not_utf8_line, carriage_return, line_of, text_or_not}
 
 line_of-short : (piece : List ℕ) → length piece ≤ line_limit → line_of piece ≡ text_or_not (strip_last carriage_return piece)
 line_of-short piece short = ap (λ b. cond b too_long_line (text_or_not (strip_last carriage_return piece))) (le-ltb line_limit (length piece) short)

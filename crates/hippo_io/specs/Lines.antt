@@ -2,6 +2,7 @@
 use Rattle.std.specs.Prelude.{ℕ, List, [], ◌∷◌, map, length, count_by, ◌==◌, nat_lt, if◌then◌else◌}
 use Rattle.std.specs.Str.{is_utf8}
 use Rattle.std.specs.Io.BufRead.{strip_last}
+use Rattle.hippo_values.specs.Limits.{line_limit}
 
 -- the byte that ends a line
 abbrev pub line_feed : ℕ
@@ -10,10 +11,6 @@ line_feed = 10
 -- the byte that is dropped at a line's end
 abbrev pub carriage_return : ℕ
 carriage_return = 13
-
--- how many bytes a line may have before its line feed
-abbrev pub line_limit : ℕ
-line_limit = 65536
 
 -- the byte in front of the first piece
 abbrev pub with_first : ℕ → List (List ℕ) → List (List ℕ)

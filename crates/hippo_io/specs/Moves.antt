@@ -1,6 +1,7 @@
 -- How a line reader moves on from one line to the next.
 use Rattle.std.specs.Prelude.{◌≡◌, ℕ, ◌+◌, ◌-◌, ◌<◌, ◌≤◌, min, IsFalse, List, [], ◌∷◌, ◌++◌, length, take, drop, slice_index, Option, Some, None}
-use Rattle.hippo_io.specs.Lines.{LineText, too_long_line, line_feed, line_limit, feeds}
+use Rattle.hippo_values.specs.Limits.{line_limit}
+use Rattle.hippo_io.specs.Lines.{LineText, too_long_line, line_feed, feeds}
 use Rattle.hippo_io.specs.Position.{Position}
 use Rattle.hippo_io.specs.HandingOut.{input_limit, consumed, HasHandedOut, HasGivenUp}
 use Rattle.hippo_io.specs.Told.{TakesBehind}

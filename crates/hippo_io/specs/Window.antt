@@ -1,6 +1,6 @@
 -- What a line reader's fields say.
 use Rattle.std.specs.Prelude.{◌≡◌, ◌+◌, ◌-◌, ◌≤◌, ◌<◌, ◌↔◌, Some, vec_len, slice_range}
-use Rattle.hippo_io.specs.Lines.{line_limit}
+use Rattle.hippo_values.specs.Limits.{line_limit}
 use Rattle.hippo_io.specs.Position.{Position}
 use Rattle.hippo_io.specs.HandingOut.{input_limit}
 use Rattle.hippo_io.specs.declared.lines.LineReader.TheInside.{Inside}

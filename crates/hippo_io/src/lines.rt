@@ -2,18 +2,16 @@ ghost use Rattle.std.specs.Prelude.{◌≡◌, ◌≢◌, ℕ, List, ◌+◌, �
 ghost use Rattle.std.specs.Borrow.{sem};
 ghost use Rattle.std.specs.Io.BufRead.{Rests, strip_last};
 ghost use Rattle.hippo_io.specs.Faults.{HasRisen};
-ghost use Rattle.hippo_io.specs.Lines.{line_of, line_feed, carriage_return, line_limit, feeds};
+ghost use Rattle.hippo_values.specs.Limits.{line_limit};
+ghost use Rattle.hippo_io.specs.Lines.{line_of, line_feed, carriage_return, feeds};
 ghost use Rattle.hippo_io.specs.LineTexts.{line_text};
 ghost use Rattle.hippo_io.specs.Moves.{BeginsWithLine};
 ghost use Rattle.hippo_io.specs.Told.{Keeps, IsAtEnd, TakesBehind};
 
 use crate::source::{Failed, Source};
-use hippo_values::Memory;
+use hippo_values::{LINE_LIMIT, Memory};
 use std::alloc::Global;
 use std::marker::Model;
-
-// How many bytes a line may have before its line feed.
-const LINE_LIMIT: usize = 65_536;
 
 // How many bytes are read at most.
 const INPUT_LIMIT: u64 = 1 << 40;

@@ -52,7 +52,7 @@ fn is_key(key: &[Value], pid: i64) -> bool
 }
 
 fn names_patient(entry: &Entry, pid: i64) -> bool
-    ensures { result ≡ names_key patient (Int pid ∷ []) entry.now }
+    ensures { result ≡ names_key patient (Int pid ∷ []) entry.now.act }
 {
     match &entry.act {
         Act::Insert { table, row } | Act::Update { table, row } => {

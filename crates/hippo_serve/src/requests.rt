@@ -1,6 +1,6 @@
 ghost use Rattle.std.specs.Prelude.{◌≡◌, ◌==◌, ◌&&◌, not, nat_le, [], ◌∷◌, option_map, IfSome};
 ghost use Rattle.std.specs.List.{list_all};
-ghost use Rattle.hippo_model.specs.Values.{keeps_text_rule};
+ghost use Rattle.hippo_values.specs.Texts.{keeps_text_rule};
 ghost use Rattle.hippo_model.specs.Validity.{all_differ};
 ghost use Rattle.hippo_serve.specs.Forms.{text_cell, number_cell, cells_from_phone, cells_of, insert_of, allow_of, select_of, meaning_of};
 ghost use Rattle.hippo_serve.specs.Requests.{text_value, number_value, patient_cells, meaning, HasColumns};
@@ -8,6 +8,7 @@ ghost use Rattle.hippo_serve.specs.Requests.{text_value, number_value, patient_c
 use crate::columns::{FixedPlaces, columns};
 use crate::cuts::{after, around_comma, around_quote, before, number};
 use crate::world::COLUMNS;
+use hippo_values::keeps_text_rule;
 
 /// The cells of a new patient, in the order of the columns; texts are the line's own.
 #[derive(Clone, Copy, Debug)]
@@ -25,28 +26,6 @@ pub enum Request<'a> {
     Insert(NewPatient<'a>),
     /// The text from the word SELECT on, and its columns.
     Select(&'a str, FixedPlaces),
-}
-
-/// The longest text that a cell takes, in bytes.
-const TEXT_LIMIT: usize = 4096;
-
-fn is_plain(byte: u8) -> bool
-    ensures { result ≡ (nat_le 32 byte && not (byte == 127)) }
-{
-    byte >= 32 && byte != 127
-}
-
-fn are_plain(bytes: &[u8]) -> bool
-    ensures { result ≡ list_all (λ byte. nat_le 32 byte && not (byte == 127)) bytes.now }
-{
-    bytes.iter().all(|byte| is_plain(*byte))
-}
-
-fn keeps_text_rule(text: &str) -> bool
-    ensures { result ≡ keeps_text_rule text.now }
-{
-    let bytes = text.as_bytes();
-    bytes.len() <= TEXT_LIMIT && are_plain(bytes)
 }
 
 // A text between quotes or NULL, and what stands behind it.

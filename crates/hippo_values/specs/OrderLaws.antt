@@ -1,5 +1,5 @@
 -- The order of values is total, and equal at no two different ones: what the `Ord` of `Value` cites.
-use Rattle.std.proofs.Common.{◌≡◌, ℕ, ℤ, pos, List, [], Some, refl, sym, ◌∙◌}
+use Rattle.std.proofs.Common.{◌≡◌, ℕ, ℤ, pos, List, [], Some, refl}
 use Rattle.std.specs.Ordering.{eq_by_cmp, int_cmp, nat_cmp, ordering_then}
 use Rattle.std.specs.Cmp.{IsPartialOrder, IsTotalOrder, int_cmp_total, nat_cmp_total, on_total, po, then_total}
 use Rattle.std.specs.Cmp.Lexicographic.{nat_list_cmp_total, slice_cmp, texts_ties}

@@ -8,6 +8,7 @@ mod memory;
 mod moments;
 mod names;
 mod printing;
+mod roomy_sequence;
 mod sequence;
 mod texts;
 mod truths;
@@ -20,8 +21,9 @@ pub use memory::{Duplicate, Memory};
 pub use moments::{DayNumber, Moment};
 pub use names::{Name, is_keyword, is_name, is_unsupported_word};
 pub use printing::print_value;
+pub use roomy_sequence::RoomySequence;
 pub use sequence::Sequence;
-pub use texts::{Txt, keeps_text_rule};
+pub use texts::{RoomyTxt, Txt, keeps_text_rule};
 pub use truths::{CompareOp, Truth, compare, truth_and, truth_not, truth_or};
 pub use values::Value;
 

@@ -8,7 +8,7 @@ use std::cmp::Ordering;
 use std::fmt::{self, Debug, Formatter, Write};
 use std::marker::Model;
 
-/// A `Vec` that contracts see as the list of its members.
+/// A `Vec` that contracts see as the list of its members; of its room they say nothing (`RoomySequence`).
 #[derive(Drop)]
 pub struct Sequence<T> {
     members: Vec<T>,
@@ -105,7 +105,7 @@ impl<T: Drop> Sequence<T> {
         self.members.truncate(len);
     }
 
-    /// Takes all members out; the room stays.
+    /// Takes all members out.
     pub fn clear(&mut self)
         ensures { self.new ≡ [] }
     {

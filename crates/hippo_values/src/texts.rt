@@ -1,4 +1,4 @@
-ghost use Rattle.std.specs.Prelude.{◌≡◌, ◌==◌, ◌&&◌, not, nat_le, [], ◌++◌, length, take, nat_eq, refl, string_bytes, Some, IfOk, OnOk, OnErr};
+ghost use Rattle.std.specs.Prelude.{◌≡◌, ◌+◌, ◌≤◌, ◌==◌, ◌&&◌, not, nat_le, [], ◌++◌, length, take, nat_eq, refl, string_bytes, Some, IsOk, IfOk, OnOk, OnErr};
 ghost use Rattle.std.specs.Char.{encode_utf8};
 ghost use Rattle.std.specs.Str.{IsUtf8};
 ghost use Rattle.std.specs.Ordering.{nat_cmp};
@@ -14,26 +14,32 @@ use std::cmp::Ordering;
 use std::fmt::{self, Debug, Formatter, Write};
 use std::marker::Model;
 
-/// A text that contracts see as the list of its bytes.
+/// A text that contracts see as the list of its bytes. Its memory has room for at least `ROOM` bytes, for ever: while a
+/// text stays within its room, nothing that is added to it takes memory.
 #[derive(Drop)]
-pub struct Txt {
+pub struct RoomyTxt<const ROOM: usize> {
     text: String,
 }
 
-impl Model for Txt {
-    ghost use Rattle.std.specs.Prelude.{List, ℕ, string_bytes};
+impl<const ROOM: usize> Model for RoomyTxt<ROOM> {
+    ghost use Rattle.std.specs.Prelude.{List, ℕ, ◌≤◌, string_bytes, string_capacity};
 
     ghost Value = { List ℕ };
 
     ghost view = { λ txt. string_bytes txt.text };
+
+    ghost invariant = { λ txt. ROOM ≤ string_capacity txt.text };
 }
 
-impl Txt {
+/// A text of which no room is known.
+pub type Txt = RoomyTxt<0>;
+
+impl RoomyTxt<0> {
     /// The empty text, which takes no memory.
     pub fn new(alloc: Global) -> Txt
         ensures { result ≡ [] }
     {
-        Txt {
+        RoomyTxt {
             text: String::new(alloc),
         }
     }
@@ -42,7 +48,7 @@ impl Txt {
     pub fn from_str(alloc: Global, text: &str) -> Result<Txt, Memory>
         ensures { IfOk result (λ txt. txt ≡ text.now) }
     {
-        Ok(Txt {
+        Ok(RoomyTxt {
             text: String::from_str(alloc, text)?,
         })
     }
@@ -51,7 +57,18 @@ impl Txt {
     pub fn from_string(text: String) -> Txt
         ensures { result ≡ string_bytes text }
     {
-        Txt { text }
+        RoomyTxt { text }
+    }
+}
+
+impl<const ROOM: usize> RoomyTxt<ROOM> {
+    /// The empty text, with its room.
+    pub fn with_room(alloc: Global) -> Result<RoomyTxt<ROOM>, Memory>
+        ensures { IfOk result (λ txt. txt ≡ []) }
+    {
+        Ok(RoomyTxt {
+            text: String::with_capacity(alloc, ROOM)?,
+        })
     }
 
     pub fn as_str(&self) -> &str
@@ -66,19 +83,21 @@ impl Txt {
         self.text.len()
     }
 
-    /// Adds the bytes of `text` at the end.
+    /// Adds the bytes of `text` at the end; within the room it takes no memory.
     pub fn append(&mut self, text: &str) -> Result<(), Memory>
         ensures ok { OnOk result (self.new ≡ self.old ++ text.now) }
         ensures err { OnErr result (self.new ≡ self.old) }
+        ensures room { length self.old + length text.now ≤ ROOM → IsOk result }
     {
         self.text.push_str(text)?;
         Ok(())
     }
 
-    /// Adds a character at the end.
+    /// Adds a character at the end; within the room it takes no memory.
     pub fn push(&mut self, character: char) -> Result<(), Memory>
         ensures ok { OnOk result (self.new ≡ self.old ++ encode_utf8 character) }
         ensures err { OnErr result (self.new ≡ self.old) }
+        ensures room { length self.old + length (encode_utf8 character) ≤ ROOM → IsOk result }
     {
         self.text.push(character)?;
         Ok(())
@@ -92,7 +111,7 @@ impl Txt {
         self.text.truncate(length);
     }
 
-    /// Takes all bytes out; the room stays.
+    /// Takes all bytes out.
     pub fn clear(&mut self)
         ensures { self.new ≡ [] }
     {
@@ -100,19 +119,19 @@ impl Txt {
     }
 }
 
-impl Duplicate for Txt {
+impl Duplicate for RoomyTxt<0> {
     fn copy(&self, alloc: Global) -> Result<Txt, Memory> {
         Txt::from_str(alloc, self.as_str())
     }
 }
 
-impl Debug for Txt {
+impl Debug for RoomyTxt<0> {
     fn fmt<W: Write>(&self, f: &mut Formatter<W>) -> fmt::Result {
         self.text.fmt(f)
     }
 }
 
-impl PartialEq for Txt {
+impl PartialEq for RoomyTxt<0> {
     ghost eq = { pointwise nat_eq };
 
     ghost laws = { partial_equiv_from_equiv nat_list_eq_equiv };
@@ -122,11 +141,11 @@ impl PartialEq for Txt {
     }
 }
 
-impl Eq for Txt {
+impl Eq for RoomyTxt<0> {
     ghost laws = { nat_list_eq_equiv };
 }
 
-impl PartialOrd for Txt {
+impl PartialOrd for RoomyTxt<0> {
     ghost partial_cmp = { λ x y. Some (slice_cmp nat_cmp x y) };
 
     ghost laws = { texts_po };
@@ -136,7 +155,7 @@ impl PartialOrd for Txt {
     }
 }
 
-impl Ord for Txt {
+impl Ord for RoomyTxt<0> {
     ghost cmp = { slice_cmp nat_cmp };
 
     ghost total = { nat_list_cmp_total };

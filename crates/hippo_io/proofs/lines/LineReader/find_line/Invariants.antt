@@ -1,7 +1,8 @@
 -- Whatever was handed out is so still, and no line feed is among the bytes that were searched.
 use Rattle.std.proofs.Common.{◌≡◌, ℕ, ◌+◌, ◌-◌, ◌≤◌, List, length, take}
 use Rattle.std.specs.Prelude.{Option}
-use Rattle.hippo_io.specs.Lines.{line_limit, feeds}
+use Rattle.hippo_values.specs.Limits.{line_limit}
+use Rattle.hippo_io.specs.Lines.{feeds}
 use Rattle.hippo_io.specs.Position.{Position}
 use Rattle.hippo_io.specs.HandingOut.{consumed}
 use Rattle.hippo_io.specs.Moves.{IsGoing, KeepsHandedOut}
