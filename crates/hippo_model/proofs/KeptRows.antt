@@ -1,12 +1,13 @@
 -- Rows that are kept in the order of their keys: what a search finds, and what a put and a take leave.
 use Rattle.std.proofs.Common.{◌≡◌, ℕ, zero, suc, ◌+◌, ◌<◌, ◌≤◌, List, [], ◌∷◌, map, length, get_or, set, Option, Some, None, option_map, true, false, if◌then◌else◌, slice_get, IfSome, Result, Ok, Err, sym, ap, ◌∙◌, refl, subst, arith}
-use Rattle.std.specs.Prelude.{option_and_then}
+use Rattle.std.specs.Prelude.{Bool, not, nat_lt, position, option_and_then}
 use Rattle.std.specs.Ordering.{is_lt, ordering_index, ordering_reverse, match_ordering}
 use Rattle.std.specs.declared.cmp.Ordering.{Ordering}
 use Rattle.std.specs.declared.cmp.Ordering.TheVariants.{Less, Equal, Greater}
-use Rattle.std.specs.List.{HoldsAt, insert, remove}
+use Rattle.std.specs.List.{position_or_len, HoldsAt, insert, remove}
 use Rattle.std.specs.List.Sorted.{IsNonDecreasingBy, IsPartitionPoint, IsSearchInRange, IsBinarySearchResult}
 use Rattle.std.specs.Result.{result_ok}
+use Rattle.std.proofs.lemmas.Bool.Decides.{nat_tests}
 use Rattle.std.proofs.lemmas.List.Sorted.{searchable_from_sorted}
 use Rattle.hippo_model.specs.declared.born_row.BornRow.{BornRow}
 use Rattle.hippo_model.specs.Terms.{Key, Place}
@@ -50,6 +51,27 @@ order_of places key kept = cells_cmp (key_in places kept) key
 abbrev pub shown : List Place → List BornRow → KeyedRows
 shown places kept = record { key = places; rows = kept }
 
+nat_lt-suc : (a b : ℕ) → nat_lt (1 + a) (suc b) ≡ nat_lt a b
+nat_lt-suc a b = grind (arith, nat_tests)
+
+one_place_on : (place size : ℕ) → (if nat_lt (1 + place) (suc size) then Some (1 + place) else None) ≡ option_map suc (if nat_lt place size then Some place else None)
+one_place_on place size =
+    rw (nat_lt-suc place size) (elim (nat_lt place size) as (λ within. (if within then Some (1 + place) else None) ≡ option_map suc (if within then Some place else None)) [
+      | true ↦ let same : 1 + place ≡ suc place = omega arith in ap Some same
+      | false ↦ refl
+    ])
+
+first_place : (size : ℕ) → ◌≡◌ {A = Option ℕ} (if nat_lt 0 (suc size) then Some 0 else None) (Some 0)
+first_place size = let within : nat_lt 0 (suc size) ≡ true = grind (arith, nat_tests) in rw within
+
+-- the first place that passes, by the first member
+position-first : {X : Type 0} (test : X → Bool) (first : X) (rest : List X) → position test (first ∷ rest) ≡ (if test first then Some 0 else option_map suc (position test rest))
+position-first test first rest =
+    elim (test first) as (λ passes. (if nat_lt (if not passes then 1 + position_or_len test rest else 0) (length (first ∷ rest)) then Some (if not passes then 1 + position_or_len test rest else 0) else None) ≡ (if passes then Some 0 else option_map suc (position test rest))) [
+      | true ↦ first_place (length rest)
+      | false ↦ one_place_on (position_or_len test rest) (length rest)
+    ]
+
 module _ (places : List Place) (key : Key) where
   -- the key at a place is above those before it
   below_at : (kept : List BornRow) (first : Key) (i : ℕ) (d : BornRow) → IsBelowAll first (map (key_in places) kept) → i < length kept → cells_cmp first (key_in places (get_or kept i d)) ≡ Less
@@ -73,26 +95,30 @@ module _ (places : List Place) (key : Key) where
   above_before : (member : BornRow) (kept : List BornRow) (i : ℕ) (d : BornRow) → IsAscending (map (key_in places) (member ∷ kept)) → i < length kept → order_of places key (get_or kept i d) ≡ Equal → order_of places key member ≡ Less
   above_before member kept i d ascends in_range same = subst (λ other. cells_cmp (key_in places member) other ≡ Less) (cells_exact (key_in places (get_or kept i d)) key same) (below_at kept (key_in places member) i d ascends.0 in_range)
 
+  find_row-first : (first : BornRow) (rest : List BornRow) → find_row places key (first ∷ rest) ≡ (if same_cells (key_in places first) key then Some 0 else option_map suc (find_row places key rest))
+  find_row-first first rest = position-first (λ kept. same_cells (key_in places kept) key) first rest
+
   -- where a search found a row with the key
   pub find_row-found : (kept : List BornRow) (i : ℕ) → IsAscending (map (key_in places) kept) → i < length kept → HoldsAt (λ member. order_of places key member ≡ Equal) kept i → find_row places key kept ≡ Some i
   find_row-found [] i ascends in_range same = absurd (omega arith)
-  find_row-found (member ∷ kept) zero ascends in_range same = rw (same member)
+  find_row-found (member ∷ kept) zero ascends in_range same = find_row-first member kept ∙ rw (same member)
   find_row-found (member ∷ kept) (suc i) ascends in_range same =
+      find_row-first member kept ∙
       rw (above_before member kept i member ascends (omega arith) (same member), find_row-found kept i ascends.1 (omega arith) same)
 
   -- where a search found none
   pub find_row-missing : (kept : List BornRow) (i : ℕ) → IsPartitionPoint (λ member. order_of places key member ≡ Less) (λ member. order_of places key member ≡ Greater) kept i → find_row places key kept ≡ None
   find_row-missing [] i parted = refl
-  find_row-missing (member ∷ kept) zero parted = rw (parted.1 0 member (omega arith) (omega arith), find_row-missing kept zero (λ k d low high. absurd (omega arith), λ k d low high. parted.1 (suc k) d (omega arith) (omega arith)))
-  find_row-missing (member ∷ kept) (suc i) parted = rw (parted.0 0 member (omega arith) (omega arith), find_row-missing kept i (λ k d low high. parted.0 (suc k) d (omega arith) (omega arith), λ k d low high. parted.1 (suc k) d (omega arith) (omega arith)))
+  find_row-missing (member ∷ kept) zero parted = find_row-first member kept ∙ rw (parted.1 0 member (omega arith) (omega arith), find_row-missing kept zero (λ k d low high. absurd (omega arith), λ k d low high. parted.1 (suc k) d (omega arith) (omega arith)))
+  find_row-missing (member ∷ kept) (suc i) parted = find_row-first member kept ∙ rw (parted.0 0 member (omega arith) (omega arith), find_row-missing kept i (λ k d low high. parted.0 (suc k) d (omega arith) (omega arith), λ k d low high. parted.1 (suc k) d (omega arith) (omega arith)))
 
   pub find_row-range : (rows : List BornRow) → IfSome (find_row places key rows) (λ place. place < length rows)
   find_row-range [] = tt
   find_row-range (first ∷ rest) =
-      elim (same_cells (key_in places first) key) as (λ same. IfSome (if same then Some 0 else option_map suc (find_row places key rest)) (λ place. place < length (first ∷ rest))) [
+      rw (find_row-first first rest) (elim (same_cells (key_in places first) key) as (λ same. IfSome (if same then Some 0 else option_map suc (find_row places key rest)) (λ place. place < length (first ∷ rest))) [
         | true ↦ omega arith
         | false ↦ later (find_row places key rest) (find_row-range rest)
-      ]
+      ])
     where
       later : (found : Option ℕ) → IfSome found (λ place. place < length rest) → IfSome (option_map suc found) (λ place. place < suc (length rest))
       later None within = tt
@@ -102,10 +128,10 @@ module _ (places : List Place) (key : Key) where
   pub slice_get-find_row : (rows : List BornRow) → option_and_then (slice_get rows) (find_row places key rows) ≡ row_with key (shown places rows)
   slice_get-find_row [] = refl
   slice_get-find_row (first ∷ rest) =
-      elim (same_cells (key_in places first) key) as (λ same. option_and_then (slice_get (first ∷ rest)) (if same then Some 0 else option_map suc (find_row places key rest)) ≡ (if same then Some first else row_with key (shown places rest))) [
+      ap (option_and_then (slice_get (first ∷ rest))) (find_row-first first rest) ∙ (elim (same_cells (key_in places first) key) as (λ same. option_and_then (slice_get (first ∷ rest)) (if same then Some 0 else option_map suc (find_row places key rest)) ≡ (if same then Some first else row_with key (shown places rest))) [
         | true ↦ refl
         | false ↦ later (find_row places key rest) ∙ slice_get-find_row rest
-      ]
+      ])
     where
       later : (found : Option ℕ) → option_and_then (slice_get (first ∷ rest)) (option_map suc found) ≡ option_and_then (slice_get rest) found
       later None = refl
