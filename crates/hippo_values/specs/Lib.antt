@@ -3,4 +3,5 @@ pub mod Moments
 pub mod Names
 pub mod Printing
 pub mod Truths
+pub mod Words
 pub mod formers
