@@ -13,5 +13,5 @@ said_by word (Some reserved.Unsupported) = Some (words.Unsupported (folded word)
 said_by word None = option_map words.Name (name_of word)
 
 -- what a word says: a keyword, a word that is refused, or a name
-abbrev pub word_of : List ℕ → Option Word
+unfoldable pub word_of : List ℕ → Option Word
 word_of word = said_by word (reserved_of word)

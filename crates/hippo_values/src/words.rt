@@ -19,6 +19,7 @@ pub enum Word {
 }
 
 /// What a word says, in whatever case; none where it is neither reserved nor a name.
+#[tactic(auto, unfolding(crate::specs::Words::word_of))]
 pub fn read_word(alloc: Global, word: &str) -> Result<Option<Word>, Memory>
     ensures { IfOk result (λ said. said ≡ word_of word.now) }
 {
