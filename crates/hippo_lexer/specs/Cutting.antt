@@ -5,7 +5,10 @@ use Rattle.std.specs.Option.{option_or, option_map_or}
 use Rattle.std.specs.List.{prefix_len, list_all}
 use Rattle.std.specs.Char.{is_ascii_alphabetic, is_ascii_digit}
 use Rattle.std.specs.Str.Parse.{digits_value}
-use Rattle.hippo_values.specs.Names.{folded, unsupported_words, is_among, is_word_byte, name_of, keyword_of}
+use Rattle.hippo_values.specs.declared.words.Word.{Word}
+use Rattle.hippo_values.specs.declared.words.Word.TheVariants as words
+use Rattle.hippo_values.specs.Names.{is_word_byte}
+use Rattle.hippo_values.specs.Words.{word_of}
 use Rattle.hippo_values.specs.Dates.{day_text}
 use Rattle.hippo_values.specs.declared.keywords.Keyword.TheVariants.{KDate}
 use Rattle.hippo_lexer.specs.declared.kinds.Symbol.{Symbol}
