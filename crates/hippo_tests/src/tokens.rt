@@ -46,6 +46,14 @@ fn texts(rt: HostRuntime) -> Result<(), Fail> {
             "KShown 0-5; refused sum 6-9; name sums 10-14; ",
         ),
         (
+            "Distinct GROUP min MAX",
+            "KDistinct 0-8; KGroup 9-14; KMin 15-18; KMax 19-22; ",
+        ),
+        (
+            "by days AVG window windows",
+            "name by 0-2; name days 3-7; refused avg 8-11; refused window 12-18; name windows 19-26; ",
+        ),
+        (
             "()=;",
             "LeftParen 0-1; RightParen 1-2; Equal 2-3; Semicolon 3-4; ",
         ),
@@ -129,7 +137,7 @@ fn words(rt: HostRuntime) -> Result<(), Fail> {
     );
     assert_eq!(rt; check(alloc, &[("NOT ", 65)])?, Err(SyntaxFault::TooDeep));
     assert_eq!(rt;
-        check(alloc, &[("a min ", 2)])?,
+        check(alloc, &[("a avg ", 2)])?,
         Err(SyntaxFault::Unsupported(1))
     );
     assert_eq!(rt;
