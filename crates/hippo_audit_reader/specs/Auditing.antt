@@ -2,7 +2,7 @@
 use Rattle.std.specs.Prelude.{ℕ, false, List, [], ◌∷◌, Some, None}
 use Rattle.hippo_model.specs.declared.audit.Pair.{Pair}
 use Rattle.hippo_model.specs.declared.statement.RawAudit.{RawAudit}
-use Rattle.hippo_lexer.specs.declared.kinds.Keyword.TheVariants.{KAudit, KDuring, KFrom, KOtherthan, KTo}
+use Rattle.hippo_values.specs.declared.keywords.Keyword.TheVariants.{KAudit, KDuring, KFrom, KOtherthan, KTo}
 use Rattle.hippo_lexer.specs.declared.kinds.Symbol.TheVariants.{Comma, LeftParen, RightParen}
 use Rattle.hippo_lexer.specs.declared.kinds.TokenKind.TheVariants.{Quoted}
 use Rattle.hippo_spj_reader.specs.Answers.{◌>>=◌, either}

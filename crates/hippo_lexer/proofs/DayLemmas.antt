@@ -6,7 +6,7 @@ use Rattle.std.proofs.lemmas.Slice.Eq.{bytes_eq-Decides}
 use Rattle.hippo_values.specs.Moments.{IsDayNumber}
 use Rattle.hippo_values.specs.Dates.{day_text, IsDayText}
 use Rattle.hippo_values.proofs.DateTextLemmas.{IsDayText-unique}
-use Rattle.hippo_lexer.specs.Reading.{nth_day, day_among, day_of}
+use Rattle.hippo_lexer.specs.Cutting.{nth_day, day_among, day_of}
 
 -- what is found among the first n days is the text's day
 found_day : (n : ℕ) (text : List ℕ) → n ≤ 3652059 → IfSome (day_among n text) (IsDayText text)

@@ -3,14 +3,14 @@ use Rattle.std.proofs.Common.{◌≡◌, ℕ, ◌⊎◌, true, false, ◌||◌, 
 use Rattle.std.specs.Char.{is_ascii_alphabetic, is_ascii_digit}
 use Rattle.std.proofs.lemmas.Bool.{cases_Bool, eqb-true}
 use Rattle.std.proofs.lemmas.List.{take-append-drop}
-use Rattle.hippo_values.specs.Names.{is_word_byte}
+use Rattle.hippo_values.specs.Names.{is_word_byte, keyword_of}
 use Rattle.hippo_values.specs.Dates.{IsDayText}
-use Rattle.hippo_lexer.specs.declared.kinds.Keyword.{Keyword}
-use Rattle.hippo_lexer.specs.declared.kinds.Keyword.TheVariants.{KDate}
+use Rattle.hippo_values.specs.declared.keywords.Keyword.{Keyword}
+use Rattle.hippo_values.specs.declared.keywords.Keyword.TheVariants.{KDate}
 use Rattle.hippo_lexer.specs.declared.kinds.TokenKind.{TokenKind}
 use Rattle.hippo_lexer.specs.declared.faults.LexFault.{LexFault}
-use Rattle.hippo_lexer.specs.Spelling.{is_blank, is_quote, is_minus, begins_with, keyword_of}
-use Rattle.hippo_lexer.specs.Reading.{word_len, blanks_len, day_of}
+use Rattle.hippo_lexer.specs.Spelling.{is_blank, is_quote, is_minus, begins_with}
+use Rattle.hippo_lexer.specs.Cutting.{word_len, blanks_len, day_of}
 use Rattle.hippo_lexer.specs.Grammar.{IsToken, a_keyword, a_refused_word, a_name, a_number, a_quoted_text, a_day, a_sign, IsFault, long_word, letter_behind, large, lone_minus, unclosed, no_day, stray, IsWholeWord, OpensDay, quoted}
 use Rattle.hippo_lexer.proofs.DayLemmas.{day_of-found, day_of-none}
 use Rattle.hippo_lexer.proofs.NumeralLemmas.{number_or_minus, in_range_or_not}

@@ -10,7 +10,7 @@ use Rattle.std.proofs.lemmas.List.Sums.{prefix_len_passes, prefix_len-le-length}
 use Rattle.std.proofs.lemmas.Str.{IsCharBoundary-start, IsCharBoundary-after_ascii}
 use Rattle.hippo_values.specs.Names.{is_word_byte}
 use Rattle.hippo_lexer.specs.Spelling.{is_blank, is_minus}
-use Rattle.hippo_lexer.specs.Reading.{word_len, digits_len, blanks_len, sign_len, number_len, IsNumeral}
+use Rattle.hippo_lexer.specs.Cutting.{word_len, digits_len, blanks_len, sign_len, number_len, IsNumeral}
 
 -- a text may be cut behind bytes of ASCII
 pub boundary-ascii : (bytes : List ℕ) (n : ℕ) → IsUtf8 bytes → n ≤ length bytes → (0 < n → get_or bytes (n - 1) 0 < 128) → IsCharBoundary bytes n

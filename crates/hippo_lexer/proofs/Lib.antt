@@ -12,7 +12,7 @@ pub mod DayLemmas
 pub mod TokenLemmas
 pub mod OutcomeLemmas
 pub mod SpanLemmas
-pub mod ReadLemmas
+pub mod CutLemmas
 pub mod RunLemmas
 pub mod FirstLemmas
 pub mod EdgeLemmas

@@ -7,7 +7,7 @@ use Rattle.std.specs.Str.Parse.{ParsesSigned, digits_value}
 use Rattle.std.proofs.lemmas.Bool.{cases_Bool, eqb-true, leb-true, le-leb, ltb-true, lt-ltb}
 use Rattle.std.proofs.lemmas.Str.Parse.{IsNumeralModel, numerals_by_value, parse_signed_minus, parse_signed_digits}
 use Rattle.hippo_lexer.specs.Spelling.{is_minus}
-use Rattle.hippo_lexer.specs.Reading.{number_of, IsNumeral}
+use Rattle.hippo_lexer.specs.Cutting.{number_of, IsNumeral}
 
 digits : IsNumeralModel (λ ds. list_all is_ascii_digit ds ≡ true) (digits_value 10)
 digits = numerals_by_value (λ ds. list_all is_ascii_digit ds ≡ true) (search rules)

@@ -11,7 +11,7 @@ use Rattle.hippo_values.specs.Names.{is_word_byte}
 use Rattle.hippo_lexer.specs.declared.kinds.TokenKind.TheVariants as kinds
 use Rattle.hippo_lexer.specs.declared.faults.LexFault.TheVariants as faults
 use Rattle.hippo_lexer.specs.Spelling.{is_minus, begins_with}
-use Rattle.hippo_lexer.specs.Reading.{digits_len, sign_len, number_len, number_of, number_first, ◌>>=◌}
+use Rattle.hippo_lexer.specs.Cutting.{digits_len, sign_len, number_len, number_of, number_first, ◌>>=◌}
 use Rattle.hippo_lexer.specs.Grammar.{AreDigits, IsNumber, plain, negative, IsInRange}
 use Rattle.hippo_lexer.proofs.PrefixLemmas.{all-front, ends-front, len-front}
 
@@ -64,7 +64,7 @@ negative_choice n number value = elim (cases_lt (2 ^ 63) n) [
       (λ _. rw (le-leb n (2 ^ 63) small) (ap Some (sym value)), λ large. absurd (large fits))
 ]
 
--- a number's value is what the reader makes of its text
+-- a number's value is what the cut makes of its text
 plain_value : (digits : List ℕ) (number : ℤ) → AreDigits digits → number ≡ pos (digits_value 10 digits) → (IsInRange number → number_of digits ≡ Some number) × (¬ (IsInRange number) → number_of digits ≡ None)
 unfolding number_of
 plain_value [] number are value = absurd (omega (arith, are.0))
@@ -89,7 +89,7 @@ in_range_or_not (negsuc n) = elim (cases_lt n (2 ^ 63)) [
   | inr big ↦ inr (λ fits. absurd (omega (arith, ints, fits.0)))
 ]
 
--- what the reader says of a number
+-- what the cut says of a number
 number_step : (place : ℕ) (text rest : List ℕ) (number : ℤ) → IsNumber text number → begins_with is_ascii_digit rest ≡ false → number_first place (text ++ rest) ≡ (ok_or (number_of text) (faults.NumberTooLarge place) >>= λ n. if begins_with is_word_byte rest then Err (faults.BadToken (place + length text)) else Ok (kinds.Number n, length text))
 unfolding number_first
 number_step place text rest number h ends =

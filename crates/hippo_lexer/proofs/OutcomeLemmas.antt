@@ -5,9 +5,9 @@ use Rattle.std.specs.List.{AllPairs}
 use Rattle.hippo_lexer.specs.declared.kinds.Token.{Token}
 use Rattle.hippo_lexer.specs.declared.faults.LexFault.{LexFault}
 use Rattle.hippo_lexer.specs.declared.faults.LexFault.TheVariants as faults
-use Rattle.hippo_lexer.specs.Reading.{Gives, Fails, outcome_of}
+use Rattle.hippo_lexer.specs.Cutting.{Gives, Fails, outcome_of}
 use Rattle.hippo_lexer.specs.Grammar.{IsOutcome, IsOnlyOutcome, IsSpan}
-use Rattle.hippo_lexer.proofs.RunLemmas.{reading-is, outcome_is}
+use Rattle.hippo_lexer.proofs.RunLemmas.{cut-is, outcome_is}
 use Rattle.hippo_lexer.proofs.SpanLemmas.{spans-of, order-of}
 
 abbrev Outcome : Type 0
@@ -16,7 +16,7 @@ Outcome = Result (List Token) LexFault
 -- a text has one outcome
 pub outcome-one : (text : List ℕ) → IsOnlyOutcome text (outcome_of text)
 unfolding outcome_of
-outcome-one text = (outcome_is text, λ other h. sym (reading-is 0 text other h))
+outcome-one text = (outcome_is text, λ other h. sym (cut-is 0 text other h))
 
 is_outcome : (text : List ℕ) (outcome : Outcome) → outcome_of text ≡ outcome → IsOutcome text outcome
 is_outcome text outcome same = rw same at (outcome-one text).0
@@ -44,7 +44,7 @@ same_or_memory text (Err (faults.NumberTooLarge place)) h = inl (sym h)
 same_or_memory text (Err (faults.BadDate place)) h = inl (sym h)
 
 pub answer-only : (text : List ℕ) (answer outcome : Outcome) → Gives answer (outcome_of text) → IsOutcome text outcome → (answer ≡ outcome) ⊎ (answer ≡ Err faults.Memory)
-answer-only text answer outcome h read = rw ((outcome-one text).1 outcome read) (same_or_memory text answer h)
+answer-only text answer outcome h is_cut = rw ((outcome-one text).1 outcome is_cut) (same_or_memory text answer h)
 
 pub answer-spans : (text : List ℕ) (answer : Outcome) → IsUtf8 text → Gives answer (outcome_of text) → IfOk answer (All (IsSpan text))
 answer-spans text (Ok tokens) utf8 h = spans-of text tokens utf8 (is_outcome text (Ok tokens) h)

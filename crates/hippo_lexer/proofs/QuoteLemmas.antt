@@ -3,7 +3,7 @@ use Rattle.std.proofs.Common.{◌≡◌, ◌≢◌, ℕ, suc, ◌+◌, ◌-◌, 
 use Rattle.std.proofs.lemmas.List.{append_assoc, append-nil, length-append}
 use Rattle.std.proofs.lemmas.Bool.{ne_eqb}
 use Rattle.hippo_lexer.specs.Spelling.{is_quote, begins_with}
-use Rattle.hippo_lexer.specs.Reading.{closing, onto, quoted_first}
+use Rattle.hippo_lexer.specs.Cutting.{closing, onto, quoted_first}
 
 -- a byte that is no quote is part of the text
 pub closing-other : (byte : ℕ) (rest : List ℕ) → is_quote byte ≡ false → closing (byte ∷ rest) ≡ onto (byte ∷ []) 1 (closing rest)
@@ -51,7 +51,7 @@ pub closing-none : (bytes : List ℕ) → ((i : ℕ) → i < length bytes → ge
 closing-none bytes h =
     ap closing (sym (append-nil bytes)) ∙ (closing-run bytes [] h ∙ ap (onto bytes (length bytes)) closing-nil)
 
--- one step of the reader: a run, and then two quotes
+-- one step of the cut: a run, and then two quotes
 pub closing-step : (front run next : List ℕ) (n : ℕ) → ((i : ℕ) → i < length run → get_or run i 0 ≢ 39) → onto front n (closing (run ++ 39 ∷ 39 ∷ next)) ≡ onto (front ++ run ++ 39 ∷ []) (n + length run + 2) (closing next)
 closing-step front run next n h =
     ap (onto front n) (closing-run run (39 ∷ 39 ∷ next) h ∙ ap (onto run (length run)) (closing-two next))
@@ -68,7 +68,7 @@ pub single : (rest : List ℕ) → ((more : List ℕ) → rest ≢ 39 ∷ more) 
 single [] h = refl
 single (byte ∷ rest) h = ne_eqb byte 39 (λ e. h rest (ap (λ b. b ∷ rest) e))
 
--- The reader returns: a run and a single quote stand in what is left.
+-- The cut returns: a run and a single quote stand in what is left.
 pub closing-found : (text run after rest behind : List ℕ) → length rest ≤ length behind → onto text (length behind - length rest) (closing rest) ≡ closing behind → rest ≡ run ++ 39 ∷ after → ((i : ℕ) → i < length run → get_or run i 0 ≢ 39) → ((more : List ℕ) → after ≢ 39 ∷ more) → Some (text ++ run, length behind - length after) ≡ closing behind
 closing-found text run after rest behind within told split none last =
     let count : length behind - length rest + length run + 1 ≡ length behind - length after = omega (arith, simp length-append at (ap length split)) in
@@ -76,7 +76,7 @@ closing-found text run after rest behind within told split none last =
     ∙ (sym (closing-last text run after (length behind - length rest) none (single after last))
     ∙ (ap (λ bytes. onto text (length behind - length rest) (closing bytes)) (sym split) ∙ told))
 
--- The reader goes on: a run and two quotes stand there.
+-- The cut goes on: a run and two quotes stand there.
 pub closing-more : (text run next rest behind : List ℕ) → length rest ≤ length behind → onto text (length behind - length rest) (closing rest) ≡ closing behind → rest ≡ run ++ 39 ∷ 39 ∷ next → ((i : ℕ) → i < length run → get_or run i 0 ≢ 39) → onto (text ++ run ++ 39 ∷ []) (length behind - length next) (closing next) ≡ closing behind
 closing-more text run next rest behind within told split none =
     let count : length behind - length rest + length run + 2 ≡ length behind - length next = omega (arith, simp length-append at (ap length split)) in

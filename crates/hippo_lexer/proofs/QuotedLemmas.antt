@@ -3,7 +3,7 @@ use Rattle.std.proofs.Common.{◌≡◌, ℕ, suc, ◌+◌, ◌⊎◌, false, Li
 use Rattle.std.proofs.lemmas.Bool.{cases_Bool, eqb-true}
 use Rattle.std.proofs.lemmas.List.{append_assoc, length-append}
 use Rattle.hippo_lexer.specs.Spelling.{is_quote, begins_with, doubled}
-use Rattle.hippo_lexer.specs.Reading.{closing, onto, quoted_first}
+use Rattle.hippo_lexer.specs.Cutting.{closing, onto, quoted_first}
 use Rattle.hippo_lexer.specs.Grammar.{quoted}
 use Rattle.hippo_lexer.proofs.QuoteLemmas.{closing-other, closing-two, closing-end, closing-nil}
 
@@ -58,7 +58,7 @@ closes_or_not (byte ∷ next ∷ rest) = elim (cases_Bool (is_quote byte)) [
   | inr other ↦ more_other byte (next ∷ rest) other (closes_or_not (next ∷ rest))
 ]
 
--- the reader finds a quoted text by its spelling
+-- the cut finds a quoted text by its spelling
 pub quoted_first-is : (text rest : List ℕ) → begins_with is_quote rest ≡ false → quoted_first (quoted text ++ rest) ≡ Some (text, length (quoted text))
 unfolding quoted_first
 quoted_first-is text rest ends =

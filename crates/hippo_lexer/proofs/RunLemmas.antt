@@ -1,4 +1,4 @@
--- The reader's outcome is the grammar's, for each text.
+-- The cut's outcome is the grammar's, for each text.
 use Rattle.std.proofs.Common.{◌≡◌, ℕ, zero, suc, ◌+◌, ◌-◌, ◌<◌, ◌≤◌, false, List, [], ◌∷◌, ◌++◌, length, Result, Ok, Err, refl, sym, ap, ◌∙◌, inl, inr, arith}
 use Rattle.std.proofs.lemmas.Bool.{cases_Bool}
 use Rattle.std.proofs.lemmas.List.{length-append}
@@ -6,8 +6,8 @@ use Rattle.hippo_lexer.specs.declared.kinds.TokenKind.{TokenKind}
 use Rattle.hippo_lexer.specs.declared.kinds.Token.{Token}
 use Rattle.hippo_lexer.specs.declared.faults.LexFault.{LexFault}
 use Rattle.hippo_lexer.specs.Spelling.{is_blank}
-use Rattle.hippo_lexer.specs.Reading.{token_first, tokens_from, with_front}
-use Rattle.hippo_lexer.specs.Grammar.{IsReading, at_end, at_blank, at_token, at_fault, with_first, IsOutcome}
+use Rattle.hippo_lexer.specs.Cutting.{token_first, tokens_from, with_front}
+use Rattle.hippo_lexer.specs.Grammar.{IsCut, at_end, at_blank, at_token, at_fault, with_first, IsOutcome}
 use Rattle.hippo_lexer.proofs.EdgeLemmas.{BeginsPlain, token_begins, fault_begins}
 use Rattle.hippo_lexer.proofs.FirstLemmas.{token_or_fault}
 use Rattle.hippo_lexer.proofs.TokenLemmas.{token-is, fault-is}
@@ -42,34 +42,34 @@ pub tokens_from-fault : (place byte : ℕ) (rest : List ℕ) (fault : LexFault) 
 unfolding tokens_from
 tokens_from-fault place byte rest fault blank first = rw (blank, first) refl
 
--- what the grammar has comes of the reader
-pub reading-is : (place : ℕ) (bytes : List ℕ) (outcome : Result (List Token) LexFault) → IsReading place bytes outcome → tokens_from place 0 bytes ≡ outcome
+-- what the grammar has comes of the cut
+pub cut-is : (place : ℕ) (bytes : List ℕ) (outcome : Result (List Token) LexFault) → IsCut place bytes outcome → tokens_from place 0 bytes ≡ outcome
 unfolding tokens_from
-reading-is place bytes outcome (at_end _) = refl
-reading-is place bytes outcome (at_blank _ byte rest _ h later) = rw h (reading-is (place + 1) rest outcome later)
-reading-is place bytes outcome (at_token _ _ text rest kind later _ h read cut first) =
+cut-is place bytes outcome (at_end _) = refl
+cut-is place bytes outcome (at_blank _ byte rest _ h later) = rw h (cut-is (place + 1) rest outcome later)
+cut-is place bytes outcome (at_token _ _ text rest kind later _ h is_cut cut first) =
     tokens_from-token place bytes text rest kind (token_begins text rest kind h) cut (ap (token_first place) cut ∙ token-is place text rest kind h)
-    ∙ (ap (with_first _) (reading-is (place + length text) rest later read) ∙ sym first)
-reading-is place bytes outcome (at_fault _ _ fault h) =
+    ∙ (ap (with_first _) (cut-is (place + length text) rest later is_cut) ∙ sym first)
+cut-is place bytes outcome (at_fault _ _ fault h) =
     let begins = fault_begins place bytes fault h in
     let here = rw begins.2 at (fault-is place bytes fault h) in
     rw begins.2 (tokens_from-fault place begins.0 begins.1 fault begins.3 here)
 
 -- each text has an outcome
-abbrev HasReading : ℕ → List ℕ → Type 0
-HasReading place bytes = (outcome : Result (List Token) LexFault) × IsReading place bytes outcome
+abbrev HasCut : ℕ → List ℕ → Type 0
+HasCut place bytes = (outcome : Result (List Token) LexFault) × IsCut place bytes outcome
 
-reading_within : (n place : ℕ) (bytes : List ℕ) → length bytes ≤ n → HasReading place bytes
-reading_within n place [] small = (Ok [], at_end place)
-reading_within zero place (byte ∷ rest) small = absurd (omega arith)
-reading_within (suc n) place (byte ∷ rest) small = elim (cases_Bool (is_blank byte)) [
-  | inl h ↦ let later = reading_within n (place + 1) rest (omega arith) in (later.0, at_blank place byte rest later.0 h later.1)
+cut_within : (n place : ℕ) (bytes : List ℕ) → length bytes ≤ n → HasCut place bytes
+cut_within n place [] small = (Ok [], at_end place)
+cut_within zero place (byte ∷ rest) small = absurd (omega arith)
+cut_within (suc n) place (byte ∷ rest) small = elim (cases_Bool (is_blank byte)) [
+  | inl h ↦ let later = cut_within n (place + 1) rest (omega arith) in (later.0, at_blank place byte rest later.0 h later.1)
   | inr h ↦ elim (token_or_fault place byte rest h) [
     | inl found ↦
         let begins = token_begins found.0 found.1 found.2 found.4 in
         let cut : suc (length rest) ≡ length found.0 + length found.1 = simp length-append at (ap length found.3) in
         let some : 0 < length found.0 = rw begins.parts (omega arith) in
-        let later = reading_within n (place + length found.0) found.1 (omega arith) in
+        let later = cut_within n (place + length found.0) found.1 (omega arith) in
         (_, at_token place (byte ∷ rest) found.0 found.1 found.2 later.0 _ found.4 later.1 found.3 refl)
     | inr found ↦ (Err found.0, at_fault place (byte ∷ rest) found.0 found.1)
   ]
@@ -77,4 +77,4 @@ reading_within (suc n) place (byte ∷ rest) small = elim (cases_Bool (is_blank 
 
 -- the outcome of a text, and there is no other
 pub outcome_is : (text : List ℕ) → IsOutcome text (tokens_from 0 0 text)
-outcome_is text = let read = reading_within (length text) 0 text (omega arith) in rw (reading-is 0 text read.0 read.1) read.1
+outcome_is text = let is_cut = cut_within (length text) 0 text (omega arith) in rw (cut-is 0 text is_cut.0 is_cut.1) is_cut.1

@@ -8,7 +8,7 @@ use Rattle.std.proofs.lemmas.Bool.{cases_Bool, and_parts, ltb-true}
 use Rattle.std.proofs.lemmas.Slice.Eq.{bytes_eq-Decides}
 use Rattle.hippo_lexer.specs.declared.kinds.Symbol.{Symbol}
 use Rattle.hippo_lexer.specs.Spelling.{is_blank, is_quote, is_minus, begins_with, sign_table, sign_of}
-use Rattle.hippo_lexer.specs.Reading.{sign_first}
+use Rattle.hippo_lexer.specs.Cutting.{sign_first}
 use Rattle.hippo_lexer.specs.Grammar.{IsLongestSign}
 
 -- what holds of each text in a table holds of one that is found there
@@ -45,7 +45,7 @@ not_long : (text : List ℕ) (o : Option Symbol) → sign_of text ≡ o → 2 < 
 not_long text None h long = refl
 not_long text (Some sign) h long = let short = (sign-short text sign h).1 in absurd (omega arith)
 
--- the reader finds a sign by the grammar
+-- the cut finds a sign by the grammar
 pub sign_first-is : (text rest : List ℕ) (sign : Symbol) → sign_of text ≡ Some sign → IsLongestSign text rest → sign_first (text ++ rest) ≡ Some (sign, length text)
 unfolding sign_first
 sign_first-is [] rest sign h longest = let short = (sign-short [] sign h).0 in absurd (omega arith)

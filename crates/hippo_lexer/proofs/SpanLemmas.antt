@@ -10,7 +10,7 @@ use Rattle.std.proofs.lemmas.Str.{IsCharBoundary-before_ascii}
 use Rattle.hippo_lexer.specs.declared.kinds.TokenKind.{TokenKind}
 use Rattle.hippo_lexer.specs.declared.kinds.Token.{Token}
 use Rattle.hippo_lexer.specs.declared.faults.LexFault.{LexFault}
-use Rattle.hippo_lexer.specs.Grammar.{IsReading, at_end, at_blank, at_token, at_fault, with_first, IsOutcome, IsSpan}
+use Rattle.hippo_lexer.specs.Grammar.{IsCut, at_end, at_blank, at_token, at_fault, with_first, IsOutcome, IsSpan}
 use Rattle.hippo_lexer.proofs.EdgeLemmas.{BeginsPlain, EndsPlain, token_begins, token_ends}
 use Rattle.hippo_lexer.proofs.FrontLemmas.{boundary-ascii}
 
@@ -46,14 +46,14 @@ earlier_outcome : (text : List ℕ) (place : ℕ) (outcome : Result (List Token)
 earlier_outcome text place (Ok tokens) h = earlier text place tokens h
 earlier_outcome text place (Err fault) h = tt
 
-in_order : (text front : List ℕ) (place : ℕ) (bytes : List ℕ) (outcome : Result (List Token) LexFault) → IsUtf8 text → text ≡ front ++ bytes → length front ≡ place → IsReading place bytes outcome → IfOk outcome (InOrder text place)
+in_order : (text front : List ℕ) (place : ℕ) (bytes : List ℕ) (outcome : Result (List Token) LexFault) → IsUtf8 text → text ≡ front ++ bytes → length front ≡ place → IsCut place bytes outcome → IfOk outcome (InOrder text place)
 in_order text front place bytes outcome utf8 parts size (at_end _) = tt
 in_order text front place bytes outcome utf8 parts size (at_blank _ byte rest _ h later) =
     earlier_outcome text place outcome (in_order text (front ++ byte ∷ []) (place + 1) rest outcome utf8 (parts ∙ sym (append_assoc front (byte ∷ []) rest)) (simp length-append (omega arith)) later)
-in_order text front place bytes outcome utf8 parts size (at_token _ _ said rest kind later _ h read cut first) =
+in_order text front place bytes outcome utf8 parts size (at_token _ _ said rest kind later _ h is_cut cut first) =
     let there = parts ∙ ap (λ b. front ++ b) cut in
     let span = span_there text front said rest place kind utf8 there size (token_begins said rest kind h) (token_ends said rest kind h) in
-    let behind = in_order text (front ++ said) (place + length said) rest later utf8 (there ∙ sym (append_assoc front said rest)) (simp length-append (omega arith)) read in
+    let behind = in_order text (front ++ said) (place + length said) rest later utf8 (there ∙ sym (append_assoc front said rest)) (simp length-append (omega arith)) is_cut in
     more_tokens text place _ later outcome (omega arith) span behind first
 in_order text front place bytes outcome utf8 parts size (at_fault _ _ fault h) = tt
 
@@ -72,7 +72,7 @@ pairs_in_order text place (token ∷ tokens) h =
     AllPairs-cons (λ a b. a.end ≤ b.start) token tokens (All-from_recursion (λ b. token.end ≤ b.start) tokens (starts_behind text token.end token.end tokens (omega arith) h.2)) (pairs_in_order text token.end tokens h.2)
 
 pub spans-of : (text : List ℕ) (tokens : List Token) → IsUtf8 text → IsOutcome text (Ok tokens) → All (IsSpan text) tokens
-spans-of text tokens utf8 read = All-from_recursion (IsSpan text) tokens (spans_by_recursion text 0 tokens (in_order text [] 0 text (Ok tokens) utf8 refl refl read))
+spans-of text tokens utf8 is_cut = All-from_recursion (IsSpan text) tokens (spans_by_recursion text 0 tokens (in_order text [] 0 text (Ok tokens) utf8 refl refl is_cut))
 
 pub order-of : (text : List ℕ) (tokens : List Token) → IsUtf8 text → IsOutcome text (Ok tokens) → AllPairs (λ a b. a.end ≤ b.start) tokens
-order-of text tokens utf8 read = pairs_in_order text 0 tokens (in_order text [] 0 text (Ok tokens) utf8 refl refl read)
+order-of text tokens utf8 is_cut = pairs_in_order text 0 tokens (in_order text [] 0 text (Ok tokens) utf8 refl refl is_cut)

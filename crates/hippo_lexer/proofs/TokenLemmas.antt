@@ -1,18 +1,18 @@
--- What stands first in a text, by the grammar and by the reader.
+-- What stands first in a text, by the grammar and by the cut.
 use Rattle.std.proofs.Common.{◌≡◌, ℕ, ◌+◌, true, false, not, ◌&&◌, ◌||◌, List, [], ◌∷◌, ◌++◌, length, Some, Ok, Err, ok_or, if◌then◌else◌, ℤ, refl, sym, ap, ◌∙◌, arith}
 use Rattle.std.specs.Char.{is_ascii_alphabetic, is_ascii_digit}
 use Rattle.std.proofs.lemmas.Bool.{and_parts, both_ways, not-true}
 use Rattle.std.proofs.lemmas.List.{append_assoc, length-append}
 use Rattle.hippo_values.specs.Dates.{IsDayText}
-use Rattle.hippo_lexer.specs.declared.kinds.Keyword.{Keyword}
-use Rattle.hippo_lexer.specs.declared.kinds.Keyword.TheVariants.{KDate}
+use Rattle.hippo_values.specs.declared.keywords.Keyword.{Keyword}
+use Rattle.hippo_values.specs.declared.keywords.Keyword.TheVariants.{KDate}
 use Rattle.hippo_lexer.specs.declared.kinds.Symbol.{Symbol}
 use Rattle.hippo_lexer.specs.declared.kinds.TokenKind.{TokenKind}
 use Rattle.hippo_lexer.specs.declared.kinds.TokenKind.TheVariants as kinds
 use Rattle.hippo_lexer.specs.declared.faults.LexFault.{LexFault}
 use Rattle.hippo_lexer.specs.declared.faults.LexFault.TheVariants as faults
 use Rattle.hippo_lexer.specs.Spelling.{is_blank, is_quote, is_minus, begins_with, sign_of}
-use Rattle.hippo_lexer.specs.Reading.{◌>>=◌, word_kind, is_date, day_first, date_first, word_first, number_first, quoted_first, sign_first, token_first}
+use Rattle.hippo_lexer.specs.Cutting.{◌>>=◌, word_kind, is_date, day_first, date_first, word_first, number_first, quoted_first, sign_first, token_first}
 use Rattle.hippo_lexer.specs.Grammar.{IsToken, a_keyword, a_refused_word, a_name, a_number, a_quoted_text, a_day, a_sign, IsFault, long_word, letter_behind, large, lone_minus, unclosed, no_day, stray, IsNumber, IsWholeWord, IsQuotedBehind, OpensDay, quoted}
 use Rattle.hippo_lexer.proofs.DayLemmas.{day_of-day, day_of-no_day}
 use Rattle.hippo_lexer.proofs.NumeralLemmas.{number_begins, number-token, number-letter, number-large, lone-minus}
@@ -21,7 +21,7 @@ use Rattle.hippo_lexer.proofs.SignLemmas.{sign-begins, sign_first-is, no_sign}
 use Rattle.hippo_lexer.proofs.WholeLemmas.{whole-begins, word_step, date-day, date-alone}
 use Rattle.hippo_lexer.proofs.WordLemmas.{kind-keyword, kind-refused, kind-name, kind-long}
 
--- Which reader the first byte chooses.
+-- Which part the first byte chooses.
 letter_first : (place : ℕ) (bytes : List ℕ) → begins_with is_ascii_alphabetic bytes ≡ true → token_first place bytes ≡ word_first place bytes
 unfolding token_first
 letter_first place bytes letter = rw letter refl
@@ -38,22 +38,22 @@ sign_chosen : (place byte : ℕ) (rest : List ℕ) → is_ascii_alphabetic byte 
 unfolding token_first
 sign_chosen place byte rest letter numeral quote = rw (letter, numeral, quote) refl
 
-number_reads : (place : ℕ) (text rest : List ℕ) (number : ℤ) → IsNumber text number → token_first place (text ++ rest) ≡ number_first place (text ++ rest)
-number_reads place text rest number h =
+number_cut : (place : ℕ) (text rest : List ℕ) (number : ℤ) → IsNumber text number → token_first place (text ++ rest) ≡ number_first place (text ++ rest)
+number_cut place text rest number h =
     let begins = number_begins text number h in
     rw begins.2 (number_chosen place begins.0 (begins.1 ++ rest) begins.3 begins.4)
 
--- The reader finds the token that the grammar has.
+-- The cut finds the token that the grammar has.
 keyword_end : (place n : ℕ) (rest : List ℕ) (keyword : Keyword) → (keyword ≡ KDate → (blanks text more : List ℕ) → ¬ (IsQuotedBehind rest blanks text more)) → (if is_date (kinds.Keyword keyword) then date_first place n rest else Ok (kinds.Keyword keyword, n)) ≡ Ok (kinds.Keyword keyword, n)
 keyword_end place n rest KDate alone = date-alone place n rest (alone refl)
 keyword_end place n rest _ alone = refl
 
-word_reads : (place : ℕ) (word rest : List ℕ) → IsWholeWord word rest → token_first place (word ++ rest) ≡ (ok_or (word_kind word) (faults.BadToken place) >>= λ kind. if is_date kind then date_first place (length word) rest else Ok (kind, length word))
-word_reads place word rest h = letter_first place (word ++ rest) (whole-begins word rest h) ∙ word_step place word rest h
+word_cut : (place : ℕ) (word rest : List ℕ) → IsWholeWord word rest → token_first place (word ++ rest) ≡ (ok_or (word_kind word) (faults.BadToken place) >>= λ kind. if is_date kind then date_first place (length word) rest else Ok (kind, length word))
+word_cut place word rest h = letter_first place (word ++ rest) (whole-begins word rest h) ∙ word_step place word rest h
 
-day_reads : (place : ℕ) (word behind blanks text rest : List ℕ) → OpensDay word behind blanks text rest → token_first place (word ++ behind) ≡ day_first place (length word + length blanks) (text, length (quoted text))
-day_reads place word behind blanks text rest h =
-    word_reads place word behind h.whole ∙ rw (kind-keyword word KDate h.date) (date-day place (length word) behind blanks text rest h.quotation)
+day_cut : (place : ℕ) (word behind blanks text rest : List ℕ) → OpensDay word behind blanks text rest → token_first place (word ++ behind) ≡ day_first place (length word + length blanks) (text, length (quoted text))
+day_cut place word behind blanks text rest h =
+    word_cut place word behind h.whole ∙ rw (kind-keyword word KDate h.date) (date-day place (length word) behind blanks text rest h.quotation)
 
 parts_of : (byte : ℕ) → (not (is_ascii_alphabetic byte) && not (is_ascii_digit byte) && not (is_minus byte) && not (is_quote byte) && not (is_blank byte)) ≡ true → (is_ascii_alphabetic byte ≡ false) × ((is_ascii_digit byte || is_minus byte) ≡ false) × (is_quote byte ≡ false) × (is_blank byte ≡ false)
 parts_of byte h =
@@ -63,14 +63,14 @@ parts_of byte h =
     let one = and_parts _ _ two.0 in
     (not-true _ one.0, rw (not-true _ one.1) (not-true _ two.1), not-true _ three.1, not-true _ four.1)
 
-sign_reads : (place : ℕ) (text rest : List ℕ) (sign : Symbol) → sign_of text ≡ Some sign → token_first place (text ++ rest) ≡ (ok_or (sign_first (text ++ rest)) (faults.BadToken place) >>= λ found. Ok (kinds.Symbol found.0, found.1))
-sign_reads place [] rest sign h = absurd (both_ways _ refl (sign-begins [] sign h))
-sign_reads place (byte ∷ text) rest sign h =
+sign_cut : (place : ℕ) (text rest : List ℕ) (sign : Symbol) → sign_of text ≡ Some sign → token_first place (text ++ rest) ≡ (ok_or (sign_first (text ++ rest)) (faults.BadToken place) >>= λ found. Ok (kinds.Symbol found.0, found.1))
+sign_cut place [] rest sign h = absurd (both_ways _ refl (sign-begins [] sign h))
+sign_cut place (byte ∷ text) rest sign h =
     let parts = parts_of byte (sign-begins (byte ∷ text) sign h) in
     sign_chosen place byte (text ++ rest) parts.0 parts.1 parts.2
 
-quoted_reads : (place : ℕ) (text rest : List ℕ) → begins_with is_quote rest ≡ false → token_first place (quoted text ++ rest) ≡ Ok (kinds.Quoted text, length (quoted text))
-quoted_reads place text rest ends = quote_chosen place _ ∙ rw (quoted_first-is text rest ends) refl
+quoted_cut : (place : ℕ) (text rest : List ℕ) → begins_with is_quote rest ≡ false → token_first place (quoted text ++ rest) ≡ Ok (kinds.Quoted text, length (quoted text))
+quoted_cut place text rest ends = quote_chosen place _ ∙ rw (quoted_first-is text rest ends) refl
 
 -- a day's text, and what stands behind it, in two groupings
 pub regrouped : (word blanks said rest behind written : List ℕ) → behind ≡ blanks ++ (said ++ rest) → written ≡ word ++ (blanks ++ said) → written ++ rest ≡ word ++ behind
@@ -85,16 +85,16 @@ unfolding day_first
 day_found place n text m day h = rw (day_of-day text day h) refl
 
 pub token-is : (place : ℕ) (text rest : List ℕ) (kind : TokenKind) → IsToken text kind rest → token_first place (text ++ rest) ≡ Ok (kind, length text)
-token-is place text rest kind (a_keyword _ _ keyword whole found alone) = word_reads place text rest whole ∙ rw (kind-keyword text keyword found) (keyword_end place (length text) rest keyword alone)
-token-is place text rest kind (a_refused_word _ _ whole among) = word_reads place text rest whole ∙ rw (kind-refused text among) refl
-token-is place text rest kind (a_name _ _ whole form) = word_reads place text rest whole ∙ rw (kind-name text form) refl
-token-is place text rest kind (a_number _ _ number h fits ends) = number_reads place text rest number h ∙ number-token place text rest number h fits ends
-token-is place text rest kind (a_quoted_text _ said _ spelled ends) = rw spelled (quoted_reads place said rest ends)
+token-is place text rest kind (a_keyword _ _ keyword whole found alone) = word_cut place text rest whole ∙ rw (kind-keyword text keyword found) (keyword_end place (length text) rest keyword alone)
+token-is place text rest kind (a_refused_word _ _ whole among) = word_cut place text rest whole ∙ rw (kind-refused text among) refl
+token-is place text rest kind (a_name _ _ whole form) = word_cut place text rest whole ∙ rw (kind-name text form) refl
+token-is place text rest kind (a_number _ _ number h fits ends) = number_cut place text rest number h ∙ number-token place text rest number h fits ends
+token-is place text rest kind (a_quoted_text _ said _ spelled ends) = rw spelled (quoted_cut place said rest ends)
 token-is place text rest kind (a_day _ word behind blanks said _ day opens is_day spelled) =
     let whole = regrouped word blanks (quoted said) rest behind text opens.quotation.parts spelled in
     let len = day_len word blanks (quoted said) text spelled in
-    ap (token_first place) whole ∙ (day_reads place word behind blanks said rest opens ∙ (day_found place _ said _ day is_day ∙ ap (λ n. Ok (kinds.Day day, n)) len))
-token-is place text rest kind (a_sign _ _ sign h longest) = sign_reads place text rest sign h ∙ rw (sign_first-is text rest sign h longest) refl
+    ap (token_first place) whole ∙ (day_cut place word behind blanks said rest opens ∙ (day_found place _ said _ day is_day ∙ ap (λ n. Ok (kinds.Day day, n)) len))
+token-is place text rest kind (a_sign _ _ sign h longest) = sign_cut place text rest sign h ∙ rw (sign_first-is text rest sign h longest) refl
 
 day_missing : (place n : ℕ) (text : List ℕ) (m : ℕ) → ((day : ℤ) → ¬ (IsDayText text day)) → day_first place n (text, m) ≡ Err (faults.BadDate place)
 unfolding day_first
@@ -102,14 +102,14 @@ day_missing place n text m none = rw (day_of-no_day text none) refl
 
 -- And the fault.
 pub fault-is : (place : ℕ) (bytes : List ℕ) (fault : LexFault) → IsFault place bytes fault → token_first place bytes ≡ Err fault
-fault-is place bytes fault (long_word _ _ word rest whole long spelled) = ap (token_first place) spelled ∙ (word_reads place word rest whole ∙ rw (kind-long word long) refl)
+fault-is place bytes fault (long_word _ _ word rest whole long spelled) = ap (token_first place) spelled ∙ (word_cut place word rest whole ∙ rw (kind-long word long) refl)
 fault-is place bytes fault (letter_behind _ at _ text rest number h fits ends letter spelled there) =
-    ap (token_first place) spelled ∙ (number_reads place text rest number h ∙ (number-letter place text rest number h fits ends letter ∙ ap (λ n. Err (faults.BadToken n)) (sym there)))
+    ap (token_first place) spelled ∙ (number_cut place text rest number h ∙ (number-letter place text rest number h fits ends letter ∙ ap (λ n. Err (faults.BadToken n)) (sym there)))
 fault-is place bytes fault (large _ _ text rest number h too_large ends spelled) =
-    ap (token_first place) spelled ∙ (number_reads place text rest number h ∙ number-large place text rest number h too_large ends)
+    ap (token_first place) spelled ∙ (number_cut place text rest number h ∙ number-large place text rest number h too_large ends)
 fault-is place bytes fault (lone_minus _ _ rest none spelled) = ap (token_first place) spelled ∙ (number_chosen place 45 rest refl refl ∙ lone-minus place rest none)
 fault-is place bytes fault (unclosed _ _ text spelled) = ap (token_first place) spelled ∙ (quote_chosen place _ ∙ rw (quoted_first-unclosed text) refl)
 fault-is place bytes fault (no_day _ _ word behind blanks text rest opens none spelled) =
-    ap (token_first place) spelled ∙ (day_reads place word behind blanks text rest opens ∙ day_missing place _ text _ none)
+    ap (token_first place) spelled ∙ (day_cut place word behind blanks text rest opens ∙ day_missing place _ text _ none)
 fault-is place bytes fault (stray _ byte _ rest h spelled) =
     ap (token_first place) spelled ∙ (sign_chosen place byte rest h.letter (rw h.digit h.minus) h.quote ∙ rw (no_sign byte rest h.sign h.longer) refl)

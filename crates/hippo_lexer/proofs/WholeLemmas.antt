@@ -5,11 +5,11 @@ use Rattle.std.proofs.lemmas.Bool.{cases_Bool, and_parts, and_from, both_ways, e
 use Rattle.std.proofs.lemmas.Bool.Decides.{nat_tests}
 use Rattle.std.proofs.lemmas.List.{take_at, drop_at, take-append-drop}
 use Rattle.hippo_values.specs.Names.{is_word_byte}
-use Rattle.hippo_lexer.specs.declared.kinds.Keyword.TheVariants.{KDate}
+use Rattle.hippo_values.specs.declared.keywords.Keyword.TheVariants.{KDate}
 use Rattle.hippo_lexer.specs.declared.kinds.TokenKind.TheVariants as kinds
 use Rattle.hippo_lexer.specs.declared.faults.LexFault.TheVariants as faults
 use Rattle.hippo_lexer.specs.Spelling.{is_blank, is_quote, begins_with}
-use Rattle.hippo_lexer.specs.Reading.{◌>>=◌, word_len, blanks_len, word_kind, is_date, quoted_first, day_first, date_first, word_first}
+use Rattle.hippo_lexer.specs.Cutting.{◌>>=◌, word_len, blanks_len, word_kind, is_date, quoted_first, day_first, date_first, word_first}
 use Rattle.hippo_lexer.specs.Grammar.{IsWholeWord, IsQuotedBehind, quoted}
 use Rattle.hippo_lexer.proofs.PrefixLemmas.{all-front, ends-front, len-front}
 use Rattle.hippo_lexer.proofs.QuotedLemmas.{quoted_first-is, quoted_first-unclosed, quoted_or_open}
@@ -17,7 +17,7 @@ use Rattle.hippo_lexer.proofs.QuotedLemmas.{quoted_first-is, quoted_first-unclos
 letter_in_word : (byte : ℕ) → is_ascii_alphabetic byte ≡ true → is_word_byte byte ≡ true
 letter_in_word byte h = grind (arith, nat_tests)
 
--- a whole word is what the reader cuts off
+-- a whole word is what the cut takes off
 pub whole-begins : (word rest : List ℕ) → IsWholeWord word rest → begins_with is_ascii_alphabetic (word ++ rest) ≡ true
 whole-begins [] rest h = absurd (both_ways _ refl h.form)
 whole-begins (byte ∷ word) rest h = (and_parts _ _ h.form).0
@@ -32,7 +32,7 @@ cut_whole byte rest letter = record {
   ends = ends-front is_word_byte (byte ∷ rest);
 }
 
--- what the reader says of a word
+-- what the cut says of a word
 pub word_step : (place : ℕ) (word rest : List ℕ) → IsWholeWord word rest → word_first place (word ++ rest) ≡ (ok_or (word_kind word) (faults.BadToken place) >>= λ kind. if is_date kind then date_first place (length word) rest else Ok (kind, length word))
 unfolding word_first
 word_step place word rest h = rw (whole-len word rest h, take_at word rest (length word) refl, drop_at word rest (length word) refl) refl

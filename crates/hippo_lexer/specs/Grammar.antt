@@ -3,17 +3,17 @@ use Rattle.std.specs.Prelude.{◌≡◌, ℕ, ◌+◌, ◌^◌, ◌<◌, true, f
 use Rattle.std.specs.List.{list_all}
 use Rattle.std.specs.Char.{is_ascii_alphabetic, is_ascii_digit}
 use Rattle.std.specs.Str.Parse.{digits_value}
-use Rattle.hippo_values.specs.Names.{folded, unsupported_words, is_among, is_word_byte, is_word, is_name}
+use Rattle.hippo_values.specs.Names.{folded, unsupported_words, is_among, is_word_byte, is_word, is_name, keyword_of}
 use Rattle.hippo_values.specs.Dates.{IsDayText}
-use Rattle.hippo_lexer.specs.declared.kinds.Keyword.{Keyword}
-use Rattle.hippo_lexer.specs.declared.kinds.Keyword.TheVariants.{KDate}
+use Rattle.hippo_values.specs.declared.keywords.Keyword.{Keyword}
+use Rattle.hippo_values.specs.declared.keywords.Keyword.TheVariants.{KDate}
 use Rattle.hippo_lexer.specs.declared.kinds.Symbol.{Symbol}
 use Rattle.hippo_lexer.specs.declared.kinds.TokenKind.{TokenKind}
 use Rattle.hippo_lexer.specs.declared.kinds.TokenKind.TheVariants as kinds
 use Rattle.hippo_lexer.specs.declared.kinds.Token.{Token}
 use Rattle.hippo_lexer.specs.declared.faults.LexFault.{LexFault}
 use Rattle.hippo_lexer.specs.declared.faults.LexFault.TheVariants as faults
-use Rattle.hippo_lexer.specs.Spelling.{is_blank, is_quote, is_minus, begins_with, keyword_of, sign_of, doubled}
+use Rattle.hippo_lexer.specs.Spelling.{is_blank, is_quote, is_minus, begins_with, sign_of, doubled}
 
 -- a word, and what stands behind does not go on with it
 pub record IsWholeWord (word behind : List ℕ) : Type 0 where
@@ -111,20 +111,20 @@ with_first token (Err fault) = Err fault
 
 -- The text, which stands at the place, has these tokens, or this is its first fault: blanks are passed over, and then
 -- the token or the fault counts that stands first.
-pub data IsReading : ℕ → List ℕ → Result (List Token) LexFault → Type 0 where
-  at_end : (place : ℕ) → IsReading place [] (Ok [])
+pub data IsCut : ℕ → List ℕ → Result (List Token) LexFault → Type 0 where
+  at_end : (place : ℕ) → IsCut place [] (Ok [])
   at_blank : (place byte : ℕ) (rest : List ℕ) (outcome : Result (List Token) LexFault) → is_blank byte ≡ true
-      → IsReading (place + 1) rest outcome → IsReading place (byte ∷ rest) outcome
+      → IsCut (place + 1) rest outcome → IsCut place (byte ∷ rest) outcome
   at_token : (place : ℕ) (bytes text rest : List ℕ) (kind : TokenKind) (later outcome : Result (List Token) LexFault)
-      → IsToken text kind rest → IsReading (place + length text) rest later → bytes ≡ text ++ rest
+      → IsToken text kind rest → IsCut (place + length text) rest later → bytes ≡ text ++ rest
       → outcome ≡ with_first (record { kind = kind; start = place; end = place + length text }) later
-      → IsReading place bytes outcome
+      → IsCut place bytes outcome
   at_fault : (place : ℕ) (bytes : List ℕ) (fault : LexFault) → IsFault place bytes fault
-      → IsReading place bytes (Err fault)
+      → IsCut place bytes (Err fault)
 
 -- what comes of a whole text
 abbrev pub IsOutcome : List ℕ → Result (List Token) LexFault → Type 0
-IsOutcome text outcome = IsReading 0 text outcome
+IsOutcome text outcome = IsCut 0 text outcome
 
 -- this comes of the text, and nothing else does
 abbrev pub IsOnlyOutcome : List ℕ → Result (List Token) LexFault → Type 0

@@ -1,4 +1,4 @@
 pub mod Spelling
 pub mod Words
-pub mod Reading
+pub mod Cutting
 pub mod Grammar

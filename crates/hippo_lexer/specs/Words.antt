@@ -1,7 +1,7 @@
 -- What is refused before the grammar is read: tokens that nest too deep, and words of SQL that it lacks.
 use Rattle.std.specs.Prelude.{ℕ, ◌+◌, Bool, true, false, ◌||◌, List, length, take, count_by, position, nat_lt, Option, Some, None, Result, Ok, Err, if◌then◌else◌}
 use Rattle.std.specs.List.{list_any, range_with_len}
-use Rattle.hippo_lexer.specs.declared.kinds.Keyword.TheVariants.{KNot}
+use Rattle.hippo_values.specs.declared.keywords.Keyword.TheVariants.{KNot}
 use Rattle.hippo_lexer.specs.declared.kinds.Symbol.TheVariants.{LeftParen, RightParen}
 use Rattle.hippo_lexer.specs.declared.kinds.TokenKind.TheVariants as kinds
 use Rattle.hippo_lexer.specs.declared.kinds.TokenKind.{TokenKind}

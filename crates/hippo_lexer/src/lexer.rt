@@ -4,7 +4,7 @@ ghost use Rattle.std.specs.Prelude.{◌≡◌, ◌≤◌, ◌⊎◌, List, All, 
 ghost use Rattle.hippo_lexer.specs.declared.kinds.Token.{Token};
 ghost use Rattle.hippo_lexer.specs.declared.faults.LexFault.{LexFault};
 ghost use Rattle.hippo_lexer.specs.Grammar.{IsOutcome, IsOnlyOutcome, IsSpan};
-ghost use Rattle.hippo_lexer.specs.Reading.{Gives, outcome_of};
+ghost use Rattle.hippo_lexer.specs.Cutting.{Gives, outcome_of};
 
 use crate::faults::LexFault;
 use crate::kinds::{Token, Tokens};
@@ -12,7 +12,7 @@ use crate::parts::{token_first, without_blanks};
 use hippo_values::Sequence;
 use std::alloc::Global;
 
-fn read_tokens(alloc: Global, text: &str) -> Result<Tokens, LexFault>
+fn cut_tokens(alloc: Global, text: &str) -> Result<Tokens, LexFault>
     ensures { Gives result (outcome_of text.now) }
 {
     let mut found = Sequence::new(alloc);
@@ -48,5 +48,5 @@ pub fn tokens(alloc: Global, text: &str) -> Result<Tokens, LexFault>
     ensures spans { IfOk result (All (IsSpan text.now)) }
     ensures order { IfOk result (AllPairs (λ a b. a.end ≤ b.start)) }
 {
-    read_tokens(alloc, text)
+    cut_tokens(alloc, text)
 }

@@ -5,9 +5,10 @@ mod faults;
 mod kinds;
 pub mod lexer;
 mod parts;
-mod tables;
+mod signs;
 mod words;
 
 pub use faults::{LexFault, SyntaxFault};
-pub use kinds::{Keyword, Symbol, Token, TokenKind, Tokens};
+pub use hippo_values::Keyword;
+pub use kinds::{Symbol, Token, TokenKind, Tokens};
 pub use words::check_words;

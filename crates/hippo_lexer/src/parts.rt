@@ -1,12 +1,12 @@
 ghost use Rattle.std.specs.Prelude.{◌≡◌, ◌+◌, ◌<◌, ◌≤◌, ◌^◌, length, drop, IfOk, IfSome};
-ghost use Rattle.hippo_values.specs.Names.{is_word_byte, folded};
+ghost use Rattle.hippo_values.specs.Names.{is_word_byte};
 ghost use Rattle.hippo_lexer.specs.Spelling.{is_blank, begins_with};
-ghost use Rattle.hippo_lexer.specs.Reading.{Gives, word_kind, word_len, digits_len, blanks_len, sign_len, number_len, number_of, word_first, number_first, closing, quoted_first, sign_first, IsNumeral, day_of, day_first, is_date, date_first, quoted_token, sign_token, token_first};
+ghost use Rattle.hippo_lexer.specs.Cutting.{Gives, kind_of, word_kind, word_len, digits_len, blanks_len, sign_len, number_len, number_of, word_first, number_first, closing, quoted_first, sign_first, IsNumeral, day_of, day_first, is_date, date_first, quoted_token, sign_token, token_first};
 
 use crate::faults::LexFault;
-use crate::kinds::{Keyword, Symbol, TokenKind};
-use crate::tables::{keyword_of, sign_of};
-use hippo_values::{DayNumber, Memory, Name, Txt, is_unsupported_word, read_day};
+use crate::kinds::{Symbol, TokenKind};
+use crate::signs::sign_of;
+use hippo_values::{DayNumber, Keyword, Memory, Txt, Word, read_day, read_word};
 use std::alloc::Global;
 
 fn is_word_byte(byte: u8) -> bool
@@ -43,31 +43,28 @@ fn blanks_len(bytes: &[u8]) -> usize
     bytes.iter().take_while(|byte| is_blank(**byte)).count()
 }
 
-fn folded(alloc: Global, word: &str) -> Result<Txt, Memory>
-    ensures { IfOk result (λ text. text ≡ folded word.now) }
+fn kind_of(word: Word) -> TokenKind
+    ensures { result ≡ kind_of word }
 {
-    Ok(Txt::from_string(word.to_ascii_lowercase(alloc)?))
+    match word {
+        Word::Name(name) => TokenKind::Word(name),
+        Word::Keyword(keyword) => TokenKind::Keyword(keyword),
+        Word::Unsupported(word) => TokenKind::Unsupported(word),
+    }
 }
 
 // What a word says; none where it is too long.
-#[tactic(auto, unfolding(crate::specs::Reading::word_kind))]
 fn word_kind(alloc: Global, word: &str) -> Result<Option<TokenKind>, Memory>
     ensures { IfOk result (λ kind. kind ≡ word_kind word.now) }
 {
-    if let Some(keyword) = keyword_of(word) {
-        return Ok(Some(TokenKind::Keyword(keyword)));
-    }
-    if is_unsupported_word(word) {
-        return Ok(Some(TokenKind::Unsupported(folded(alloc, word)?)));
-    }
-    match Name::from_word(alloc, word)? {
-        Some(name) => Ok(Some(TokenKind::Word(name))),
+    match read_word(alloc, word)? {
+        Some(word) => Ok(Some(kind_of(word))),
         None => Ok(None),
     }
 }
 
 // The sign at the front, the longest one, and its length.
-#[tactic(auto, unfolding(crate::specs::Reading::sign_first))]
+#[tactic(auto, unfolding(crate::specs::Cutting::sign_first))]
 fn sign_first(bytes: &[u8]) -> Option<(Symbol, usize)>
     ensures { result ≡ sign_first bytes.now }
 {
@@ -103,7 +100,7 @@ fn closing(alloc: Global, behind: &str) -> Result<Option<(Txt, usize)>, Memory>
 }
 
 // The text in quotes at the front, and its length with them.
-#[tactic(auto, unfolding(crate::specs::Reading::quoted_first))]
+#[tactic(auto, unfolding(crate::specs::Cutting::quoted_first))]
 fn quoted_first(alloc: Global, text: &str) -> Result<Option<(Txt, usize)>, Memory>
     ensures found { IfOk result (λ found. found ≡ quoted_first text.now) }
     ensures within { IfOk result (λ found. IfSome found (λ quoted. quoted.1 ≤ length text.now)) }
@@ -152,7 +149,7 @@ fn number_len(bytes: &[u8]) -> usize
 }
 
 // The number at the front, and its length.
-#[tactic(auto, unfolding(crate::specs::Reading::number_first))]
+#[tactic(auto, unfolding(crate::specs::Cutting::number_first))]
 fn number_first(place: usize, text: &str) -> Result<(TokenKind, usize), LexFault>
     requires { place + length text.now < 2 ^ 64 }
     ensures { Gives result (number_first place text.now) }
@@ -178,7 +175,7 @@ fn day_of(text: &Txt) -> Option<DayNumber>
 }
 
 // The day of a quoted text behind the word DATE. `len` counts the bytes from that word up to the text.
-#[tactic(auto, unfolding(crate::specs::Reading::day_first))]
+#[tactic(auto, unfolding(crate::specs::Cutting::day_first))]
 fn day_first(
     place: usize,
     len: usize,
@@ -199,7 +196,7 @@ fn is_date(kind: &TokenKind) -> bool
 }
 
 // The token of the word DATE, of `len` bytes, and its length.
-#[tactic(auto, unfolding(crate::specs::Reading::date_first))]
+#[tactic(auto, unfolding(crate::specs::Cutting::date_first))]
 fn date_first(
     alloc: Global,
     place: usize,
@@ -217,7 +214,7 @@ fn date_first(
 }
 
 // The token of the word at the front, and its length.
-#[tactic(auto, unfolding(crate::specs::Reading::word_first))]
+#[tactic(auto, unfolding(crate::specs::Cutting::word_first))]
 fn word_first(alloc: Global, place: usize, text: &str) -> Result<(TokenKind, usize), LexFault>
     ensures { Gives result (word_first place text.now) }
 {
@@ -245,7 +242,7 @@ fn sign_token(place: usize, text: &str) -> Result<(TokenKind, usize), LexFault>
 }
 
 /// What stands first in a text that begins with no blank and stands at `place`: a kind of token and its length.
-#[tactic(auto, unfolding(crate::specs::Reading::token_first))]
+#[tactic(auto, unfolding(crate::specs::Cutting::token_first))]
 pub fn token_first(alloc: Global, place: usize, text: &str) -> Result<(TokenKind, usize), LexFault>
     requires { place + length text.now < 2 ^ 64 }
     ensures { Gives result (token_first place text.now) }

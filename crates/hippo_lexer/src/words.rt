@@ -3,7 +3,8 @@ ghost use Rattle.std.specs.List.{list_any, range_with_len};
 ghost use Rattle.hippo_lexer.specs.Words.{opens, closes, negates, is_unsupported, count_of, is_steep, words_check};
 
 use crate::faults::SyntaxFault;
-use crate::kinds::{Keyword, Symbol, Token, TokenKind, Tokens};
+use crate::kinds::{Symbol, Token, TokenKind, Tokens};
+use hippo_values::Keyword;
 
 // How far `(` may outnumber `)`, and how many tokens may be NOT.
 const DEPTH_LIMIT: usize = 64;

@@ -2,9 +2,9 @@
 use Rattle.std.proofs.Common.{◌≡◌, ℕ, List, ◌∷◌, Option, Some, None, refl}
 use Rattle.std.proofs.lemmas.Option.{cond_some, none-some, some_pair_parts}
 use denote.Enum.Bare.{same_true}
-use Rattle.hippo_lexer.specs.contracts.kinds.Keyword as keywords
+use Rattle.hippo_values.specs.contracts.keywords.Keyword as keywords
 use Rattle.hippo_lexer.specs.contracts.kinds.Symbol as symbols
-use Rattle.hippo_lexer.specs.declared.kinds.Keyword as words
+use Rattle.hippo_values.specs.declared.keywords.Keyword as words
 use Rattle.hippo_lexer.specs.declared.kinds.Symbol as signs
 use Rattle.hippo_lexer.specs.declared.kinds.TokenKind.{TokenKind}
 use Rattle.hippo_lexer.specs.declared.kinds.TokenKind.TheVariants.{Word, Keyword, Symbol}

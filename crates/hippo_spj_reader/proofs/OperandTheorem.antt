@@ -8,8 +8,8 @@ use Rattle.hippo_values.specs.declared.truths.CompareOp.{CompareOp}
 use Rattle.hippo_model.specs.declared.statement.RawColumn.{RawColumn}
 use Rattle.hippo_model.specs.declared.statement.RawOperand.{RawOperand}
 use Rattle.hippo_model.specs.declared.statement.RawOperand.TheVariants.{Column, Literal}
-use Rattle.hippo_lexer.specs.contracts.kinds.Keyword as keywords
-use Rattle.hippo_lexer.specs.declared.kinds.Keyword.TheVariants.{KNull, KNot}
+use Rattle.hippo_values.specs.contracts.keywords.Keyword as keywords
+use Rattle.hippo_values.specs.declared.keywords.Keyword.TheVariants.{KNull, KNot}
 use Rattle.hippo_lexer.specs.declared.kinds.Symbol as signs
 use Rattle.hippo_lexer.specs.declared.kinds.Symbol.TheVariants.{Dot, LeftParen, Equal, NotEqual, Less, LessEqual, Greater, GreaterEqual}
 use Rattle.hippo_lexer.specs.declared.kinds.TokenKind.{TokenKind}

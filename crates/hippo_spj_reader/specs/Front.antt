@@ -3,10 +3,10 @@ use Rattle.std.specs.Prelude.{ℕ, Bool, List, ◌∷◌, map, Option, Some, Non
 use denote.Enum.Bare.{sameb}
 use Rattle.hippo_values.specs.declared.values.Value.{Value}
 use Rattle.hippo_values.specs.declared.values.Value.TheVariants as value
-use Rattle.hippo_lexer.specs.contracts.kinds.Keyword as keywords
+use Rattle.hippo_values.specs.contracts.keywords.Keyword as keywords
 use Rattle.hippo_lexer.specs.contracts.kinds.Symbol as symbols
-use Rattle.hippo_lexer.specs.declared.kinds.Keyword as words
-use Rattle.hippo_lexer.specs.declared.kinds.Keyword.TheVariants.{KNull}
+use Rattle.hippo_values.specs.declared.keywords.Keyword as words
+use Rattle.hippo_values.specs.declared.keywords.Keyword.TheVariants.{KNull}
 use Rattle.hippo_lexer.specs.declared.kinds.Symbol as signs
 use Rattle.hippo_lexer.specs.declared.kinds.Token.{Token}
 use Rattle.hippo_lexer.specs.declared.kinds.TokenKind.{TokenKind}

@@ -3,7 +3,7 @@ use Rattle.std.specs.Prelude.{ℕ, zero, suc, List, [], ◌∷◌, ◌++◌, len
 use Rattle.hippo_model.specs.declared.statement.RawItem.{RawItem}
 use Rattle.hippo_model.specs.declared.statement.RawItem.TheVariants as item
 use Rattle.hippo_model.specs.declared.statement.RawSelect.{RawSelect}
-use Rattle.hippo_lexer.specs.declared.kinds.Keyword.TheVariants.{KFrom, KInner, KJoin, KOn, KSelect, KWhere}
+use Rattle.hippo_values.specs.declared.keywords.Keyword.TheVariants.{KFrom, KInner, KJoin, KOn, KSelect, KWhere}
 use Rattle.hippo_lexer.specs.declared.kinds.Symbol.TheVariants.{Comma, Dot, Star}
 use Rattle.hippo_lexer.specs.declared.kinds.TokenKind.{TokenKind}
 use Rattle.hippo_spj_reader.specs.Answers.{◌>>=◌, either}

@@ -4,8 +4,8 @@ use Rattle.std.proofs.lemmas.Option.{none-some, same_Some, some_pair_parts, cond
 use Rattle.hippo_values.specs.declared.values.Value.{Value}
 use Rattle.hippo_model.specs.declared.schema.Column.{Column}
 use Rattle.hippo_model.specs.declared.schema.ColumnKind.{ColumnKind}
-use Rattle.hippo_lexer.specs.declared.kinds.Keyword as words
-use Rattle.hippo_lexer.specs.declared.kinds.Keyword.TheVariants.{KAnd, KDate, KFor, KInteger, KNot, KNull, KOn, KSubject, KText, KTo, KWith}
+use Rattle.hippo_values.specs.declared.keywords.Keyword as words
+use Rattle.hippo_values.specs.declared.keywords.Keyword.TheVariants.{KAnd, KDate, KFor, KInteger, KNot, KNull, KOn, KSubject, KText, KTo, KWith}
 use Rattle.hippo_lexer.specs.declared.kinds.Symbol.TheVariants.{Comma, Equal, LeftParen, RightParen, Semicolon}
 use Rattle.hippo_lexer.specs.declared.kinds.TokenKind.{TokenKind}
 use Rattle.hippo_lexer.specs.declared.kinds.TokenKind.TheVariants.{Word, Keyword, Number, Symbol}

@@ -11,7 +11,7 @@ use Rattle.hippo_model.specs.declared.statement.Stmt.TheVariants as stmt
 use Rattle.hippo_lexer.specs.Words.{words_check, is_too_deep, is_unsupported, support_of}
 use Rattle.hippo_lexer.specs.declared.faults.SyntaxFault.{SyntaxFault}
 use Rattle.hippo_lexer.specs.declared.faults.SyntaxFault.TheVariants as fault
-use Rattle.hippo_lexer.specs.declared.kinds.Keyword.TheVariants.{KOpen, KSelect}
+use Rattle.hippo_values.specs.declared.keywords.Keyword.TheVariants.{KOpen, KSelect}
 use Rattle.hippo_lexer.specs.declared.kinds.Token.{Token}
 use Rattle.hippo_lexer.specs.declared.kinds.TokenKind.{TokenKind}
 use Rattle.hippo_lexer.specs.declared.kinds.TokenKind.TheVariants.{Keyword}

@@ -75,7 +75,7 @@ impl Listed for SettingList {
 struct KeyList;
 
 impl Listed for KeyList {
-    ghost use Rattle.hippo_lexer.specs.declared.kinds.Keyword.TheVariants.{KAnd};
+    ghost use Rattle.hippo_values.specs.declared.keywords.Keyword.TheVariants.{KAnd};
     ghost use Rattle.hippo_spj_reader.specs.Front.{after_keyword};
     ghost use Rattle.hippo_stmt_reader.specs.Stating.{assignment_at};
 

@@ -1,11 +1,15 @@
 -- A name in lower case is a name still.
-use Rattle.std.proofs.Common.{◌≡◌, ℕ, List, [], ◌∷◌, refl, ap, arith, bytes_eq}
+use Rattle.std.proofs.Common.{◌≡◌, ℕ, List, [], ◌∷◌, ◌&&◌, length, nat_le, Option, Some, None, option_map, true, if◌then◌else◌, refl, ap, arith, bytes_eq}
 use Rattle.std.specs.List.{list_any, list_all}
+use Rattle.std.specs.Map.{lookup}
+use Rattle.std.specs.Option.{option_or}
 use Rattle.std.specs.Char.{is_ascii_alphabetic, to_ascii_lowercase}
 use Rattle.std.proofs.lemmas.List.{length-map}
 use Rattle.std.proofs.lemmas.Bool.Decides.{nat_tests}
+use Rattle.hippo_values.specs.declared.keywords.Reserved.{Reserved}
+use Rattle.hippo_values.specs.declared.keywords.Reserved.TheVariants as reserved
 use Rattle.std.proofs.lemmas.Str.Ascii.{lowercase-lowercase}
-use Rattle.hippo_values.specs.Names.{keywords, unsupported_words, folded, is_among, is_word_byte, begins_with_letter, is_name}
+use Rattle.hippo_values.specs.Names.{keywords, unsupported_words, folded, reserved_of, is_word_byte, begins_with_letter, is_word, is_name}
 
 is_ascii_alphabetic-lowercase : (b : ℕ) → is_ascii_alphabetic (to_ascii_lowercase b) ≡ is_ascii_alphabetic b
 is_ascii_alphabetic-lowercase b = grind (arith, nat_tests)
@@ -25,8 +29,14 @@ begins_with_letter-folded : (word : List ℕ) → begins_with_letter (folded wor
 begins_with_letter-folded [] = refl
 begins_with_letter-folded (b ∷ bs) = is_ascii_alphabetic-lowercase b
 
-is_among-folded : (words : List (List ℕ)) (word : List ℕ) → is_among words (folded word) ≡ is_among words word
-is_among-folded words word = ap (λ w. list_any (λ known. bytes_eq (folded known) w) words) (folded-folded word)
+-- why a word in lower case is no name
+abbrev reserved_in : List ℕ → Option Reserved
+reserved_in word =
+    option_or (option_map reserved.Keyword (lookup (λ known. bytes_eq known word) keywords))
+    (if list_any (λ known. bytes_eq known word) unsupported_words then Some reserved.Unsupported else None)
+
+reserved_of-folded : (word : List ℕ) → reserved_of (folded word) ≡ reserved_of word
+reserved_of-folded word = ap reserved_in (folded-folded word)
 
 -- A word in lower case is a name just where the word is.
 pub is_name-folded : (word : List ℕ) → is_name (folded word) ≡ is_name word
@@ -35,6 +45,9 @@ is_name-folded word =
       begins_with_letter-folded word,
       all_word_bytes-folded word,
       length-map word to_ascii_lowercase,
-      is_among-folded keywords word,
-      is_among-folded unsupported_words word,
+      reserved_of-folded word,
     )
+
+-- A word of a name's form that is not reserved is a name.
+pub is_name-free : (word : List ℕ) → (is_word word && nat_le (length word) 63) ≡ true → reserved_of word ≡ None → is_name word ≡ true
+is_name-free word form free = rw (form, free) refl

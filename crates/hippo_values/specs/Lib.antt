@@ -8,4 +8,5 @@ pub mod Printing
 pub mod Quoting
 pub mod Texts
 pub mod Truths
+pub mod Words
 pub mod formers

@@ -3,6 +3,7 @@
 
 mod boxed;
 mod dates;
+mod keywords;
 mod limits;
 mod memory;
 mod moments;
@@ -13,19 +14,22 @@ mod sequence;
 mod texts;
 mod truths;
 mod values;
+mod words;
 
 pub use boxed::Boxed;
 pub use dates::{day_text, moment_text, read_day, read_moment};
+pub use keywords::{Keyword, Reserved, reserved_of};
 pub use limits::{LINE_LIMIT, NAME_LIMIT, TEXT_LIMIT};
 pub use memory::{Duplicate, Memory};
 pub use moments::{DayNumber, Moment};
-pub use names::{Name, is_keyword, is_name, is_unsupported_word};
+pub use names::{Name, is_name};
 pub use printing::print_value;
 pub use roomy_sequence::RoomySequence;
 pub use sequence::Sequence;
 pub use texts::{RoomyTxt, Txt, keeps_text_rule};
 pub use truths::{CompareOp, Truth, compare, truth_and, truth_not, truth_or};
 pub use values::Value;
+pub use words::{Word, read_word};
 
 /// Bytes of any kind.
 pub type Bytes = Sequence<u8>;

@@ -1,7 +1,7 @@
 use Rattle.std.proofs.Common.{◌≡◌, ◌≤◌, ◌-◌, length}
 use denote.Text.{Utf8}
 use denote.Shadow.{shadow}
-use Rattle.hippo_lexer.specs.Reading.{closing, onto}
+use Rattle.hippo_lexer.specs.Cutting.{closing, onto}
 use Rattle.hippo_lexer.proofs.parts.closing.Given as goal
 
 -- what is left, behind the text so far, has the answer

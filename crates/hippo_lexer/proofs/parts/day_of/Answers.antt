@@ -1,5 +1,5 @@
 use Rattle.std.proofs.Common.{◌∙◌, ap}
-use Rattle.hippo_lexer.specs.Reading.{day_of}
+use Rattle.hippo_lexer.specs.Cutting.{day_of}
 use Rattle.hippo_lexer.proofs.DayLemmas.{day_of-is}
 use Rattle.hippo_lexer.proofs.parts.day_of.Goals as goal
 

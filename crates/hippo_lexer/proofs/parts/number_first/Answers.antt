@@ -1,5 +1,5 @@
 use Rattle.std.proofs.Common.{◌≡◌, ◌<◌, ◌∙◌, ap, arith}
-use Rattle.hippo_lexer.specs.Reading.{number_len, sign_len}
+use Rattle.hippo_lexer.specs.Cutting.{number_len, sign_len}
 use Rattle.hippo_lexer.proofs.FrontLemmas.{boundary-number, IsNumeral-number}
 use Rattle.hippo_lexer.proofs.parts.number_first.Goals as goal
 

@@ -2,7 +2,7 @@
 use Rattle.std.proofs.Common.{◌≡◌, ℕ, zero, suc, ◌<◌, ◌≤◌, length, None, Some, Result, List, Bor, arith, sym}
 use Rattle.std.proofs.lemmas.Result.{err_from_is_err_and}
 use Rattle.hippo_lexer.specs.declared.faults.SyntaxFault.{SyntaxFault}
-use Rattle.hippo_lexer.specs.declared.kinds.Keyword.TheVariants.{KAnd, KNot, KOr}
+use Rattle.hippo_values.specs.declared.keywords.Keyword.TheVariants.{KAnd, KNot, KOr}
 use Rattle.hippo_lexer.specs.declared.kinds.Token.{Token}
 use Rattle.hippo_spj_reader.specs.Answers.{Gives}
 use Rattle.hippo_spj_reader.specs.Conditions.{RawCond, any_of, all_of}

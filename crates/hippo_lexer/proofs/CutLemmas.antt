@@ -1,4 +1,4 @@
--- The steps of the reader over a text.
+-- The steps of the cut through a text.
 use Rattle.std.proofs.Common.{◌≡◌, ℕ, suc, ◌+◌, ◌-◌, ◌<◌, ◌≤◌, false, List, [], ◌∷◌, ◌++◌, length, drop, Result, Ok, Err, refl, sym, ap, ◌∙◌, inl, inr, arith, one-add}
 use Rattle.std.specs.Prelude.{IsUtf8, IsCharBoundary}
 use Rattle.std.proofs.lemmas.Bool.{cases_Bool}
@@ -9,7 +9,7 @@ use Rattle.hippo_lexer.specs.declared.kinds.Token.{Token}
 use Rattle.hippo_lexer.specs.declared.faults.LexFault.{LexFault}
 use Rattle.hippo_lexer.specs.declared.faults.LexFault.TheVariants as faults
 use Rattle.hippo_lexer.specs.Spelling.{is_blank, begins_with}
-use Rattle.hippo_lexer.specs.Reading.{Fails, blanks_len, token_first, tokens_from, with_front, outcome_of}
+use Rattle.hippo_lexer.specs.Cutting.{Fails, blanks_len, token_first, tokens_from, with_front, outcome_of}
 use Rattle.hippo_lexer.specs.Grammar.{with_first}
 use Rattle.hippo_lexer.proofs.EdgeLemmas.{BeginsPlain, EndsPlain, token_begins, token_ends}
 use Rattle.hippo_lexer.proofs.FirstLemmas.{token_or_fault}
@@ -36,8 +36,8 @@ front_more : (front : List Token) (token : Token) (outcome : Result (List Token)
 front_more front token (Ok tokens) = ap Ok (sym (append_assoc front (token ∷ []) tokens))
 front_more front token (Err fault) = refl
 
--- what the reader found first is the front of the text, which may be cut behind it
-pub record IsCut (bytes : List ℕ) (n : ℕ) : Type 0 where
+-- what the cut found first is the front of the text, which may be cut behind it
+pub record IsCutOff (bytes : List ℕ) (n : ℕ) : Type 0 where
   pub text : List ℕ
   pub rest : List ℕ
   pub parts : bytes ≡ text ++ rest
@@ -59,7 +59,7 @@ same_len a b m n h = let same : ◌≡◌ {A = TokenKind × ℕ} (a, m) (b, n) =
 ok_is_no_fault : (a : TokenKind) (n : ℕ) (fault : LexFault) → ◌≡◌ {A = Result (TokenKind × ℕ) LexFault} (Ok (a, n)) (Err fault) → ⊥
 ok_is_no_fault a n fault h = cc
 
-pub cut_token : (place : ℕ) (bytes : List ℕ) (kind : TokenKind) (n : ℕ) → IsUtf8 bytes → 0 < length bytes → begins_with is_blank bytes ≡ false → token_first place bytes ≡ Ok (kind, n) → IsCut bytes n
+pub cut_token : (place : ℕ) (bytes : List ℕ) (kind : TokenKind) (n : ℕ) → IsUtf8 bytes → 0 < length bytes → begins_with is_blank bytes ≡ false → token_first place bytes ≡ Ok (kind, n) → IsCutOff bytes n
 cut_token place [] kind n utf8 some filled first = absurd (omega arith)
 cut_token place (byte ∷ rest) kind n utf8 some filled first = elim (token_or_fault place byte rest filled) [
   | inl found ↦
@@ -78,9 +78,9 @@ cut_token place (byte ∷ rest) kind n utf8 some filled first = elim (token_or_f
 ]
 
 -- Before the first token.
-pub reads_start : (text : List ℕ) → with_front [] (tokens_from (length text - length (drop (blanks_len text) text)) 0 (drop (blanks_len text) text)) ≡ outcome_of text
+pub cuts_start : (text : List ℕ) → with_front [] (tokens_from (length text - length (drop (blanks_len text) text)) 0 (drop (blanks_len text) text)) ≡ outcome_of text
 unfolding outcome_of
-reads_start text =
+cuts_start text =
     let there : length text - length (drop (blanks_len text) text) ≡ 0 + blanks_len text = simp length-drop (omega (arith, prefix_len-le-length is_blank text)) in
     rw there (front_nothing _ ∙ sym (tokens_from-blanks 0 text))
 
@@ -91,9 +91,9 @@ first_token place bytes text rest kind n begins parts size first =
     ∙ ap (λ k. with_first (record { kind = kind; start = place; end = place + k }) (tokens_from (place + k) 0 rest)) size
 
 -- A token was found.
-pub reads_token : (text rest : List ℕ) (found : List Token) (kind : TokenKind) (n : ℕ) → length rest ≤ length text → IsCut rest n → token_first (length text - length rest) rest ≡ Ok (kind, n) → with_front found (tokens_from (length text - length rest) 0 rest) ≡ outcome_of text
+pub cuts_token : (text rest : List ℕ) (found : List Token) (kind : TokenKind) (n : ℕ) → length rest ≤ length text → IsCutOff rest n → token_first (length text - length rest) rest ≡ Ok (kind, n) → with_front found (tokens_from (length text - length rest) 0 rest) ≡ outcome_of text
     → with_front (found ++ record { kind = kind; start = length text - length rest; end = length text - length rest + n } ∷ []) (tokens_from (length text - length (drop (blanks_len (drop n rest)) (drop n rest))) 0 (drop (blanks_len (drop n rest)) (drop n rest))) ≡ outcome_of text
-reads_token text rest found kind n within cut first told =
+cuts_token text rest found kind n within cut first told =
     let start = length text - length rest in
     let dropped : drop n rest ≡ cut.rest = rw cut.parts (drop_at cut.text cut.rest n cut.size) in
     let behind = drop (blanks_len cut.rest) cut.rest in
@@ -106,20 +106,20 @@ reads_token text rest found kind n within cut first told =
     ∙ ap (with_front (found ++ record { kind = kind; start = start; end = start + n } ∷ [])) (tokens_from-blanks (start + n) cut.rest ∙ ap (λ p. tokens_from p 0 behind) place)))
 
 -- A fault was found.
-reads_this : (place : ℕ) (rest text : List ℕ) (found : List Token) (fault : LexFault) → 0 < length rest → begins_with is_blank rest ≡ false → with_front found (tokens_from place 0 rest) ≡ outcome_of text → token_first place rest ≡ Err fault → outcome_of text ≡ Err fault
-reads_this place [] text found fault some filled told first = absurd (omega arith)
-reads_this place (byte ∷ rest) text found fault some filled told first =
+cuts_this : (place : ℕ) (rest text : List ℕ) (found : List Token) (fault : LexFault) → 0 < length rest → begins_with is_blank rest ≡ false → with_front found (tokens_from place 0 rest) ≡ outcome_of text → token_first place rest ≡ Err fault → outcome_of text ≡ Err fault
+cuts_this place [] text found fault some filled told first = absurd (omega arith)
+cuts_this place (byte ∷ rest) text found fault some filled told first =
     sym told ∙ ap (with_front found) (tokens_from-fault place byte rest fault filled first)
 
-pub reads_fault : (place : ℕ) (rest text : List ℕ) (found : List Token) (fault : LexFault) → 0 < length rest → begins_with is_blank rest ≡ false → with_front found (tokens_from place 0 rest) ≡ outcome_of text → Fails fault (token_first place rest) → Fails fault (outcome_of text)
-reads_fault place rest text found faults.Memory some filled told first = tt
-reads_fault place rest text found (faults.BadToken at) some filled told first = reads_this place rest text found (faults.BadToken at) some filled told first
-reads_fault place rest text found (faults.NumberTooLarge at) some filled told first = reads_this place rest text found (faults.NumberTooLarge at) some filled told first
-reads_fault place rest text found (faults.BadDate at) some filled told first = reads_this place rest text found (faults.BadDate at) some filled told first
+pub cuts_fault : (place : ℕ) (rest text : List ℕ) (found : List Token) (fault : LexFault) → 0 < length rest → begins_with is_blank rest ≡ false → with_front found (tokens_from place 0 rest) ≡ outcome_of text → Fails fault (token_first place rest) → Fails fault (outcome_of text)
+cuts_fault place rest text found faults.Memory some filled told first = tt
+cuts_fault place rest text found (faults.BadToken at) some filled told first = cuts_this place rest text found (faults.BadToken at) some filled told first
+cuts_fault place rest text found (faults.NumberTooLarge at) some filled told first = cuts_this place rest text found (faults.NumberTooLarge at) some filled told first
+cuts_fault place rest text found (faults.BadDate at) some filled told first = cuts_this place rest text found (faults.BadDate at) some filled told first
 
 -- Nothing is left.
-pub reads_end : (place : ℕ) (rest text : List ℕ) (found : List Token) → length rest ≡ 0 → with_front found (tokens_from place 0 rest) ≡ outcome_of text → outcome_of text ≡ Ok found
+pub cuts_end : (place : ℕ) (rest text : List ℕ) (found : List Token) → length rest ≡ 0 → with_front found (tokens_from place 0 rest) ≡ outcome_of text → outcome_of text ≡ Ok found
 unfolding tokens_from
-reads_end place rest text found none told =
+cuts_end place rest text found none told =
     let empty = nil_from_length rest none in
     sym told ∙ (rw empty (ap Ok (append-nil found)))

@@ -1,7 +1,7 @@
 use Rattle.std.proofs.Common.{◌≡◌, drop, bytes_eq}
 use Rattle.std.specs.Map.{lookup}
 use Rattle.hippo_values.specs.Names.{folded}
-use Rattle.hippo_lexer.proofs.tables.find_keyword.Given as goal
+use Rattle.hippo_values.proofs.keywords.find_word.Given as goal
 
 -- what is left of the table has the answer
 abbrev pub invariant-loop-known : goal.invariant-loop-known

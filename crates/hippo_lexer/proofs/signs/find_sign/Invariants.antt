@@ -1,6 +1,6 @@
 use Rattle.std.proofs.Common.{◌≡◌, drop, bytes_eq}
 use Rattle.std.specs.Map.{lookup}
-use Rattle.hippo_lexer.proofs.tables.find_sign.Given as goal
+use Rattle.hippo_lexer.proofs.signs.find_sign.Given as goal
 
 -- what is left of the table has the answer
 abbrev pub invariant-loop-known : goal.invariant-loop-known

@@ -1,5 +1,5 @@
 use Rattle.hippo_lexer.specs.Spelling.{sign_table, sign_of}
-use Rattle.hippo_lexer.proofs.tables.sign_of.Goals as goal
+use Rattle.hippo_lexer.proofs.signs.sign_of.Goals as goal
 
 pub returns : goal.returns
 unfolding sign_of sign_table

@@ -1,20 +1,23 @@
--- How the reader cuts a text into tokens, from the left. What the tokens are is said by the relation `IsOutcome`, and that
+-- How a text is cut into tokens, from the left. What the tokens are is said by the relation `IsOutcome`, and that
 -- `outcome_of` is a text's one outcome by it is proved.
 use Rattle.std.specs.Prelude.{◌≡◌, ℕ, zero, suc, ◌+◌, ◌-◌, ◌^◌, ◌<◌, ◌==◌, Bool, true, false, ◌||◌, List, [], ◌∷◌, length, take, drop, nat_lt, nat_le, bytes_eq, ℤ, pos, negsuc, neg_ℤ, ◌+ℤ◌, ◌++◌, Option, Some, None, Result, Ok, Err, option_map, ok_or, if◌then◌else◌}
 use Rattle.std.specs.Option.{option_or, option_map_or}
 use Rattle.std.specs.List.{prefix_len, list_all}
 use Rattle.std.specs.Char.{is_ascii_alphabetic, is_ascii_digit}
 use Rattle.std.specs.Str.Parse.{digits_value}
-use Rattle.hippo_values.specs.Names.{folded, unsupported_words, is_among, is_word_byte, name_of}
+use Rattle.hippo_values.specs.declared.words.Word.{Word}
+use Rattle.hippo_values.specs.declared.words.Word.TheVariants as words
+use Rattle.hippo_values.specs.Names.{is_word_byte}
+use Rattle.hippo_values.specs.Words.{word_of}
 use Rattle.hippo_values.specs.Dates.{day_text}
-use Rattle.hippo_lexer.specs.declared.kinds.Keyword.TheVariants.{KDate}
+use Rattle.hippo_values.specs.declared.keywords.Keyword.TheVariants.{KDate}
 use Rattle.hippo_lexer.specs.declared.kinds.Symbol.{Symbol}
 use Rattle.hippo_lexer.specs.declared.kinds.TokenKind.{TokenKind}
 use Rattle.hippo_lexer.specs.declared.kinds.TokenKind.TheVariants as kinds
 use Rattle.hippo_lexer.specs.declared.kinds.Token.{Token}
 use Rattle.hippo_lexer.specs.declared.faults.LexFault.{LexFault}
 use Rattle.hippo_lexer.specs.declared.faults.LexFault.TheVariants as faults
-use Rattle.hippo_lexer.specs.Spelling.{is_blank, is_quote, is_minus, begins_with, keyword_of, sign_of}
+use Rattle.hippo_lexer.specs.Spelling.{is_blank, is_quote, is_minus, begins_with, sign_of}
 
 infixl 10 ◌>>=◌
 abbrev pub ◌>>=◌ : {A B : Type 0} → Result A LexFault → (A → Result B LexFault) → Result B LexFault
@@ -32,11 +35,15 @@ abbrev pub Gives : {A : Type 0} → Result A LexFault → Result A LexFault → 
 Gives (Ok x) right = right ≡ Ok x
 Gives (Err fault) right = Fails fault right
 
--- what a word says: a keyword, a refused word or a name; none where it is too long for each
-unfoldable pub word_kind : List ℕ → Option TokenKind
-word_kind word =
-    option_or (option_map kinds.Keyword (keyword_of word))
-    (if is_among unsupported_words word then Some (kinds.Unsupported (folded word)) else option_map kinds.Word (name_of word))
+-- the token that a word is
+abbrev pub kind_of : Word → TokenKind
+kind_of (words.Name name) = kinds.Word name
+kind_of (words.Keyword keyword) = kinds.Keyword keyword
+kind_of (words.Unsupported word) = kinds.Unsupported word
+
+-- what kind of token a word is; none where it is too long
+abbrev pub word_kind : List ℕ → Option TokenKind
+word_kind word = option_map kind_of (word_of word)
 
 -- the length of the word, of the digits or of the blanks at the front
 abbrev pub word_len : List ℕ → ℕ

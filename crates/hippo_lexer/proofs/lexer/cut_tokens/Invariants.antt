@@ -2,8 +2,8 @@ use Rattle.std.proofs.Common.{◌≡◌, ◌≤◌, ◌-◌, false, length}
 use denote.Text.{Utf8}
 use denote.Shadow.{shadow}
 use Rattle.hippo_lexer.specs.Spelling.{is_blank, begins_with}
-use Rattle.hippo_lexer.specs.Reading.{with_front, tokens_from, outcome_of}
-use Rattle.hippo_lexer.proofs.lexer.read_tokens.Given as goal
+use Rattle.hippo_lexer.specs.Cutting.{with_front, tokens_from, outcome_of}
+use Rattle.hippo_lexer.proofs.lexer.cut_tokens.Given as goal
 
 -- the tokens found, and what comes of the rest, are what comes of the text
 abbrev pub invariant-loop-rest : goal.invariant-loop-rest

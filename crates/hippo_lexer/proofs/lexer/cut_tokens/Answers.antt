@@ -2,21 +2,21 @@ use Rattle.std.proofs.Common.{◌<◌, ◌≤◌, length, arith, rules}
 use Rattle.std.proofs.lemmas.Result.{err_from_is_err_and}
 use Rattle.hippo_lexer.specs.Spelling.{is_blank}
 use Rattle.hippo_lexer.proofs.PrefixLemmas.{ends-front}
-use Rattle.hippo_lexer.proofs.ReadLemmas.{cut_token, reads_start, reads_token, reads_fault, reads_end}
-use Rattle.hippo_lexer.proofs.lexer.read_tokens.Goals as goal
+use Rattle.hippo_lexer.proofs.CutLemmas.{cut_token, cuts_start, cuts_token, cuts_fault, cuts_end}
+use Rattle.hippo_lexer.proofs.lexer.cut_tokens.Goals as goal
 
 pub loop-rest-init : goal.loop-rest-init
 loop-rest-init c = record {
   utf8 = c.without_blanks-rest.utf8;
   within = c.without_blanks-rest.ensures.within;
   filled = rw c.without_blanks-rest.ensures.rest (ends-front is_blank c.args.text.now);
-  told = rw (c.without_blanks-rest.ensures.rest, c.new-found.ensures) (reads_start c.args.text.now);
+  told = rw (c.without_blanks-rest.ensures.rest, c.new-found.ensures) (cuts_start c.args.text.now);
 }
 
 pub returns-in_err-kind : goal.returns-in_err-kind
 returns-in_err-kind c =
     let some : 0 < length c.loop-rest.rest.now = search rules in
-    let fault = reads_fault _ c.loop-rest.rest.now c.args.text.now c.loop-rest.found c.in_err-kind.field-0.0 some c.loop-rest.invariant.filled c.loop-rest.invariant.told c.in_err-kind.ensures in
+    let fault = cuts_fault _ c.loop-rest.rest.now c.args.text.now c.loop-rest.found c.in_err-kind.field-0.0 some c.loop-rest.invariant.filled c.loop-rest.invariant.told c.in_err-kind.ensures in
     let err = err_from_is_err_and c.from_residual.result c.from_residual.ensures.1 in
     rw (err.1, err.2) fault
 
@@ -50,8 +50,8 @@ loop-rest-preserved c =
       within = omega (arith, c.range_from.ensures.len, c.without_blanks-rest-in-loop-rest.ensures.within, c.loop-rest.invariant.within);
       filled = rw c.without_blanks-rest-in-loop-rest.ensures.rest (ends-front is_blank c.range_from.result.now);
       told = rw (c.in_ok-push.ensures.ok, c.without_blanks-rest-in-loop-rest.ensures.rest, c.range_from.ensures.value)
-          (reads_token c.args.text.now c.loop-rest.rest.now c.loop-rest.found c.in_ok-kind.kind c.in_ok-kind.len c.loop-rest.invariant.within cut c.in_ok-kind.ensures c.loop-rest.invariant.told);
+          (cuts_token c.args.text.now c.loop-rest.rest.now c.loop-rest.found c.in_ok-kind.kind c.in_ok-kind.len c.loop-rest.invariant.within cut c.in_ok-kind.ensures c.loop-rest.invariant.told);
     }
 
 pub returns : goal.returns
-returns c = reads_end _ c.loop-rest.rest.now c.args.text.now c.loop-rest.found (search rules) c.loop-rest.invariant.told
+returns c = cuts_end _ c.loop-rest.rest.now c.args.text.now c.loop-rest.found (search rules) c.loop-rest.invariant.told

@@ -1,0 +1,211 @@
+//! The reserved words: those that stand in the grammar, and those of SQL that are refused.
+
+ghost use Rattle.std.specs.Prelude.{◌≡◌, ◌-◌, ◌<◌, ◌≤◌, length, map, take, drop, IfSome, bytes_eq};
+ghost use Rattle.std.specs.Map.{lookup};
+ghost use Rattle.hippo_values.specs.Names.{folded, letter_of, reserved_of};
+
+/// A word that stands in the grammar, written in whatever case.
+#[derive(Clone, Copy, Debug, PartialEq, Eq)]
+pub enum Keyword {
+    KAnd,
+    KAllow,
+    KAudit,
+    KAuthorize,
+    KBegin,
+    KBetween,
+    KChoice,
+    KCreate,
+    KDate,
+    KDeauthorize,
+    KDelete,
+    KDistinct,
+    KDuring,
+    KExplain,
+    KFor,
+    KFrom,
+    KGroup,
+    KIn,
+    KInner,
+    KInsert,
+    KInteger,
+    KInto,
+    KIs,
+    KItem,
+    KJoin,
+    KKey,
+    KMax,
+    KMin,
+    KNo,
+    KNot,
+    KNull,
+    KOn,
+    KOpen,
+    KOpt,
+    KOtherthan,
+    KOut,
+    KPrimary,
+    KPurpose,
+    KRecipient,
+    KRevoke,
+    KSelect,
+    KSet,
+    KShown,
+    KSubject,
+    KTable,
+    KText,
+    KTo,
+    KUpdate,
+    KValues,
+    KWhere,
+    KWith,
+    KYes,
+    KOr,
+}
+
+/// Why a word is no name: it stands in the grammar, or it is one of SQL's that are refused wherever they stand.
+#[derive(Clone, Copy, Debug, PartialEq, Eq)]
+pub enum Reserved {
+    Keyword(Keyword),
+    Unsupported,
+}
+
+// The reserved words, by their first letters.
+const WORDS: [(&str, Reserved); 80] = [
+    ("and", Reserved::Keyword(Keyword::KAnd)),
+    ("allow", Reserved::Keyword(Keyword::KAllow)),
+    ("audit", Reserved::Keyword(Keyword::KAudit)),
+    ("authorize", Reserved::Keyword(Keyword::KAuthorize)),
+    ("all", Reserved::Unsupported),
+    ("alter", Reserved::Unsupported),
+    ("any", Reserved::Unsupported),
+    ("as", Reserved::Unsupported),
+    ("avg", Reserved::Unsupported),
+    ("begin", Reserved::Keyword(Keyword::KBegin)),
+    ("between", Reserved::Keyword(Keyword::KBetween)),
+    ("choice", Reserved::Keyword(Keyword::KChoice)),
+    ("create", Reserved::Keyword(Keyword::KCreate)),
+    ("case", Reserved::Unsupported),
+    ("cast", Reserved::Unsupported),
+    ("count", Reserved::Unsupported),
+    ("cross", Reserved::Unsupported),
+    ("date", Reserved::Keyword(Keyword::KDate)),
+    ("deauthorize", Reserved::Keyword(Keyword::KDeauthorize)),
+    ("delete", Reserved::Keyword(Keyword::KDelete)),
+    ("distinct", Reserved::Keyword(Keyword::KDistinct)),
+    ("during", Reserved::Keyword(Keyword::KDuring)),
+    ("drop", Reserved::Unsupported),
+    ("explain", Reserved::Keyword(Keyword::KExplain)),
+    ("except", Reserved::Unsupported),
+    ("exists", Reserved::Unsupported),
+    ("for", Reserved::Keyword(Keyword::KFor)),
+    ("from", Reserved::Keyword(Keyword::KFrom)),
+    ("full", Reserved::Unsupported),
+    ("group", Reserved::Keyword(Keyword::KGroup)),
+    ("having", Reserved::Unsupported),
+    ("in", Reserved::Keyword(Keyword::KIn)),
+    ("inner", Reserved::Keyword(Keyword::KInner)),
+    ("insert", Reserved::Keyword(Keyword::KInsert)),
+    ("integer", Reserved::Keyword(Keyword::KInteger)),
+    ("into", Reserved::Keyword(Keyword::KInto)),
+    ("is", Reserved::Keyword(Keyword::KIs)),
+    ("item", Reserved::Keyword(Keyword::KItem)),
+    ("intersect", Reserved::Unsupported),
+    ("join", Reserved::Keyword(Keyword::KJoin)),
+    ("key", Reserved::Keyword(Keyword::KKey)),
+    ("left", Reserved::Unsupported),
+    ("like", Reserved::Unsupported),
+    ("limit", Reserved::Unsupported),
+    ("max", Reserved::Keyword(Keyword::KMax)),
+    ("min", Reserved::Keyword(Keyword::KMin)),
+    ("no", Reserved::Keyword(Keyword::KNo)),
+    ("not", Reserved::Keyword(Keyword::KNot)),
+    ("null", Reserved::Keyword(Keyword::KNull)),
+    ("natural", Reserved::Unsupported),
+    ("on", Reserved::Keyword(Keyword::KOn)),
+    ("open", Reserved::Keyword(Keyword::KOpen)),
+    ("opt", Reserved::Keyword(Keyword::KOpt)),
+    ("otherthan", Reserved::Keyword(Keyword::KOtherthan)),
+    ("out", Reserved::Keyword(Keyword::KOut)),
+    ("or", Reserved::Keyword(Keyword::KOr)),
+    ("offset", Reserved::Unsupported),
+    ("order", Reserved::Unsupported),
+    ("outer", Reserved::Unsupported),
+    ("primary", Reserved::Keyword(Keyword::KPrimary)),
+    ("purpose", Reserved::Keyword(Keyword::KPurpose)),
+    ("recipient", Reserved::Keyword(Keyword::KRecipient)),
+    ("revoke", Reserved::Keyword(Keyword::KRevoke)),
+    ("right", Reserved::Unsupported),
+    ("select", Reserved::Keyword(Keyword::KSelect)),
+    ("set", Reserved::Keyword(Keyword::KSet)),
+    ("shown", Reserved::Keyword(Keyword::KShown)),
+    ("subject", Reserved::Keyword(Keyword::KSubject)),
+    ("sum", Reserved::Unsupported),
+    ("table", Reserved::Keyword(Keyword::KTable)),
+    ("text", Reserved::Keyword(Keyword::KText)),
+    ("to", Reserved::Keyword(Keyword::KTo)),
+    ("update", Reserved::Keyword(Keyword::KUpdate)),
+    ("union", Reserved::Unsupported),
+    ("using", Reserved::Unsupported),
+    ("values", Reserved::Keyword(Keyword::KValues)),
+    ("where", Reserved::Keyword(Keyword::KWhere)),
+    ("with", Reserved::Keyword(Keyword::KWith)),
+    ("window", Reserved::Unsupported),
+    ("yes", Reserved::Keyword(Keyword::KYes)),
+];
+
+// Where the words of each letter begin among them, and where those of the last letter end.
+const STARTS: [usize; 27] = [
+    0, 9, 11, 17, 23, 26, 29, 30, 31, 39, 40, 41, 44, 46, 50, 59, 61, 61, 64, 69, 72, 75, 76, 79,
+    79, 80, 80,
+];
+
+fn equals_folded(known: &str, word: &str) -> bool
+    ensures { result ≡ bytes_eq (folded known.now) (folded word.now) }
+{
+    known.eq_ignore_ascii_case(word)
+}
+
+fn find_word(table: &[(&str, Reserved)], word: &str) -> Option<Reserved>
+    ensures { result ≡ lookup (λ known. bytes_eq (folded known.now) (folded word.now)) table.now }
+{
+    for (known, reserved) in table {
+        if equals_folded(known, word) {
+            return Some(*reserved);
+        }
+    }
+    None
+}
+
+fn find_between(
+    table: &[(&str, Reserved)],
+    start: usize,
+    end: usize,
+    word: &str,
+) -> Option<Reserved>
+    requires order { start ≤ end }
+    requires within { end ≤ length table.now }
+    ensures { result ≡ lookup (λ known. bytes_eq known (folded word.now)) (take (end - start) (drop start (map (λ e. (folded e.0.now, e.1)) table.now))) }
+{
+    find_word(&table[start..end], word)
+}
+
+// The place of a word's first letter in the alphabet.
+fn letter_of(word: &str) -> Option<usize>
+    ensures letter { result ≡ letter_of word.now }
+    ensures within { IfSome result (λ place. place < 26) }
+{
+    match word.as_bytes() {
+        [first, ..] if first.is_ascii_alphabetic() => {
+            Some(usize::from(first.to_ascii_lowercase() - b'a'))
+        }
+        _ => None,
+    }
+}
+
+/// Why a word is no name, in whatever case; none where it is not reserved.
+pub fn reserved_of(word: &str) -> Option<Reserved>
+    ensures { result ≡ reserved_of word.now }
+{
+    let letter = letter_of(word)?;
+    find_between(&WORDS, STARTS[letter], STARTS[letter + 1], word)
+}

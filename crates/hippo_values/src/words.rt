@@ -1,0 +1,34 @@
+//! What a word of a text says.
+
+ghost use Rattle.std.specs.Prelude.{◌≡◌, IfOk};
+ghost use Rattle.hippo_values.specs.Words.{word_of};
+
+use crate::keywords::{Keyword, Reserved, reserved_of};
+use crate::memory::Memory;
+use crate::names::{Name, folded};
+use crate::texts::Txt;
+use std::alloc::Global;
+
+/// What a word of a text says.
+#[derive(Debug, Drop)]
+pub enum Word {
+    Name(Name),
+    Keyword(Keyword),
+    /// A word of SQL that is refused wherever it stands, in lower case.
+    Unsupported(Txt),
+}
+
+/// What a word says, in whatever case; none where it is neither reserved nor a name.
+#[tactic(auto, unfolding(crate::specs::Words::word_of))]
+pub fn read_word(alloc: Global, word: &str) -> Result<Option<Word>, Memory>
+    ensures { IfOk result (λ said. said ≡ word_of word.now) }
+{
+    match reserved_of(word) {
+        Some(Reserved::Keyword(keyword)) => Ok(Some(Word::Keyword(keyword))),
+        Some(Reserved::Unsupported) => Ok(Some(Word::Unsupported(folded(alloc, word)?))),
+        None => match Name::unreserved(alloc, word)? {
+            Some(name) => Ok(Some(Word::Name(name))),
+            None => Ok(None),
+        },
+    }
+}
