@@ -57,7 +57,15 @@ leading_audit tokens = do
   named ← after_keyword KFrom columns.1
   tables ← leading_list leading_name (after_symbol Comma) named
   last ← leading_where tables.1
-  Some (record {
-    from = period.0.from; to = period.0.to; exempt = exempt.0; shown = shown.0;
-    columns = columns.0; tables = tables.0; cond = whole_condition (option_to_list last.0);
-  }, last.1)
+  Some (
+    record {
+      from = period.0.from;
+      to = period.0.to;
+      exempt = exempt.0;
+      shown = shown.0;
+      columns = columns.0;
+      tables = tables.0;
+      cond = whole_condition (option_to_list last.0);
+    },
+    last.1,
+  )

@@ -41,5 +41,11 @@ pub data IsAudit : Kinds → RawAudit → Kinds → Type 0 where
       IsWhere behind last rest →
       whole ≡ whole_condition (option_to_list last) →
       IsAudit (Keyword KDuring ∷ Quoted start ∷ Keyword KTo ∷ Quoted end ∷ tokens) (record {
-        from = start; to = end; exempt = exempt; shown = shown; columns = columns; tables = tables; cond = whole;
+        from = start;
+        to = end;
+        exempt = exempt;
+        shown = shown;
+        columns = columns;
+        tables = tables;
+        cond = whole;
       }) rest

@@ -1,5 +1,5 @@
 -- The members of a select list that are found are those of the grammar, once the select's form is known.
-use Rattle.std.proofs.Common.{◌≡◌, ℕ, suc, ◌<◌, List, [], ◌∷◌, length, map, Option, Some, None, refl, arith}
+use Rattle.std.proofs.Common.{◌≡◌, suc, ◌<◌, List, [], ◌∷◌, length, map, Option, Some, None, refl, arith}
 use Rattle.std.proofs.lemmas.Option.{none-some, same_Some, some_pair_parts}
 use Rattle.hippo_model.specs.declared.statement.RawColumn.{RawColumn}
 use Rattle.hippo_model.specs.declared.statement.RawItem.{RawItem}
@@ -17,7 +17,6 @@ use Rattle.hippo_spj_reader.specs.Front.{after_keyword, after_symbol}
 use Rattle.hippo_spj_reader.specs.ConditionGrammar.{IsColumn, bare, qualified}
 use Rattle.hippo_spj_reader.specs.ConditionFinder.{leading_column}
 use Rattle.hippo_spj_reader.specs.ListGrammar.{IsListOf, last_part, more_parts}
-use Rattle.hippo_spj_reader.specs.ListFinder.{leading_list}
 use Rattle.hippo_spj_reader.specs.SelectGrammar.{IsItem, one_column, all_of_table, AreItems, star, listed, IsOut, column_out, minimum, maximum}
 use Rattle.hippo_spj_reader.specs.SelectFinder.{leading_whole_table, leading_item, leading_argument, leading_member, leading_members, item_of, out_of, each_of}
 use Rattle.hippo_spj_reader.proofs.FrontTheorem.{found_then, choice, symbol_then, name_then, keyword_choice, symbol_choice, after_symbol-some, read_as}

@@ -1,8 +1,7 @@
 -- The select that is found is the one of the grammar.
 use Rattle.std.proofs.Common.{◌≡◌, ℕ, zero, suc, ◌<◌, Bool, true, false, List, [], ◌∷◌, ◌++◌, length, map, codes, option_to_list, Option, Some, None, refl, sym, ◌∙◌, arith}
 use Rattle.std.proofs.lemmas.Option.{none-some, same_Some, some_pair_parts}
-use Rattle.hippo_model.specs.declared.statement.RawColumn.{RawColumn}
-use Rattle.hippo_model.specs.declared.statement.RawForm.TheVariants.{Plain, Distinct, Grouped}
+use Rattle.hippo_model.specs.declared.statement.RawForm.TheVariants.{Plain, Distinct}
 use Rattle.hippo_model.specs.declared.statement.RawSelect.{RawSelect}
 use Rattle.hippo_lexer.specs.declared.kinds.Keyword.TheVariants.{KDistinct, KFrom, KGroup, KInner, KJoin, KOn, KSelect, KWhere}
 use Rattle.hippo_lexer.specs.declared.kinds.Symbol.TheVariants.{Comma, Dot, Semicolon}
@@ -18,7 +17,7 @@ use Rattle.hippo_spj_reader.specs.Front.{after_keyword, after_symbol}
 use Rattle.hippo_spj_reader.specs.ConditionGrammar.{RawCond, IsCondition}
 use Rattle.hippo_spj_reader.specs.ConditionFinder.{leading_column, leading_condition}
 use Rattle.hippo_spj_reader.specs.ListFinder.{leading_list}
-use Rattle.hippo_spj_reader.specs.SelectGrammar.{AreItems, AreJoined, no_more, comma, join, inner_join, IsWhere, no_where, condition, IsScope, scope, select_of, IsSelect, plain, distinct, grouped}
+use Rattle.hippo_spj_reader.specs.SelectGrammar.{AreJoined, no_more, comma, join, inner_join, IsWhere, no_where, condition, IsScope, scope, select_of, IsSelect, plain, distinct, grouped}
 use Rattle.hippo_spj_reader.specs.SelectFinder.{item_of, out_of, each_of, after_join, joined_table, leading_joined_by_comma, leading_joined_on, leading_joined, no_sources, with_first, leading_all_joined, leading_sources, leading_where, leading_scope, draft_of, leading_draft_of, leading_draft, leading_members, ungrouped, leading_grouped, leading_select}
 use Rattle.hippo_spj_reader.proofs.FrontTheorem.{found_then, choice, keyword_then, word_then, name_then, keyword_choice, symbol_choice, after_keyword-some, read_as}
 use Rattle.hippo_spj_reader.proofs.NameTheorem.{columns_found, columns_complete}

@@ -1,5 +1,5 @@
 -- The condition that can be found at the front of a list of tokens, part by part: the longest one.
-use Rattle.std.specs.Prelude.{ℕ, zero, suc, Bool, true, false, List, ◌∷◌, length, Option, Some, None, if◌then◌else◌}
+use Rattle.std.specs.Prelude.{ℕ, zero, suc, Bool, true, false, ◌∷◌, length, Option, Some, None, if◌then◌else◌}
 use Rattle.hippo_values.specs.declared.truths.CompareOp.{CompareOp}
 use Rattle.hippo_values.specs.declared.truths.CompareOp.TheVariants.{Eq, Ne, Lt, Le, Gt, Ge}
 use Rattle.hippo_model.specs.declared.query.CondOf.{Not, Compare, Between, Among, Missing}
@@ -21,7 +21,7 @@ leading_column tokens = do
   either (after_symbol Dot first.1) (λ behind. do
     second ← leading_name behind
     Some (record { table = Some first.0; column = second.0 }, second.1))
-    (Some (record { table = None; column = first.0 }, first.1))
+      (Some (record { table = None; column = first.0 }, first.1))
 
 -- whether a name stands first
 abbrev pub begins_with_name : Kinds → Bool
