@@ -1,2 +1,3 @@
-pub mod Statements
-pub mod Stating
+pub mod Words
+pub mod StatementGrammar
+pub mod StatementFinder

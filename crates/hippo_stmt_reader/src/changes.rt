@@ -1,8 +1,8 @@
 ghost use Rattle.std.specs.Prelude.{◌≡◌, ◌<◌, length, map, IfOk};
 ghost use Rattle.hippo_spj_reader.specs.Answers.{Gives};
 ghost use Rattle.hippo_spj_reader.specs.Front.{kinds};
-ghost use Rattle.hippo_stmt_reader.specs.Statements.{columns_of, values_of};
-ghost use Rattle.hippo_stmt_reader.specs.Stating.{assignment_at, insert_at, update_at, delete_at};
+ghost use Rattle.hippo_stmt_reader.specs.StatementGrammar.{columns_of, values_of};
+ghost use Rattle.hippo_stmt_reader.specs.StatementFinder.{leading_assignment, insert_of, update_of, delete_of};
 
 use crate::parts::ended;
 use hippo_lexer::{Keyword, Symbol, SyntaxFault, Token};
@@ -37,9 +37,9 @@ impl Listed for LiteralList {
 
 type Assignment = (Name, Value);
 
-#[tactic(auto, unfolding(crate::specs::Stating::assignment_at))]
+#[tactic(auto, unfolding(crate::specs::StatementFinder::leading_assignment))]
 fn assignment(alloc: Global, tokens: &[Token]) -> Result<(Assignment, &[Token]), SyntaxFault>
-    ensures found { Gives (λ x. (x.0, kinds x.1.now)) result (assignment_at (kinds tokens.now)) }
+    ensures found { Gives (λ x. (x.0, kinds x.1.now)) result (leading_assignment (kinds tokens.now)) }
     ensures shorter { IfOk result (λ x. length x.1.now < length tokens.now) }
 {
     let (column, rest) = name(alloc, tokens)?;
@@ -54,11 +54,11 @@ struct SettingList;
 impl Listed for SettingList {
     ghost use Rattle.hippo_lexer.specs.declared.kinds.Symbol.TheVariants.{Comma};
     ghost use Rattle.hippo_spj_reader.specs.Front.{after_symbol};
-    ghost use Rattle.hippo_stmt_reader.specs.Stating.{assignment_at};
+    ghost use Rattle.hippo_stmt_reader.specs.StatementFinder.{leading_assignment};
 
     type Part = Assignment;
 
-    ghost part_at = { assignment_at };
+    ghost part_at = { leading_assignment };
 
     ghost next_at = { after_symbol Comma };
 
@@ -77,11 +77,11 @@ struct KeyList;
 impl Listed for KeyList {
     ghost use Rattle.hippo_lexer.specs.declared.kinds.Keyword.TheVariants.{KAnd};
     ghost use Rattle.hippo_spj_reader.specs.Front.{after_keyword};
-    ghost use Rattle.hippo_stmt_reader.specs.Stating.{assignment_at};
+    ghost use Rattle.hippo_stmt_reader.specs.StatementFinder.{leading_assignment};
 
     type Part = Assignment;
 
-    ghost part_at = { assignment_at };
+    ghost part_at = { leading_assignment };
 
     ghost next_at = { after_keyword KAnd };
 
@@ -111,9 +111,9 @@ fn columns_and_values(
 }
 
 /// The statement that the tokens behind INSERT have to be.
-#[tactic(auto, unfolding(crate::specs::Stating::insert_at))]
+#[tactic(auto, unfolding(crate::specs::StatementFinder::insert_of))]
 pub fn insert(alloc: Global, tokens: &[Token]) -> Result<Stmt, SyntaxFault>
-    ensures { Gives (λ stmt. stmt) result (insert_at (kinds tokens.now)) }
+    ensures { Gives (λ stmt. stmt) result (insert_of (kinds tokens.now)) }
 {
     let rest = expect_keyword(tokens, Keyword::KInto)?;
     let (table, rest) = name(alloc, rest)?;
@@ -125,9 +125,9 @@ pub fn insert(alloc: Global, tokens: &[Token]) -> Result<Stmt, SyntaxFault>
 }
 
 /// The statement that the tokens behind UPDATE have to be.
-#[tactic(auto, unfolding(crate::specs::Stating::update_at))]
+#[tactic(auto, unfolding(crate::specs::StatementFinder::update_of))]
 pub fn update(alloc: Global, tokens: &[Token]) -> Result<Stmt, SyntaxFault>
-    ensures { Gives (λ stmt. stmt) result (update_at (kinds tokens.now)) }
+    ensures { Gives (λ stmt. stmt) result (update_of (kinds tokens.now)) }
 {
     let (table, rest) = name(alloc, tokens)?;
     let rest = expect_keyword(rest, Keyword::KSet)?;
@@ -149,9 +149,9 @@ pub fn update(alloc: Global, tokens: &[Token]) -> Result<Stmt, SyntaxFault>
 }
 
 /// The statement that the tokens behind DELETE have to be.
-#[tactic(auto, unfolding(crate::specs::Stating::delete_at))]
+#[tactic(auto, unfolding(crate::specs::StatementFinder::delete_of))]
 pub fn delete(alloc: Global, tokens: &[Token]) -> Result<Stmt, SyntaxFault>
-    ensures { Gives (λ stmt. stmt) result (delete_at (kinds tokens.now)) }
+    ensures { Gives (λ stmt. stmt) result (delete_of (kinds tokens.now)) }
 {
     let rest = expect_keyword(tokens, Keyword::KFrom)?;
     let (table, rest) = name(alloc, rest)?;

@@ -1,7 +1,7 @@
 ghost use Rattle.std.specs.Prelude.{◌≡◌, ◌<◌, ◌≤◌, length, option_map, IfOk, IfSome};
 ghost use Rattle.hippo_spj_reader.specs.Answers.{Gives};
 ghost use Rattle.hippo_spj_reader.specs.Front.{kinds};
-ghost use Rattle.hippo_stmt_reader.specs.Stating.{column_kind_of, column_kind_at, column_def_at, next_column_at, subject_at, create_table_at, create_purpose_at, create_recipient_at, item_kind_at, create_item_at, create_at};
+ghost use Rattle.hippo_stmt_reader.specs.StatementFinder.{column_kind_of, leading_column_kind, leading_column_def, after_column, leading_subject, create_table_of, create_purpose_of, create_recipient_of, leading_item_kind, create_item_of, create_of};
 
 use crate::parts::{ended, names};
 use hippo_lexer::{Keyword, Symbol, SyntaxFault, Token, TokenKind};
@@ -24,7 +24,7 @@ fn column_kind_of(keyword: Keyword) -> Option<ColumnKind>
 }
 
 fn column_kind(tokens: &[Token]) -> Option<(ColumnKind, &[Token])>
-    ensures found { option_map (λ x. (x.0, kinds x.1.now)) result ≡ column_kind_at (kinds tokens.now) }
+    ensures found { option_map (λ x. (x.0, kinds x.1.now)) result ≡ leading_column_kind (kinds tokens.now) }
     ensures shorter { IfSome result (λ x. length x.1.now < length tokens.now) }
 {
     match split(tokens)? {
@@ -33,9 +33,9 @@ fn column_kind(tokens: &[Token]) -> Option<(ColumnKind, &[Token])>
     }
 }
 
-#[tactic(auto, unfolding(crate::specs::Stating::column_def_at))]
+#[tactic(auto, unfolding(crate::specs::StatementFinder::leading_column_def))]
 fn column_def(alloc: Global, tokens: &[Token]) -> Result<(Column, &[Token]), SyntaxFault>
-    ensures found { Gives (λ x. (x.0, kinds x.1.now)) result (column_def_at (kinds tokens.now)) }
+    ensures found { Gives (λ x. (x.0, kinds x.1.now)) result (leading_column_def (kinds tokens.now)) }
     ensures shorter { IfOk result (λ x. length x.1.now < length tokens.now) }
 {
     let (name, rest) = name(alloc, tokens)?;
@@ -64,16 +64,16 @@ fn column_def(alloc: Global, tokens: &[Token]) -> Result<(Column, &[Token]), Syn
 }
 
 /// The rule of the columns of CREATE TABLE: the comma that PRIMARY KEY follows leads to no further one.
-struct ColumnList;
+struct ColumnDefs;
 
-impl Listed for ColumnList {
-    ghost use Rattle.hippo_stmt_reader.specs.Stating.{column_def_at, next_column_at};
+impl Listed for ColumnDefs {
+    ghost use Rattle.hippo_stmt_reader.specs.StatementFinder.{leading_column_def, after_column};
 
     type Part = Column;
 
-    ghost part_at = { column_def_at };
+    ghost part_at = { leading_column_def };
 
-    ghost next_at = { next_column_at };
+    ghost next_at = { after_column };
 
     fn part(alloc: Global, tokens: &[Token]) -> Result<(Column, &[Token]), SyntaxFault> {
         column_def(alloc, tokens)
@@ -88,9 +88,9 @@ impl Listed for ColumnList {
     }
 }
 
-#[tactic(auto, unfolding(crate::specs::Stating::subject_at))]
+#[tactic(auto, unfolding(crate::specs::StatementFinder::leading_subject))]
 fn subject(alloc: Global, tokens: &[Token]) -> Result<(Option<Name>, &[Token]), SyntaxFault>
-    ensures found { Gives (λ x. (x.0, kinds x.1.now)) result (subject_at (kinds tokens.now)) }
+    ensures found { Gives (λ x. (x.0, kinds x.1.now)) result (leading_subject (kinds tokens.now)) }
     ensures shorter { IfOk result (λ x. length x.1.now ≤ length tokens.now) }
 {
     let Some(behind) = after_symbol(tokens, Symbol::Comma) else {
@@ -101,13 +101,13 @@ fn subject(alloc: Global, tokens: &[Token]) -> Result<(Option<Name>, &[Token]), 
     Ok((Some(column), rest))
 }
 
-#[tactic(auto, unfolding(crate::specs::Stating::create_table_at))]
+#[tactic(auto, unfolding(crate::specs::StatementFinder::create_table_of))]
 fn create_table(alloc: Global, tokens: &[Token]) -> Result<Stmt, SyntaxFault>
-    ensures { Gives (λ stmt. stmt) result (create_table_at (kinds tokens.now)) }
+    ensures { Gives (λ stmt. stmt) result (create_table_of (kinds tokens.now)) }
 {
     let (table, rest) = name(alloc, tokens)?;
     let rest = expect_symbol(rest, Symbol::LeftParen)?;
-    let (columns, rest) = list::<ColumnList>(alloc, rest)?;
+    let (columns, rest) = list::<ColumnDefs>(alloc, rest)?;
     let rest = expect_symbol(rest, Symbol::Comma)?;
     let rest = expect_keyword(rest, Keyword::KPrimary)?;
     let rest = expect_keyword(rest, Keyword::KKey)?;
@@ -125,24 +125,24 @@ fn create_table(alloc: Global, tokens: &[Token]) -> Result<Stmt, SyntaxFault>
     )
 }
 
-#[tactic(auto, unfolding(crate::specs::Stating::create_purpose_at))]
+#[tactic(auto, unfolding(crate::specs::StatementFinder::create_purpose_of))]
 fn create_purpose(alloc: Global, tokens: &[Token]) -> Result<Stmt, SyntaxFault>
-    ensures { Gives (λ stmt. stmt) result (create_purpose_at (kinds tokens.now)) }
+    ensures { Gives (λ stmt. stmt) result (create_purpose_of (kinds tokens.now)) }
 {
     let (purpose, rest) = name(alloc, tokens)?;
     ended(Stmt::CreatePurpose(purpose), rest)
 }
 
-#[tactic(auto, unfolding(crate::specs::Stating::create_recipient_at))]
+#[tactic(auto, unfolding(crate::specs::StatementFinder::create_recipient_of))]
 fn create_recipient(alloc: Global, tokens: &[Token]) -> Result<Stmt, SyntaxFault>
-    ensures { Gives (λ stmt. stmt) result (create_recipient_at (kinds tokens.now)) }
+    ensures { Gives (λ stmt. stmt) result (create_recipient_of (kinds tokens.now)) }
 {
     let (recipient, rest) = name(alloc, tokens)?;
     ended(Stmt::CreateRecipient(recipient), rest)
 }
 
 fn item_kind(tokens: &[Token]) -> Result<(ItemKind, &[Token]), SyntaxFault>
-    ensures { Gives (λ x. (x.0, kinds x.1.now)) result (item_kind_at (kinds tokens.now)) }
+    ensures { Gives (λ x. (x.0, kinds x.1.now)) result (leading_item_kind (kinds tokens.now)) }
 {
     if let Some(rest) = after_keyword(tokens, Keyword::KIn) {
         return Ok((ItemKind::OptIn, rest));
@@ -151,9 +151,9 @@ fn item_kind(tokens: &[Token]) -> Result<(ItemKind, &[Token]), SyntaxFault>
     Ok((ItemKind::OptOut, rest))
 }
 
-#[tactic(auto, unfolding(crate::specs::Stating::create_item_at))]
+#[tactic(auto, unfolding(crate::specs::StatementFinder::create_item_of))]
 fn create_item(alloc: Global, tokens: &[Token]) -> Result<Stmt, SyntaxFault>
-    ensures { Gives (λ stmt. stmt) result (create_item_at (kinds tokens.now)) }
+    ensures { Gives (λ stmt. stmt) result (create_item_of (kinds tokens.now)) }
 {
     let (item, rest) = name(alloc, tokens)?;
     let rest = expect_keyword(rest, Keyword::KOpt)?;
@@ -162,9 +162,9 @@ fn create_item(alloc: Global, tokens: &[Token]) -> Result<Stmt, SyntaxFault>
 }
 
 /// The statement that the tokens behind CREATE have to be.
-#[tactic(auto, unfolding(crate::specs::Stating::create_at))]
+#[tactic(auto, unfolding(crate::specs::StatementFinder::create_of))]
 pub fn create(alloc: Global, tokens: &[Token]) -> Result<Stmt, SyntaxFault>
-    ensures { Gives (λ stmt. stmt) result (create_at (kinds tokens.now)) }
+    ensures { Gives (λ stmt. stmt) result (create_of (kinds tokens.now)) }
 {
     if let Some(behind) = after_keyword(tokens, Keyword::KTable) {
         return create_table(alloc, behind);
