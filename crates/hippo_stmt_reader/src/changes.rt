@@ -1,10 +1,11 @@
+//! INSERT, UPDATE and DELETE.
 ghost use Rattle.std.specs.Prelude.{◌≡◌, ◌<◌, length, map, IfOk};
 ghost use Rattle.hippo_spj_reader.specs.Answers.{Gives};
 ghost use Rattle.hippo_spj_reader.specs.Front.{kinds};
 ghost use Rattle.hippo_stmt_reader.specs.StatementGrammar.{columns_of, values_of};
 ghost use Rattle.hippo_stmt_reader.specs.StatementFinder.{leading_assignment, insert_of, update_of, delete_of};
 
-use crate::parts::ended;
+use crate::parts::with_end;
 use hippo_lexer::{Keyword, Symbol, SyntaxFault, Token};
 use hippo_model::{Cells, Names, Stmt};
 use hippo_spj_reader::{
@@ -121,7 +122,7 @@ pub fn insert(alloc: Global, tokens: &[Token]) -> Result<Stmt, SyntaxFault>
     let rest = expect_symbol(rest, Symbol::LeftParen)?;
     let (values, rest) = list::<LiteralList>(alloc, rest)?;
     let rest = expect_symbol(rest, Symbol::RightParen)?;
-    ended(Stmt::Insert { table, values }, rest)
+    with_end(Stmt::Insert { table, values }, rest)
 }
 
 /// The statement that the tokens behind UPDATE have to be.
@@ -136,7 +137,7 @@ pub fn update(alloc: Global, tokens: &[Token]) -> Result<Stmt, SyntaxFault>
     let (keys, rest) = list::<KeyList>(alloc, rest)?;
     let (columns, values) = columns_and_values(alloc, settings)?;
     let (key_columns, key_values) = columns_and_values(alloc, keys)?;
-    ended(
+    with_end(
         Stmt::Update {
             table,
             columns,
@@ -158,7 +159,7 @@ pub fn delete(alloc: Global, tokens: &[Token]) -> Result<Stmt, SyntaxFault>
     let rest = expect_keyword(rest, Keyword::KWhere)?;
     let (keys, rest) = list::<KeyList>(alloc, rest)?;
     let (key_columns, key_values) = columns_and_values(alloc, keys)?;
-    ended(
+    with_end(
         Stmt::Delete {
             table,
             key_columns,

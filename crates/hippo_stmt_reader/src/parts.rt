@@ -1,3 +1,4 @@
+//! Parts that several statements have.
 ghost use Rattle.std.specs.Prelude.{◌≡◌, ◌<◌, ◌≤◌, length, option_map, IfOk, IfSome};
 ghost use Rattle.hippo_spj_reader.specs.Answers.{Gives};
 ghost use Rattle.hippo_spj_reader.specs.Front.{kinds};
@@ -72,7 +73,7 @@ fn end(tokens: &[Token]) -> Result<(), SyntaxFault>
 }
 
 /// What was read, where the statement ends behind it.
-pub fn ended<T: Drop>(read: T, tokens: &[Token]) -> Result<T, SyntaxFault>
+pub fn with_end<T: Drop>(read: T, tokens: &[Token]) -> Result<T, SyntaxFault>
     ensures { Gives (λ x. x) result (with_end read (kinds tokens.now)) }
 {
     end(tokens)?;

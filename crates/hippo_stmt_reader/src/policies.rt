@@ -1,9 +1,10 @@
+//! AUTHORIZE, DEAUTHORIZE, ALLOW, REVOKE and CHOICE.
 ghost use Rattle.std.specs.Prelude.{◌≡◌, ◌<◌, ◌≤◌, length, IfOk};
 ghost use Rattle.hippo_spj_reader.specs.Answers.{Gives};
 ghost use Rattle.hippo_spj_reader.specs.Front.{kinds};
 ghost use Rattle.hippo_stmt_reader.specs.StatementFinder.{leading_grant, authorize_of, deauthorize_of, leading_disclosure, leading_item, days_of, leading_retention, allow_of, revoke_of, leading_yes_or_no, choice_of};
 
-use crate::parts::{after_word, ended, expect_word, names, number};
+use crate::parts::{after_word, with_end, expect_word, names, number};
 use hippo_lexer::{Keyword, Symbol, SyntaxFault, Token};
 use hippo_model::{Names, Stmt};
 use hippo_spj_reader::{after_keyword, expect_keyword, expect_symbol, name};
@@ -49,7 +50,7 @@ pub fn authorize(alloc: Global, tokens: &[Token]) -> Result<Stmt, SyntaxFault>
         purpose,
         recipient,
     } = grant;
-    ended(
+    with_end(
         Stmt::Authorize {
             user,
             purpose,
@@ -70,7 +71,7 @@ pub fn deauthorize(alloc: Global, tokens: &[Token]) -> Result<Stmt, SyntaxFault>
         purpose,
         recipient,
     } = grant;
-    ended(
+    with_end(
         Stmt::Deauthorize {
             user,
             purpose,
@@ -90,7 +91,7 @@ struct Disclosure {
 }
 
 #[tactic(auto, unfolding(crate::specs::StatementFinder::leading_disclosure))]
-fn disclosure(alloc: Global, tokens: &[Token]) -> Result<(Disclosure, &[Token]), SyntaxFault>
+fn disclosed(alloc: Global, tokens: &[Token]) -> Result<(Disclosure, &[Token]), SyntaxFault>
     ensures found { Gives (λ x. ((x.0.purpose, x.0.recipient, x.0.table, x.0.columns), kinds x.1.now)) result (leading_disclosure (kinds tokens.now)) }
     ensures shorter { IfOk result (λ x. length x.1.now < length tokens.now) }
 {
@@ -154,7 +155,7 @@ fn retention(tokens: &[Token]) -> Result<(Option<u32>, &[Token]), SyntaxFault>
 pub fn allow(alloc: Global, tokens: &[Token]) -> Result<Stmt, SyntaxFault>
     ensures { Gives (λ stmt. stmt) result (allow_of (kinds tokens.now)) }
 {
-    let (disclosure, rest) = disclosure(alloc, tokens)?;
+    let (disclosure, rest) = disclosed(alloc, tokens)?;
     let (item, rest) = with_item(alloc, rest)?;
     let (days, rest) = retention(rest)?;
     let Disclosure {
@@ -163,7 +164,7 @@ pub fn allow(alloc: Global, tokens: &[Token]) -> Result<Stmt, SyntaxFault>
         table,
         columns,
     } = disclosure;
-    ended(
+    with_end(
         Stmt::Allow {
             purpose,
             recipient,
@@ -181,14 +182,14 @@ pub fn allow(alloc: Global, tokens: &[Token]) -> Result<Stmt, SyntaxFault>
 pub fn revoke(alloc: Global, tokens: &[Token]) -> Result<Stmt, SyntaxFault>
     ensures { Gives (λ stmt. stmt) result (revoke_of (kinds tokens.now)) }
 {
-    let (disclosure, rest) = disclosure(alloc, tokens)?;
+    let (disclosure, rest) = disclosed(alloc, tokens)?;
     let Disclosure {
         purpose,
         recipient,
         table,
         columns,
     } = disclosure;
-    ended(
+    with_end(
         Stmt::Revoke {
             purpose,
             recipient,
@@ -220,5 +221,5 @@ pub fn choice(alloc: Global, tokens: &[Token]) -> Result<Stmt, SyntaxFault>
     let (item, rest) = name(alloc, rest)?;
     let rest = expect_keyword(rest, Keyword::KIs)?;
     let (yes, rest) = yes_or_no(rest)?;
-    ended(Stmt::Choice { subject, item, yes }, rest)
+    with_end(Stmt::Choice { subject, item, yes }, rest)
 }

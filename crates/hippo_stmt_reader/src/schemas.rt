@@ -1,9 +1,10 @@
+//! CREATE TABLE, PURPOSE, RECIPIENT and ITEM.
 ghost use Rattle.std.specs.Prelude.{◌≡◌, ◌<◌, ◌≤◌, length, option_map, IfOk, IfSome};
 ghost use Rattle.hippo_spj_reader.specs.Answers.{Gives};
 ghost use Rattle.hippo_spj_reader.specs.Front.{kinds};
 ghost use Rattle.hippo_stmt_reader.specs.StatementFinder.{column_kind_of, leading_column_kind, leading_column_def, after_column, leading_subject, create_table_of, create_purpose_of, create_recipient_of, leading_item_kind, create_item_of, create_of};
 
-use crate::parts::{ended, names};
+use crate::parts::{with_end, names};
 use hippo_lexer::{Keyword, Symbol, SyntaxFault, Token, TokenKind};
 use hippo_model::{Column, ColumnKind, ItemKind, Stmt};
 use hippo_spj_reader::{
@@ -114,7 +115,7 @@ fn create_table(alloc: Global, tokens: &[Token]) -> Result<Stmt, SyntaxFault>
     let (key, rest) = names(alloc, rest)?;
     let (subject, rest) = subject(alloc, rest)?;
     let rest = expect_symbol(rest, Symbol::RightParen)?;
-    ended(
+    with_end(
         Stmt::CreateTable {
             table,
             columns,
@@ -130,7 +131,7 @@ fn create_purpose(alloc: Global, tokens: &[Token]) -> Result<Stmt, SyntaxFault>
     ensures { Gives (λ stmt. stmt) result (create_purpose_of (kinds tokens.now)) }
 {
     let (purpose, rest) = name(alloc, tokens)?;
-    ended(Stmt::CreatePurpose(purpose), rest)
+    with_end(Stmt::CreatePurpose(purpose), rest)
 }
 
 #[tactic(auto, unfolding(crate::specs::StatementFinder::create_recipient_of))]
@@ -138,7 +139,7 @@ fn create_recipient(alloc: Global, tokens: &[Token]) -> Result<Stmt, SyntaxFault
     ensures { Gives (λ stmt. stmt) result (create_recipient_of (kinds tokens.now)) }
 {
     let (recipient, rest) = name(alloc, tokens)?;
-    ended(Stmt::CreateRecipient(recipient), rest)
+    with_end(Stmt::CreateRecipient(recipient), rest)
 }
 
 fn item_kind(tokens: &[Token]) -> Result<(ItemKind, &[Token]), SyntaxFault>
@@ -158,7 +159,7 @@ fn create_item(alloc: Global, tokens: &[Token]) -> Result<Stmt, SyntaxFault>
     let (item, rest) = name(alloc, tokens)?;
     let rest = expect_keyword(rest, Keyword::KOpt)?;
     let (kind, rest) = item_kind(rest)?;
-    ended(Stmt::CreateItem { item, kind }, rest)
+    with_end(Stmt::CreateItem { item, kind }, rest)
 }
 
 /// The statement that the tokens behind CREATE have to be.

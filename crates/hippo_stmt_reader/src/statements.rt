@@ -1,3 +1,4 @@
+//! Which statement the tokens are.
 ghost use Rattle.std.specs.Prelude.{◌≡◌, ◌<◌, length, is_some, IsTrue, IfOk, IfErr};
 ghost use Rattle.hippo_model.specs.declared.statement.Stmt.{Stmt};
 ghost use Rattle.hippo_lexer.specs.Words.{words_check};
@@ -8,7 +9,7 @@ ghost use Rattle.hippo_stmt_reader.specs.Words.{after_word};
 ghost use Rattle.hippo_stmt_reader.specs.StatementFinder.{console_behind, console_by_keyword, console_of, audit_of, begin_audit_of, watch_of, explain_of, placed_select_of, open_of, extract_of, select_of, statement_of};
 
 use crate::changes::{delete, insert, update};
-use crate::parts::{after_word, ended, number};
+use crate::parts::{after_word, with_end, number};
 use crate::policies::{allow, authorize, choice, deauthorize, revoke};
 use crate::schemas::create;
 use hippo_audit_reader::audit;
@@ -22,7 +23,7 @@ fn audit_statement(alloc: Global, tokens: &[Token]) -> Result<Stmt, SyntaxFault>
     ensures { Gives (λ stmt. stmt) result (audit_of (kinds tokens.now)) }
 {
     let (audit, rest) = audit(alloc, tokens)?;
-    ended(Stmt::Audit(audit), rest)
+    with_end(Stmt::Audit(audit), rest)
 }
 
 #[tactic(auto, unfolding(crate::specs::StatementFinder::begin_audit_of))]
@@ -31,7 +32,7 @@ fn begin_audit(alloc: Global, tokens: &[Token]) -> Result<Stmt, SyntaxFault>
 {
     let rest = expect_keyword(tokens, Keyword::KAudit)?;
     let (audit, rest) = audit(alloc, rest)?;
-    ended(Stmt::BeginAudit(audit), rest)
+    with_end(Stmt::BeginAudit(audit), rest)
 }
 
 #[tactic(auto, unfolding(crate::specs::StatementFinder::watch_of))]
@@ -39,7 +40,7 @@ fn watch(alloc: Global, tokens: &[Token]) -> Result<Stmt, SyntaxFault>
     ensures { Gives (λ stmt. stmt) result (watch_of (kinds tokens.now)) }
 {
     let (audit, rest) = audit(alloc, tokens)?;
-    ended(Stmt::Watch(audit), rest)
+    with_end(Stmt::Watch(audit), rest)
 }
 
 #[tactic(auto, unfolding(crate::specs::StatementFinder::explain_of))]
@@ -47,7 +48,7 @@ fn explain(tokens: &[Token]) -> Result<Stmt, SyntaxFault>
     ensures { Gives (λ stmt. stmt) result (explain_of (kinds tokens.now)) }
 {
     let (number, rest) = number(tokens)?;
-    ended(Stmt::Explain(number), rest)
+    with_end(Stmt::Explain(number), rest)
 }
 
 // A statement of the console that begins with this keyword, from the tokens behind it.
@@ -87,6 +88,9 @@ fn console(alloc: Global, tokens: &[Token]) -> Result<Stmt, SyntaxFault>
     if begins_with(tokens, Keyword::KDuring) {
         return audit_statement(alloc, tokens);
     }
+    if let Some(behind) = after_word(tokens, "watch") {
+        return watch(alloc, behind);
+    }
     console_by_keyword(alloc, tokens)
 }
 
@@ -122,7 +126,7 @@ fn placed_select(alloc: Global, tokens: &[Token]) -> Result<PlacedSelect, Syntax
         drop(select);
         return Err(SyntaxFault::BadSyntax);
     };
-    ended(
+    with_end(
         PlacedSelect {
             select,
             start: first.start,
