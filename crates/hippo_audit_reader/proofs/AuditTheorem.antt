@@ -8,92 +8,93 @@ use Rattle.hippo_lexer.specs.declared.kinds.Keyword.TheVariants.{KAudit, KDuring
 use Rattle.hippo_lexer.specs.declared.kinds.Symbol.TheVariants.{Comma, Dot, LeftParen, RightParen}
 use Rattle.hippo_lexer.specs.declared.kinds.TokenKind.{TokenKind}
 use Rattle.hippo_lexer.specs.declared.kinds.TokenKind.TheVariants.{Keyword, Quoted, Symbol}
-use Rattle.hippo_spj_reader.specs.Conditions.{RawCond, IsColumn}
-use Rattle.hippo_spj_reader.specs.Finding.{column_at}
-use Rattle.hippo_spj_reader.specs.Front.{after_keyword, after_symbol, name_at}
-use Rattle.hippo_spj_reader.specs.Lists.{IsListOf, last_part, more_parts, list_at}
-use Rattle.hippo_spj_reader.specs.Selects.{IsWhere, no_where, condition}
-use Rattle.hippo_spj_reader.specs.Selecting.{where_at}
-use Rattle.hippo_spj_reader.proofs.FrontTheorem.{step, keyword_step, symbol_step, name_step, keyword_choice, after_symbol-some, read_as}
+use Rattle.hippo_spj_reader.specs.ConditionGrammar.{RawCond, IsColumn}
+use Rattle.hippo_spj_reader.specs.ConditionFinder.{leading_column}
+use Rattle.hippo_spj_reader.specs.Front.{after_keyword, after_symbol, leading_name}
+use Rattle.hippo_spj_reader.specs.ListGrammar.{IsListOf, last_part, more_parts}
+use Rattle.hippo_spj_reader.specs.ListFinder.{leading_list}
+use Rattle.hippo_spj_reader.specs.SelectGrammar.{IsWhere, no_where, condition}
+use Rattle.hippo_spj_reader.specs.SelectFinder.{leading_where}
+use Rattle.hippo_spj_reader.proofs.FrontTheorem.{found_then, keyword_then, symbol_then, name_then, keyword_choice, after_symbol-some, read_as}
 use Rattle.hippo_spj_reader.proofs.ListTheorem.{parts_found, list_complete}
 use Rattle.hippo_spj_reader.proofs.NameTheorem.{names_found, names_complete}
 use Rattle.hippo_spj_reader.proofs.OperandTheorem.{column_found, column_complete, column_shorter}
 use Rattle.hippo_spj_reader.proofs.SelectTheorem.{where_found, where_complete}
 use Rattle.hippo_spj_reader.proofs.ConditionTheorem.{Ends}
-use Rattle.hippo_audit_reader.specs.Audits.{IsPair, pair, AreExempt, none_exempt, otherthan, IsAudit, audit}
-use Rattle.hippo_audit_reader.specs.Auditing.{quoted_at, pair_at, exempt_at, period_at, audit_at}
+use Rattle.hippo_audit_reader.specs.AuditGrammar.{IsPair, pair, AreExempt, none_exempt, otherthan, IsAudit, audit}
+use Rattle.hippo_audit_reader.specs.AuditFinder.{leading_quoted, leading_pair, leading_exempt, leading_period, leading_audit}
 
-quoted_at-some : (tokens rest : List TokenKind) (text : List ℕ) → quoted_at tokens ≡ Some (text, rest) → tokens ≡ Quoted text ∷ rest
-quoted_at-some (Quoted first ∷ behind) rest text e = let p = some_pair_parts first text behind rest e in rw (p.0, p.1) refl
-quoted_at-some _ rest text e = absurd (none-some _ e)
+leading_quoted-some : (tokens rest : List TokenKind) (text : List ℕ) → leading_quoted tokens ≡ Some (text, rest) → tokens ≡ Quoted text ∷ rest
+leading_quoted-some (Quoted first ∷ behind) rest text e = let p = some_pair_parts first text behind rest e in rw (p.0, p.1) refl
+leading_quoted-some _ rest text e = absurd (none-some _ e)
 
-pair_found : (tokens : List TokenKind) (p : Pair) (rest : List TokenKind) → pair_at tokens ≡ Some (p, rest) → IsPair tokens p rest
-unfolding pair_at
+pair_found : (tokens : List TokenKind) (p : Pair) (rest : List TokenKind) → leading_pair tokens ≡ Some (p, rest) → IsPair tokens p rest
+unfolding leading_pair
 pair_found tokens p rest e =
-    symbol_step LeftParen tokens _ _ e (λ inside is_open e.
-    name_step inside _ _ e (λ purpose behind is_purpose e.
-    symbol_step Comma behind _ _ e (λ after is_comma e.
-    name_step after _ _ e (λ recipient last is_recipient e.
-    symbol_step RightParen last _ _ e (λ left is_close e.
+    symbol_then LeftParen tokens _ _ e (λ inside is_open e.
+    name_then inside _ _ e (λ purpose behind is_purpose e.
+    symbol_then Comma behind _ _ e (λ after is_comma e.
+    name_then after _ _ e (λ recipient last is_recipient e.
+    symbol_then RightParen last _ _ e (λ left is_close e.
     rw (is_open, is_purpose, is_comma, is_recipient, is_close) (read_as IsPair _ _ _ _ _ e pair))))))
 
-pair_complete : (tokens : List TokenKind) (p : Pair) (rest : List TokenKind) → IsPair tokens p rest → Unit {0} → pair_at tokens ≡ Some (p, rest)
-unfolding pair_at
+pair_complete : (tokens : List TokenKind) (p : Pair) (rest : List TokenKind) → IsPair tokens p rest → Unit {0} → leading_pair tokens ≡ Some (p, rest)
+unfolding leading_pair
 pair_complete tokens p rest pair follows = refl
 
 pair_shorter : (tokens : List TokenKind) (p : Pair) (rest : List TokenKind) → IsPair tokens p rest → length rest < length tokens
 pair_shorter tokens p rest pair = omega arith
 
-exempt_found : (tokens : List TokenKind) (pairs : List Pair) (rest : List TokenKind) → exempt_at tokens ≡ Some (pairs, rest) → AreExempt tokens pairs rest
-unfolding exempt_at
+exempt_found : (tokens : List TokenKind) (pairs : List Pair) (rest : List TokenKind) → leading_exempt tokens ≡ Some (pairs, rest) → AreExempt tokens pairs rest
+unfolding leading_exempt
 exempt_found tokens pairs rest e =
     keyword_choice KOtherthan tokens _ _ _ e
     (λ behind is_otherthan e. rw is_otherthan (otherthan
-    (parts_found pair_at (after_symbol Comma) IsPair (Symbol Comma) (IsListOf IsPair (Symbol Comma)) pair_found (after_symbol-some Comma)
+    (parts_found leading_pair (after_symbol Comma) IsPair (Symbol Comma) (IsListOf IsPair (Symbol Comma)) pair_found (after_symbol-some Comma)
     (λ _ _ _ d. last_part d) (λ _ _ _ _ _ d ds. more_parts d ds) (suc (length behind)) behind pairs rest e)))
     (λ _ e. read_as AreExempt tokens _ _ _ _ e none_exempt)
 
-exempt_complete : (tokens : List TokenKind) (pairs : List Pair) (rest : List TokenKind) → AreExempt tokens pairs rest → after_symbol Comma rest ≡ None → after_keyword KOtherthan rest ≡ None → exempt_at tokens ≡ Some (pairs, rest)
-unfolding exempt_at
+exempt_complete : (tokens : List TokenKind) (pairs : List Pair) (rest : List TokenKind) → AreExempt tokens pairs rest → after_symbol Comma rest ≡ None → after_keyword KOtherthan rest ≡ None → leading_exempt tokens ≡ Some (pairs, rest)
+unfolding leading_exempt
 exempt_complete tokens pairs rest none_exempt no_comma no_otherthan = rw no_otherthan refl
 exempt_complete _ pairs rest (otherthan {tokens = tokens} ds) no_comma no_otherthan =
-    list_complete pair_at (after_symbol Comma) IsPair (Symbol Comma) (λ _. Unit {0}) pair_complete (λ _. tt) (λ _ _ _ _. refl) pair_shorter tokens pairs rest ds tt no_comma
+    list_complete leading_pair (after_symbol Comma) IsPair (Symbol Comma) (λ _. Unit {0}) pair_complete (λ _. tt) (λ _ _ _ _. refl) pair_shorter tokens pairs rest ds tt no_comma
 
-columns_found : (tokens : List TokenKind) (columns : List RawColumn) (rest : List TokenKind) → list_at column_at (after_symbol Comma) tokens ≡ Some (columns, rest) → IsListOf IsColumn (Symbol Comma) tokens columns rest
+columns_found : (tokens : List TokenKind) (columns : List RawColumn) (rest : List TokenKind) → leading_list leading_column (after_symbol Comma) tokens ≡ Some (columns, rest) → IsListOf IsColumn (Symbol Comma) tokens columns rest
 columns_found tokens columns rest e =
-    parts_found column_at (after_symbol Comma) IsColumn (Symbol Comma) (IsListOf IsColumn (Symbol Comma)) column_found (after_symbol-some Comma)
+    parts_found leading_column (after_symbol Comma) IsColumn (Symbol Comma) (IsListOf IsColumn (Symbol Comma)) column_found (after_symbol-some Comma)
     (λ _ _ _ d. last_part d) (λ _ _ _ _ _ d ds. more_parts d ds) (suc (length tokens)) tokens columns rest e
 
 columns_complete : (tokens : List TokenKind) (columns : List RawColumn) (rest : List TokenKind) → IsListOf IsColumn (Symbol Comma) tokens columns rest → after_symbol Dot rest ≡ None → after_symbol Comma rest ≡ None →
-    list_at column_at (after_symbol Comma) tokens ≡ Some (columns, rest)
+    leading_list leading_column (after_symbol Comma) tokens ≡ Some (columns, rest)
 columns_complete tokens columns rest ds no_dot no_comma =
-    list_complete column_at (after_symbol Comma) IsColumn (Symbol Comma) (λ rest. after_symbol Dot rest ≡ None) column_complete (λ _. refl) (λ _ _ _ _. refl) column_shorter tokens columns rest ds no_dot no_comma
+    list_complete leading_column (after_symbol Comma) IsColumn (Symbol Comma) (λ rest. after_symbol Dot rest ≡ None) column_complete (λ _. refl) (λ _ _ _ _. refl) column_shorter tokens columns rest ds no_dot no_comma
 
-period_step : {P : Type 0} (tokens : List TokenKind) (start end : List ℕ) (rest : List TokenKind) → period_at tokens ≡ Some ((start, end), rest) →
+period_then : {P : Type 0} (tokens : List TokenKind) (start end : List ℕ) (rest : List TokenKind) → leading_period tokens ≡ Some ((start, end), rest) →
     (tokens ≡ Keyword KDuring ∷ Quoted start ∷ Keyword KTo ∷ Quoted end ∷ rest → P) → P
-unfolding period_at
-period_step tokens start end rest e next =
-    keyword_step KDuring tokens _ _ e (λ first is_during e.
-    step (quoted_at first) _ _ e (λ from from_is e.
-    keyword_step KTo from.1 _ _ e (λ second is_to e.
-    step (quoted_at second) _ _ e (λ to to_is e.
+unfolding leading_period
+period_then tokens start end rest e next =
+    keyword_then KDuring tokens _ _ e (λ first is_during e.
+    found_then (leading_quoted first) _ _ e (λ from from_is e.
+    keyword_then KTo from.1 _ _ e (λ second is_to e.
+    found_then (leading_quoted second) _ _ e (λ to to_is e.
     let whole = some_pair_parts (from.0, to.0) (start, end) to.1 rest e in
     let is_start : from.0 ≡ start = ap (λ (x : List ℕ × List ℕ). x.0) whole.0 in
     let is_end : to.0 ≡ end = ap (λ (x : List ℕ × List ℕ). x.1) whole.0 in
-    next (rw (is_during, quoted_at-some first from.1 from.0 from_is, is_to, quoted_at-some second to.1 to.0 to_is, is_start, is_end, whole.1) refl)))))
+    next (rw (is_during, leading_quoted-some first from.1 from.0 from_is, is_to, leading_quoted-some second to.1 to.0 to_is, is_start, is_end, whole.1) refl)))))
 
 -- what is found is an audit expression of the grammar
-pub found : (tokens : List TokenKind) (a : RawAudit) (rest : List TokenKind) → audit_at tokens ≡ Some (a, rest) → IsAudit tokens a rest
-unfolding audit_at
+pub found : (tokens : List TokenKind) (a : RawAudit) (rest : List TokenKind) → leading_audit tokens ≡ Some (a, rest) → IsAudit tokens a rest
+unfolding leading_audit
 found tokens a rest e =
-    step (period_at tokens) _ _ e (λ period period_is e.
-    step (exempt_at period.1) _ _ e (λ exempt exempt_is e.
-    keyword_step KAudit exempt.1 _ _ e (λ audited is_audit e.
-    step (list_at column_at (after_symbol Comma) audited) _ _ e (λ columns columns_is e.
-    keyword_step KFrom columns.1 _ _ e (λ named is_from e.
-    step (list_at name_at (after_symbol Comma) named) _ _ e (λ tables tables_is e.
-    step (where_at tables.1) _ _ e (λ last last_is e.
-    period_step tokens period.0.0 period.0.1 period.1 period_is (λ is_during.
+    found_then (leading_period tokens) _ _ e (λ period period_is e.
+    found_then (leading_exempt period.1) _ _ e (λ exempt exempt_is e.
+    keyword_then KAudit exempt.1 _ _ e (λ audited is_audit e.
+    found_then (leading_list leading_column (after_symbol Comma) audited) _ _ e (λ columns columns_is e.
+    keyword_then KFrom columns.1 _ _ e (λ named is_from e.
+    found_then (leading_list leading_name (after_symbol Comma) named) _ _ e (λ tables tables_is e.
+    found_then (leading_where tables.1) _ _ e (λ last last_is e.
+    period_then tokens period.0.0 period.0.1 period.1 period_is (λ is_during.
     let are_exempt : AreExempt period.1 exempt.0 (Keyword KAudit ∷ audited) = rw is_audit at (exempt_found period.1 exempt.0 exempt.1 exempt_is) in
     let are_columns : IsListOf IsColumn (Symbol Comma) audited columns.0 (Keyword KFrom ∷ named) = rw is_from at (columns_found audited columns.0 columns.1 columns_is) in
     rw is_during (read_as IsAudit _ _ _ _ _ e
@@ -110,8 +111,8 @@ where-no_comma tokens conditions rest no_where no_comma = no_comma
 where-no_comma tokens conditions rest (condition d) no_comma = refl
 
 -- the audit expression is found, whole, where nothing behind it goes on with it
-pub complete : (tokens : List TokenKind) (a : RawAudit) (rest : List TokenKind) → IsAudit tokens a rest → AuditEnds rest → audit_at tokens ≡ Some (a, rest)
-unfolding audit_at period_at
+pub complete : (tokens : List TokenKind) (a : RawAudit) (rest : List TokenKind) → IsAudit tokens a rest → AuditEnds rest → leading_audit tokens ≡ Some (a, rest)
+unfolding leading_audit leading_period
 complete _ _ rest (audit {exempt = exempt} {columns = columns} {tables = tables} {conditions = conditions} {tokens = tokens} {audited = audited} {named = named} {behind = behind} are_exempt are_columns are_tables is_where is_whole) ends =
     rw (
       exempt_complete tokens exempt (Keyword KAudit ∷ audited) are_exempt refl refl,

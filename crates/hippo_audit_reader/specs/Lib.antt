@@ -1,2 +1,2 @@
-pub mod Auditing
-pub mod Audits
+pub mod AuditFinder
+pub mod AuditGrammar

@@ -1,23 +1,24 @@
-ghost use Rattle.std.specs.Prelude.{◌≡◌, [], ◌<◌, ◌≤◌, length, option_to_list, IfOk, IfErr};
-ghost use Rattle.hippo_model.specs.declared.statement.RawAudit.{RawAudit};
-ghost use Rattle.hippo_spj_reader.specs.Answers.{Gives, whole_of, IsFaultOnlyWhere};
+//! Audit expressions.
+
+ghost use Rattle.std.specs.Prelude.{◌≡◌, ◌≤◌, length, option_to_list, slice_range, IfOk, Some};
+ghost use Rattle.hippo_lexer.specs.Words.{words_check};
+ghost use Rattle.hippo_spj_reader.specs.Promises.{Reads, ReadsAll};
 ghost use Rattle.hippo_spj_reader.specs.Front.{kinds, kinds_between};
-ghost use Rattle.hippo_spj_reader.specs.Selects.{whole_condition};
-ghost use Rattle.hippo_audit_reader.specs.Audits.{IsAudit};
-ghost use Rattle.hippo_audit_reader.specs.Auditing.{quoted_at, pair_at, exempt_at, period_at, audit_at};
+ghost use Rattle.hippo_spj_reader.specs.SelectGrammar.{whole_condition};
+ghost use Rattle.hippo_audit_reader.specs.AuditGrammar.{IsAudit};
+ghost use Rattle.hippo_audit_reader.specs.AuditFinder.{leading_quoted, leading_pair, leading_exempt, leading_period, leading_shown, leading_audit};
 
 use hippo_lexer::{Keyword, Symbol, SyntaxFault, Token, TokenKind, Tokens};
-use hippo_model::{Pair, Pairs, RawAudit, RawColumn, RawCond};
+use hippo_model::{Pair, Pairs, RawAudit, RawCond};
 use hippo_spj_reader::{
-    Listed, NameList, after_keyword, after_symbol, after_where, column, expect_keyword,
-    expect_symbol, list, name, split, whole_condition,
+    ColumnPart, Commas, NamePart, Part, after_keyword, after_where, expect_keyword, expect_symbol,
+    list, name, split, whole, whole_condition,
 };
 use hippo_values::{Duplicate, Memory, Sequence, Txt};
 use std::alloc::Global;
 
 fn quoted(alloc: Global, tokens: &[Token]) -> Result<(Txt, &[Token]), SyntaxFault>
-    ensures found { Gives (λ x. (x.0, kinds x.1.now)) result (quoted_at (kinds tokens.now)) }
-    ensures shorter { IfOk result (λ x. length x.1.now < length tokens.now) }
+    ensures { Reads leading_quoted tokens.now result }
 {
     match split(tokens) {
         Some((TokenKind::Quoted(text), rest)) => Ok((text.copy(alloc)?, rest)),
@@ -25,10 +26,9 @@ fn quoted(alloc: Global, tokens: &[Token]) -> Result<(Txt, &[Token]), SyntaxFaul
     }
 }
 
-#[tactic(auto, unfolding(crate::specs::Auditing::pair_at))]
+#[tactic(auto, unfolding(crate::specs::AuditFinder::leading_pair))]
 fn pair(alloc: Global, tokens: &[Token]) -> Result<(Pair, &[Token]), SyntaxFault>
-    ensures found { Gives (λ x. (x.0, kinds x.1.now)) result (pair_at (kinds tokens.now)) }
-    ensures shorter { IfOk result (λ x. length x.1.now < length tokens.now) }
+    ensures { Reads leading_pair tokens.now result }
 {
     let inside = expect_symbol(tokens, Symbol::LeftParen)?;
     let (purpose, rest) = name(alloc, inside)?;
@@ -38,61 +38,29 @@ fn pair(alloc: Global, tokens: &[Token]) -> Result<(Pair, &[Token]), SyntaxFault
     Ok((Pair { purpose, recipient }, rest))
 }
 
-/// The rule of the pairs behind OTHERTHAN.
-struct ExemptList;
+// The rule of a pair.
+struct PairPart;
 
-impl Listed for ExemptList {
-    ghost use Rattle.hippo_lexer.specs.declared.kinds.Symbol.TheVariants.{Comma};
-    ghost use Rattle.hippo_spj_reader.specs.Front.{after_symbol};
-    ghost use Rattle.hippo_audit_reader.specs.Auditing.{pair_at};
+impl Part for PairPart {
+    ghost use Rattle.hippo_audit_reader.specs.AuditFinder.{leading_pair};
 
-    type Part = Pair;
+    type Reading = Pair;
 
-    ghost part_at = { pair_at };
+    ghost leading = { leading_pair };
 
-    ghost next_at = { after_symbol Comma };
-
-    fn part(alloc: Global, tokens: &[Token]) -> Result<(Pair, &[Token]), SyntaxFault> {
+    fn read(alloc: Global, tokens: &[Token]) -> Result<(Pair, &[Token]), SyntaxFault> {
         pair(alloc, tokens)
     }
-
-    fn next(tokens: &[Token]) -> Option<&[Token]> {
-        after_symbol(tokens, Symbol::Comma)
-    }
 }
 
-/// The rule of the audited columns.
-struct ColumnList;
-
-impl Listed for ColumnList {
-    ghost use Rattle.hippo_lexer.specs.declared.kinds.Symbol.TheVariants.{Comma};
-    ghost use Rattle.hippo_spj_reader.specs.Front.{after_symbol};
-    ghost use Rattle.hippo_spj_reader.specs.Finding.{column_at};
-
-    type Part = RawColumn;
-
-    ghost part_at = { column_at };
-
-    ghost next_at = { after_symbol Comma };
-
-    fn part(alloc: Global, tokens: &[Token]) -> Result<(RawColumn, &[Token]), SyntaxFault> {
-        column(alloc, tokens)
-    }
-
-    fn next(tokens: &[Token]) -> Option<&[Token]> {
-        after_symbol(tokens, Symbol::Comma)
-    }
-}
-
-#[tactic(auto, unfolding(crate::specs::Auditing::exempt_at))]
+#[tactic(auto, unfolding(crate::specs::AuditFinder::leading_exempt))]
 fn exempt(alloc: Global, tokens: &[Token]) -> Result<(Pairs, &[Token]), SyntaxFault>
-    ensures found { Gives (λ x. (x.0, kinds x.1.now)) result (exempt_at (kinds tokens.now)) }
-    ensures shorter { IfOk result (λ x. length x.1.now ≤ length tokens.now) }
+    ensures { Reads leading_exempt tokens.now result }
 {
     let Some(behind) = after_keyword(tokens, Keyword::KOtherthan) else {
         return Ok((Sequence::new(alloc), tokens));
     };
-    list::<ExemptList>(alloc, behind)
+    list::<PairPart, Commas>(alloc, behind)
 }
 
 // The texts of the period's beginning and end.
@@ -102,16 +70,27 @@ struct Period {
     to: Txt,
 }
 
-#[tactic(auto, unfolding(crate::specs::Auditing::period_at))]
+#[tactic(auto, unfolding(crate::specs::AuditFinder::leading_period))]
 fn during(alloc: Global, tokens: &[Token]) -> Result<(Period, &[Token]), SyntaxFault>
-    ensures found { Gives (λ x. ((x.0.from, x.0.to), kinds x.1.now)) result (period_at (kinds tokens.now)) }
-    ensures shorter { IfOk result (λ x. length x.1.now < length tokens.now) }
+    ensures { Reads leading_period tokens.now result }
 {
     let rest = expect_keyword(tokens, Keyword::KDuring)?;
     let (from, rest) = quoted(alloc, rest)?;
     let rest = expect_keyword(rest, Keyword::KTo)?;
     let (to, rest) = quoted(alloc, rest)?;
     Ok((Period { from, to }, rest))
+}
+
+// Whether SHOWN stands first, and the tokens behind it.
+#[tactic(auto, unfolding(crate::specs::AuditFinder::leading_shown))]
+fn shown(tokens: &[Token]) -> (bool, &[Token])
+    ensures found { leading_shown (kinds tokens.now) ≡ Some (result.0, kinds result.1.now) }
+    ensures no_longer { length result.1.now ≤ length tokens.now }
+{
+    match after_keyword(tokens, Keyword::KShown) {
+        Some(rest) => (true, rest),
+        None => (false, tokens),
+    }
 }
 
 // The condition of a statement that has this one behind WHERE, or none.
@@ -126,17 +105,17 @@ fn condition_of(alloc: Global, condition: Option<RawCond>) -> Result<RawCond, Me
 }
 
 /// The audit expression that has to stand first, as long as it goes on, and the tokens behind it.
-#[tactic(auto, unfolding(crate::specs::Auditing::audit_at))]
+#[tactic(auto, unfolding(crate::specs::AuditFinder::leading_audit))]
 pub fn audit(alloc: Global, tokens: &[Token]) -> Result<(RawAudit, &[Token]), SyntaxFault>
-    ensures found { Gives (λ x. (x.0, kinds x.1.now)) result (audit_at (kinds tokens.now)) }
-    ensures shorter { IfOk result (λ x. length x.1.now < length tokens.now) }
+    ensures { Reads leading_audit tokens.now result }
 {
     let (period, rest) = during(alloc, tokens)?;
     let (exempt, rest) = exempt(alloc, rest)?;
     let rest = expect_keyword(rest, Keyword::KAudit)?;
-    let (columns, rest) = list::<ColumnList>(alloc, rest)?;
+    let (shown, rest) = shown(rest);
+    let (columns, rest) = list::<ColumnPart, Commas>(alloc, rest)?;
     let rest = expect_keyword(rest, Keyword::KFrom)?;
-    let (tables, rest) = list::<NameList>(alloc, rest)?;
+    let (tables, rest) = list::<NamePart, Commas>(alloc, rest)?;
     let (last, rest) = after_where(alloc, rest)?;
     let Period { from, to } = period;
     let cond = condition_of(alloc, last)?;
@@ -145,7 +124,7 @@ pub fn audit(alloc: Global, tokens: &[Token]) -> Result<(RawAudit, &[Token]), Sy
             from,
             to,
             exempt,
-            shown: false,
+            shown,
             columns,
             tables,
             cond,
@@ -154,14 +133,18 @@ pub fn audit(alloc: Global, tokens: &[Token]) -> Result<(RawAudit, &[Token]), Sy
     ))
 }
 
-fn whole(alloc: Global, tokens: &[Token]) -> Result<RawAudit, SyntaxFault>
-    ensures { Gives (λ audit. audit) result (whole_of (audit_at (kinds tokens.now))) }
-{
-    let (found, rest) = audit(alloc, tokens)?;
-    if rest.is_empty() {
-        Ok(found)
-    } else {
-        Err(SyntaxFault::BadSyntax)
+// The rule of an audit expression.
+struct AuditPart;
+
+impl Part for AuditPart {
+    ghost use Rattle.hippo_audit_reader.specs.AuditFinder.{leading_audit};
+
+    type Reading = RawAudit;
+
+    ghost leading = { leading_audit };
+
+    fn read(alloc: Global, tokens: &[Token]) -> Result<(RawAudit, &[Token]), SyntaxFault> {
+        audit(alloc, tokens)
     }
 }
 
@@ -175,11 +158,8 @@ pub fn read_audit(
 ) -> Result<RawAudit, SyntaxFault>
     requires order { first ≤ last }
     requires within { last ≤ length t.now }
-    ensures found { IfOk result (λ audit. IsAudit (kinds_between t.now first last) audit []) }
-    ensures only { IfOk result (λ audit. (other : RawAudit) →
-        IsAudit (kinds_between t.now first last) other [] → other ≡ audit) }
-    ensures errors { IfErr result (IsFaultOnlyWhere ((audit : RawAudit) →
-        ¬ IsAudit (kinds_between t.now first last) audit [])) }
+    requires words { words_check (slice_range t.now first last) ≡ Ok tt }
+    ensures { ReadsAll IsAudit (kinds_between t.now first last) result }
 {
-    whole(alloc, &t.as_slice()[first..last])
+    whole::<AuditPart>(alloc, &t.as_slice()[first..last])
 }

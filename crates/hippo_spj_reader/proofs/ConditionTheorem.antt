@@ -7,70 +7,71 @@ use Rattle.hippo_lexer.specs.declared.kinds.Keyword.TheVariants.{KAnd, KBetween,
 use Rattle.hippo_lexer.specs.declared.kinds.Symbol.TheVariants.{Comma, Dot, LeftParen, RightParen}
 use Rattle.hippo_lexer.specs.declared.kinds.TokenKind.{TokenKind}
 use Rattle.hippo_lexer.specs.declared.kinds.TokenKind.TheVariants.{Keyword, Symbol}
-use Rattle.hippo_spj_reader.specs.Front.{after_keyword, after_symbol}
-use Rattle.hippo_spj_reader.specs.Lists.{IsListOf, last_part, more_parts, parts_at, list_at}
-use Rattle.hippo_spj_reader.specs.Conditions.{RawCond, IsOperand, IsCondition, disjunction, AreDisjuncts, last_disjunct, more_disjuncts, IsConjunction, conjunction, AreConjuncts, last_conjunct, more_conjuncts, IsNegation, negated, plain, IsPrimary, parentheses, comparison, between, not_between, among, not_among, missing, present}
-use Rattle.hippo_spj_reader.specs.Finding.{Finds, operand_at, operator_at, comparison_at, between_at, among_at, range_at, null_at, test_at, conjunction_with, condition_with, primary_with, negation_at, condition_at}
-use Rattle.hippo_spj_reader.proofs.FrontTheorem.{step, choice, keyword_step, symbol_step, keyword_choice, symbol_choice, after_keyword-some, after_symbol-some, read_as}
+use Rattle.hippo_spj_reader.specs.Front.{Finds, after_keyword, after_symbol}
+use Rattle.hippo_spj_reader.specs.ListGrammar.{IsListOf, last_part, more_parts}
+use Rattle.hippo_spj_reader.specs.ListFinder.{leading_parts, leading_list}
+use Rattle.hippo_spj_reader.specs.ConditionGrammar.{RawCond, IsOperand, IsCondition, disjunction, AreDisjuncts, last_disjunct, more_disjuncts, IsConjunction, conjunction, AreConjuncts, last_conjunct, more_conjuncts, IsNegation, negated, plain, IsPrimary, parentheses, comparison, between, not_between, among, not_among, missing, present}
+use Rattle.hippo_spj_reader.specs.ConditionFinder.{leading_operand, leading_operator, leading_comparison, leading_between, leading_among, leading_range, leading_null, leading_test, conjunction_with, condition_with, primary_with, leading_negation, leading_condition}
+use Rattle.hippo_spj_reader.proofs.FrontTheorem.{found_then, choice, keyword_then, symbol_then, keyword_choice, symbol_choice, after_keyword-some, after_symbol-some, read_as}
 use Rattle.hippo_spj_reader.proofs.ListTheorem.{parts_found, list_complete, list_shorter}
-use Rattle.hippo_spj_reader.proofs.OperandTheorem.{operand_found, operator_step, operand_complete, operator_complete, operand_shorter, no_parenthesis, no_not, no_operator-dot}
+use Rattle.hippo_spj_reader.proofs.OperandTheorem.{operand_found, operator_then, operand_complete, operator_complete, operand_shorter, no_parenthesis, no_not, no_operator-dot}
 
-pub operands_found : (tokens : List TokenKind) (list : List RawOperand) (rest : List TokenKind) → list_at operand_at (after_symbol Comma) tokens ≡ Some (list, rest) → IsListOf IsOperand (Symbol Comma) tokens list rest
+pub operands_found : (tokens : List TokenKind) (list : List RawOperand) (rest : List TokenKind) → leading_list leading_operand (after_symbol Comma) tokens ≡ Some (list, rest) → IsListOf IsOperand (Symbol Comma) tokens list rest
 operands_found tokens list rest e =
-    parts_found operand_at (after_symbol Comma) IsOperand (Symbol Comma) (IsListOf IsOperand (Symbol Comma)) operand_found (after_symbol-some Comma)
+    parts_found leading_operand (after_symbol Comma) IsOperand (Symbol Comma) (IsListOf IsOperand (Symbol Comma)) operand_found (after_symbol-some Comma)
     (λ _ _ _ d. last_part d) (λ _ _ _ _ _ d ds. more_parts d ds) (suc (length tokens)) tokens list rest e
 
 -- what BETWEEN or IN says behind an operand
-range_found : {P : Type 0} (v : RawOperand) (tokens : List TokenKind) (c : RawCond) (rest : List TokenKind) → range_at v tokens ≡ Some (c, rest) →
+range_found : {P : Type 0} (v : RawOperand) (tokens : List TokenKind) (c : RawCond) (rest : List TokenKind) → leading_range v tokens ≡ Some (c, rest) →
     ((low high : RawOperand) (lows highs : List TokenKind) → tokens ≡ Keyword KBetween ∷ lows → IsOperand lows low (Keyword KAnd ∷ highs) → IsOperand highs high rest → c ≡ Between v low high → P) →
     ((list : List RawOperand) (others : List TokenKind) → tokens ≡ Keyword KIn ∷ Symbol LeftParen ∷ others → IsListOf IsOperand (Symbol Comma) others list (Symbol RightParen ∷ rest) → c ≡ Among v list → P) → P
-unfolding range_at between_at among_at
+unfolding leading_range leading_between leading_among
 range_found v tokens c rest e by_between by_among =
     keyword_choice KBetween tokens _ _ _ e
     (λ lows is_between e.
-    step (operand_at lows) _ _ e (λ low low_found e.
-    keyword_step KAnd low.1 _ _ e (λ highs is_and e.
-    step (operand_at highs) _ _ e (λ high high_found e.
+    found_then (leading_operand lows) _ _ e (λ low low_found e.
+    keyword_then KAnd low.1 _ _ e (λ highs is_and e.
+    found_then (leading_operand highs) _ _ e (λ high high_found e.
     let whole = some_pair_parts (Between v low.0 high.0) c high.1 rest e in
     let is_low : IsOperand lows low.0 (Keyword KAnd ∷ highs) = rw is_and at (operand_found lows low.0 low.1 low_found) in
     let is_high : IsOperand highs high.0 rest = rw whole.1 at (operand_found highs high.0 high.1 high_found) in
     by_between low.0 high.0 lows highs is_between is_low is_high (sym whole.0)))))
     (λ _ e.
-    keyword_step KIn tokens _ _ e (λ behind is_in e.
-    symbol_step LeftParen behind _ _ e (λ others is_open e.
-    step (list_at operand_at (after_symbol Comma) others) _ _ e (λ list list_found e.
-    symbol_step RightParen list.1 _ _ e (λ left is_close e.
+    keyword_then KIn tokens _ _ e (λ behind is_in e.
+    symbol_then LeftParen behind _ _ e (λ others is_open e.
+    found_then (leading_list leading_operand (after_symbol Comma) others) _ _ e (λ list list_found e.
+    symbol_then RightParen list.1 _ _ e (λ left is_close e.
     let whole = some_pair_parts (Among v list.0) c left rest e in
     let is_list : IsListOf IsOperand (Symbol Comma) others list.0 (Symbol RightParen ∷ rest) = rw (is_close, whole.1) at (operands_found others list.0 list.1 list_found) in
     by_among list.0 others (rw (is_in, is_open) refl) is_list (sym whole.0))))))
 
 -- what NULL or NOT NULL says behind an operand and IS
-null_found : (all tokens : List TokenKind) (v : RawOperand) (c : RawCond) (rest : List TokenKind) → IsOperand all v (Keyword KIs ∷ tokens) → null_at v tokens ≡ Some (c, rest) → IsPrimary all c rest
-unfolding null_at
+null_found : (all tokens : List TokenKind) (v : RawOperand) (c : RawCond) (rest : List TokenKind) → IsOperand all v (Keyword KIs ∷ tokens) → leading_null v tokens ≡ Some (c, rest) → IsPrimary all c rest
+unfolding leading_null
 null_found all tokens v c rest is_operand e =
     keyword_choice KNot tokens _ _ _ e
-    (λ behind is_not e. keyword_step KNull behind _ _ e (λ left is_null e.
+    (λ behind is_not e. keyword_then KNull behind _ _ e (λ left is_null e.
     let whole = some_pair_parts (Not (Missing v)) c left rest e in
     present (rw (is_not, is_null, whole.1) at is_operand) (sym whole.0)))
-    (λ _ e. keyword_step KNull tokens _ _ e (λ left is_null e.
+    (λ _ e. keyword_then KNull tokens _ _ e (λ left is_null e.
     let whole = some_pair_parts (Missing v) c left rest e in
     rw (← whole.0) (missing (rw (is_null, whole.1) at is_operand))))
 
-test_found : (all tokens : List TokenKind) (v : RawOperand) (c : RawCond) (rest : List TokenKind) → IsOperand all v tokens → test_at v tokens ≡ Some (c, rest) → IsPrimary all c rest
-unfolding test_at comparison_at
+test_found : (all tokens : List TokenKind) (v : RawOperand) (c : RawCond) (rest : List TokenKind) → IsOperand all v tokens → leading_test v tokens ≡ Some (c, rest) → IsPrimary all c rest
+unfolding leading_test leading_comparison
 test_found all tokens v c rest is_operand e =
     keyword_choice KNot tokens _ _ _ e
-    (λ behind is_not e. step (range_at v behind) _ _ e (λ part found e.
+    (λ behind is_not e. found_then (leading_range v behind) _ _ e (λ part found e.
     let whole = some_pair_parts (Not part.0) c part.1 rest e in
-    let range_is : range_at v behind ≡ Some (part.0, rest) = rw whole.1 at found in
+    let range_is : leading_range v behind ≡ Some (part.0, rest) = rw whole.1 at found in
     range_found v behind part.0 rest range_is
     (λ low high lows highs is_between is_low is_high is. not_between (rw (is_not, is_between) at is_operand) is_low is_high (rw (← is) (sym whole.0)))
     (λ list others is_in is_list is. not_among (rw (is_not, is_in) at is_operand) is_list (rw (← is) (sym whole.0)))))
     (λ _ e. keyword_choice KIs tokens _ _ _ e
     (λ behind is_is e. null_found all behind v c rest (rw is_is at is_operand) e)
-    (λ _ e. choice (operator_at tokens) _ _ _ e
-    (λ op found e. operator_step tokens op.0 op.1 found (λ sign is_sign is_operator.
-    step (operand_at op.1) _ _ e (λ right right_found e.
+    (λ _ e. choice (leading_operator tokens) _ _ _ e
+    (λ op found e. operator_then tokens op.0 op.1 found (λ sign is_sign is_operator.
+    found_then (leading_operand op.1) _ _ e (λ right right_found e.
     read_as IsPrimary all _ _ _ _ e (comparison (rw is_sign at is_operand) is_operator (operand_found op.1 right.0 right.1 right_found)))))
     (λ _ e. range_found v tokens c rest e
     (λ low high lows highs is_between is_low is_high is. rw is (between (rw is_between at is_operand) is_low is_high))
@@ -79,7 +80,7 @@ test_found all tokens v c rest is_operand e =
 module _ (deeper : Finds RawCond) (deeper_found : (tokens : List TokenKind) (c : RawCond) (rest : List TokenKind) → deeper tokens ≡ Some (c, rest) → IsNegation tokens c rest) where
   conjunction_found : (tokens : List TokenKind) (c : RawCond) (rest : List TokenKind) → conjunction_with deeper tokens ≡ Some (c, rest) → IsConjunction tokens c rest
   conjunction_found tokens c rest e =
-      step (list_at deeper (after_keyword KAnd) tokens) _ _ e (λ parts found e.
+      found_then (leading_list deeper (after_keyword KAnd) tokens) _ _ e (λ parts found e.
       read_as IsConjunction tokens _ _ _ _ e (conjunction
       (parts_found deeper (after_keyword KAnd) IsNegation (Keyword KAnd) AreConjuncts deeper_found (after_keyword-some KAnd)
       (λ _ _ _ d. last_conjunct d) (λ _ _ _ _ _ d ds. more_conjuncts d ds) (suc (length tokens)) tokens parts.0 parts.1 found)
@@ -87,7 +88,7 @@ module _ (deeper : Finds RawCond) (deeper_found : (tokens : List TokenKind) (c :
 
   pub condition_found : (tokens : List TokenKind) (c : RawCond) (rest : List TokenKind) → condition_with deeper tokens ≡ Some (c, rest) → IsCondition tokens c rest
   condition_found tokens c rest e =
-      step (list_at (conjunction_with deeper) (after_keyword KOr) tokens) _ _ e (λ parts found e.
+      found_then (leading_list (conjunction_with deeper) (after_keyword KOr) tokens) _ _ e (λ parts found e.
       read_as IsCondition tokens _ _ _ _ e (disjunction
       (parts_found (conjunction_with deeper) (after_keyword KOr) IsConjunction (Keyword KOr) AreDisjuncts conjunction_found (after_keyword-some KOr)
       (λ _ _ _ d. last_disjunct d) (λ _ _ _ _ _ d ds. more_disjuncts d ds) (suc (length tokens)) tokens parts.0 parts.1 found)
@@ -97,33 +98,33 @@ module _ (deeper : Finds RawCond) (deeper_found : (tokens : List TokenKind) (c :
   primary_found tokens c rest e =
       symbol_choice LeftParen tokens _ _ _ e
       (λ inside is_open e.
-      step (condition_with deeper inside) _ _ e (λ found is_found e.
-      symbol_step RightParen found.1 _ _ e (λ left is_close e.
+      found_then (condition_with deeper inside) _ _ e (λ found is_found e.
+      symbol_then RightParen found.1 _ _ e (λ left is_close e.
       rw is_open (read_as IsPrimary _ _ _ _ _ e (parentheses (rw is_close at (condition_found inside found.0 found.1 is_found)))))))
-      (λ _ e. step (operand_at tokens) _ _ e (λ v found e. test_found tokens v.1 v.0 c rest (operand_found tokens v.0 v.1 found) e))
+      (λ _ e. found_then (leading_operand tokens) _ _ e (λ v found e. test_found tokens v.1 v.0 c rest (operand_found tokens v.0 v.1 found) e))
 
-negation_found : (n : ℕ) (tokens : List TokenKind) (c : RawCond) (rest : List TokenKind) → negation_at n tokens ≡ Some (c, rest) → IsNegation tokens c rest
+negation_found : (n : ℕ) (tokens : List TokenKind) (c : RawCond) (rest : List TokenKind) → leading_negation n tokens ≡ Some (c, rest) → IsNegation tokens c rest
 negation_found zero tokens c rest e = absurd (none-some _ e)
 negation_found (suc n) tokens c rest e =
     keyword_choice KNot tokens _ _ _ e
-    (λ behind is_not e. step (negation_at n behind) _ _ e (λ part found e.
+    (λ behind is_not e. found_then (leading_negation n behind) _ _ e (λ part found e.
     rw is_not (read_as IsNegation _ _ _ _ _ e (negated (negation_found n behind part.0 part.1 found) refl))))
-    (λ _ e. plain (primary_found (negation_at n) (negation_found n) tokens c rest e))
+    (λ _ e. plain (primary_found (leading_negation n) (negation_found n) tokens c rest e))
 
 -- what is found is a condition of the grammar
-pub found : (tokens : List TokenKind) (c : RawCond) (rest : List TokenKind) → condition_at tokens ≡ Some (c, rest) → IsCondition tokens c rest
-unfolding condition_at
-found tokens c rest e = condition_found (negation_at (suc (length tokens))) (negation_found (suc (length tokens))) tokens c rest e
+pub found : (tokens : List TokenKind) (c : RawCond) (rest : List TokenKind) → leading_condition tokens ≡ Some (c, rest) → IsCondition tokens c rest
+unfolding leading_condition
+found tokens c rest e = condition_found (leading_negation (suc (length tokens))) (negation_found (suc (length tokens))) tokens c rest e
 
 operands_complete : (tokens : List TokenKind) (list : List RawOperand) (rest : List TokenKind) → IsListOf IsOperand (Symbol Comma) tokens list (Symbol RightParen ∷ rest) →
-    list_at operand_at (after_symbol Comma) tokens ≡ Some (list, Symbol RightParen ∷ rest)
+    leading_list leading_operand (after_symbol Comma) tokens ≡ Some (list, Symbol RightParen ∷ rest)
 operands_complete tokens list rest is_list =
-    list_complete operand_at (after_symbol Comma) IsOperand (Symbol Comma) (λ rest. after_symbol Dot rest ≡ None) operand_complete (λ _. refl) (λ _ _ _ _. refl) operand_shorter
+    list_complete leading_operand (after_symbol Comma) IsOperand (Symbol Comma) (λ rest. after_symbol Dot rest ≡ None) operand_complete (λ _. refl) (λ _ _ _ _. refl) operand_shorter
     tokens list (Symbol RightParen ∷ rest) is_list refl refl
 
 operands_shorter : (tokens : List TokenKind) (list : List RawOperand) (rest : List TokenKind) → IsListOf IsOperand (Symbol Comma) tokens list rest → length rest < length tokens
 operands_shorter tokens list rest is_list =
-    list_shorter operand_at (after_symbol Comma) IsOperand (Symbol Comma) (λ rest. after_symbol Dot rest ≡ None) operand_complete (λ _. refl) (λ _ _ _ _. refl) operand_shorter tokens list rest is_list
+    list_shorter leading_operand (after_symbol Comma) IsOperand (Symbol Comma) (λ rest. after_symbol Dot rest ≡ None) operand_complete (λ _. refl) (λ _ _ _ _. refl) operand_shorter tokens list rest is_list
 
 -- a condition takes tokens
 mutual
@@ -198,13 +199,13 @@ pub record Ends (rest : List TokenKind) : Type 0 where
 
 -- the condition is found, whole, where nothing behind it goes on with it
 mutual
-  unfolding test_at comparison_at range_at between_at among_at null_at
+  unfolding leading_test leading_comparison leading_range leading_between leading_among leading_null
 
-  condition_complete : (n : ℕ) (tokens : List TokenKind) (c : RawCond) (rest : List TokenKind) → IsCondition tokens c rest → Ends rest → length tokens < n → condition_with (negation_at n) tokens ≡ Some (c, rest)
+  condition_complete : (n : ℕ) (tokens : List TokenKind) (c : RawCond) (rest : List TokenKind) → IsCondition tokens c rest → Ends rest → length tokens < n → condition_with (leading_negation n) tokens ≡ Some (c, rest)
   condition_complete n tokens c rest (disjunction ds e) ends enough = rw (disjuncts_complete n (suc (length tokens)) tokens _ rest ds ends enough (omega arith), e) refl
 
   disjuncts_complete : (n m : ℕ) (tokens : List TokenKind) (cs : List RawCond) (rest : List TokenKind) → AreDisjuncts tokens cs rest → Ends rest → length tokens < n → length tokens < m →
-      parts_at (conjunction_with (negation_at n)) (after_keyword KOr) m tokens ≡ Some (cs, rest)
+      leading_parts (conjunction_with (leading_negation n)) (after_keyword KOr) m tokens ≡ Some (cs, rest)
   disjuncts_complete n zero tokens cs rest ds ends enough bound = absurd (omega arith)
   disjuncts_complete n (suc m) tokens cs rest (last_disjunct d) ends enough bound = rw (conjunction_complete n tokens _ rest d ends.no_dot ends.no_and enough, ends.no_or) refl
   disjuncts_complete n (suc m) tokens cs rest (more_disjuncts {others = others} d ds) ends enough bound =
@@ -212,23 +213,23 @@ mutual
       rw (conjunction_complete n tokens _ (Keyword KOr ∷ others) d refl refl enough, disjuncts_complete n m others _ rest ds ends (omega (arith, first)) (omega (arith, first))) refl
 
   conjunction_complete : (n : ℕ) (tokens : List TokenKind) (c : RawCond) (rest : List TokenKind) → IsConjunction tokens c rest → after_symbol Dot rest ≡ None → after_keyword KAnd rest ≡ None → length tokens < n →
-      conjunction_with (negation_at n) tokens ≡ Some (c, rest)
+      conjunction_with (leading_negation n) tokens ≡ Some (c, rest)
   conjunction_complete n tokens c rest (conjunction ds e) no_dot no_and enough = rw (conjuncts_complete n (suc (length tokens)) tokens _ rest ds no_dot no_and enough (omega arith), e) refl
 
   conjuncts_complete : (n m : ℕ) (tokens : List TokenKind) (cs : List RawCond) (rest : List TokenKind) → AreConjuncts tokens cs rest → after_symbol Dot rest ≡ None → after_keyword KAnd rest ≡ None → length tokens < n → length tokens < m →
-      parts_at (negation_at n) (after_keyword KAnd) m tokens ≡ Some (cs, rest)
+      leading_parts (leading_negation n) (after_keyword KAnd) m tokens ≡ Some (cs, rest)
   conjuncts_complete n zero tokens cs rest ds no_dot no_and enough bound = absurd (omega arith)
   conjuncts_complete n (suc m) tokens cs rest (last_conjunct d) no_dot no_and enough bound = rw (negation_complete n tokens _ rest d no_dot enough, no_and) refl
   conjuncts_complete n (suc m) tokens cs rest (more_conjuncts {others = others} d ds) no_dot no_and enough bound =
       let first : length (Keyword KAnd ∷ others) < length tokens = negation_shorter tokens _ (Keyword KAnd ∷ others) d in
       rw (negation_complete n tokens _ (Keyword KAnd ∷ others) d refl enough, conjuncts_complete n m others _ rest ds no_dot no_and (omega (arith, first)) (omega (arith, first))) refl
 
-  negation_complete : (n : ℕ) (tokens : List TokenKind) (c : RawCond) (rest : List TokenKind) → IsNegation tokens c rest → after_symbol Dot rest ≡ None → length tokens < n → negation_at n tokens ≡ Some (c, rest)
+  negation_complete : (n : ℕ) (tokens : List TokenKind) (c : RawCond) (rest : List TokenKind) → IsNegation tokens c rest → after_symbol Dot rest ≡ None → length tokens < n → leading_negation n tokens ≡ Some (c, rest)
   negation_complete zero tokens c rest d no_dot enough = absurd (omega arith)
   negation_complete (suc n) _ c rest (negated {tokens = tokens} d e) no_dot enough = rw (negation_complete n tokens _ rest d no_dot (omega arith), e) refl
   negation_complete (suc n) tokens c rest (plain d) no_dot enough = rw (primary-no_not tokens c rest d) (primary_complete n tokens c rest d no_dot (omega arith))
 
-  primary_complete : (n : ℕ) (tokens : List TokenKind) (c : RawCond) (rest : List TokenKind) → IsPrimary tokens c rest → after_symbol Dot rest ≡ None → length tokens ≤ n → primary_with (negation_at n) tokens ≡ Some (c, rest)
+  primary_complete : (n : ℕ) (tokens : List TokenKind) (c : RawCond) (rest : List TokenKind) → IsPrimary tokens c rest → after_symbol Dot rest ≡ None → length tokens ≤ n → primary_with (leading_negation n) tokens ≡ Some (c, rest)
   primary_complete n _ c rest (parentheses {tokens = tokens} d) no_dot enough =
       rw (condition_complete n tokens c (Symbol RightParen ∷ rest) d (record { no_dot = refl; no_and = refl; no_or = refl }) (omega arith)) refl
   primary_complete n tokens c rest (comparison {sign = sign} {others = others} a op b) no_dot enough =
@@ -246,6 +247,6 @@ mutual
   primary_complete n tokens c rest (present a e) no_dot enough =
       rw (no_parenthesis tokens _ _ a, operand_complete tokens _ (Keyword KIs ∷ Keyword KNot ∷ Keyword KNull ∷ rest) a refl, e) refl
 
-pub complete : (tokens : List TokenKind) (c : RawCond) (rest : List TokenKind) → IsCondition tokens c rest → Ends rest → condition_at tokens ≡ Some (c, rest)
-unfolding condition_at
+pub complete : (tokens : List TokenKind) (c : RawCond) (rest : List TokenKind) → IsCondition tokens c rest → Ends rest → leading_condition tokens ≡ Some (c, rest)
+unfolding leading_condition
 complete tokens c rest is_condition ends = condition_complete (suc (length tokens)) tokens c rest is_condition ends (omega arith)

@@ -1,6 +1,7 @@
 -- What is found at the front of a list of tokens stands there.
-use Rattle.std.proofs.Common.{◌≡◌, ℕ, List, ◌∷◌, Option, Some, None, refl}
+use Rattle.std.proofs.Common.{◌≡◌, ℕ, List, ◌∷◌, Option, Some, None, refl, bytes_eq}
 use Rattle.std.proofs.lemmas.Option.{cond_some, none-some, some_pair_parts}
+use Rattle.std.proofs.lemmas.Slice.Eq.{bytes_eq-Decides}
 use denote.Enum.Bare.{same_true}
 use Rattle.hippo_lexer.specs.contracts.kinds.Keyword as keywords
 use Rattle.hippo_lexer.specs.contracts.kinds.Symbol as symbols
@@ -8,13 +9,13 @@ use Rattle.hippo_lexer.specs.declared.kinds.Keyword as words
 use Rattle.hippo_lexer.specs.declared.kinds.Symbol as signs
 use Rattle.hippo_lexer.specs.declared.kinds.TokenKind.{TokenKind}
 use Rattle.hippo_lexer.specs.declared.kinds.TokenKind.TheVariants.{Word, Keyword, Symbol}
-use Rattle.hippo_spj_reader.specs.Answers.{◌>>=◌, either}
-use Rattle.hippo_spj_reader.specs.Front.{after_keyword, after_symbol, same_keyword, same_symbol, name_at}
+use Rattle.hippo_spj_reader.specs.Promises.{◌>>=◌, either}
+use Rattle.hippo_spj_reader.specs.Front.{after_keyword, after_symbol, after_word, same_keyword, same_symbol, leading_name}
 
--- what a step and the next found together, each of them found
-pub step : {A B P : Type 0} (found : Option A) (next : A → Option B) (y : B) → (found >>= next) ≡ Some y → ((x : A) → found ≡ Some x → next x ≡ Some y → P) → P
-step (Some x) next y e then = then x refl e
-step None next y e then = absurd (none-some y e)
+-- what two found together, one after the other, each of them found
+pub found_then : {A B P : Type 0} (found : Option A) (next : A → Option B) (y : B) → (found >>= next) ≡ Some y → ((x : A) → found ≡ Some x → next x ≡ Some y → P) → P
+found_then (Some x) next y e then = then x refl e
+found_then None next y e then = absurd (none-some y e)
 
 -- which of the two was found
 pub choice : {A B P : Type 0} (found : Option A) (one : A → Option B) (other y : Option B) → either found one other ≡ y →
@@ -36,22 +37,35 @@ after_symbol-some symbol (Symbol first ∷ behind) rest e =
     rw (same, p.1) refl
 after_symbol-some symbol _ rest e = absurd (none-some rest e)
 
-pub name_at-some : (tokens rest : List TokenKind) (name : List ℕ) → name_at tokens ≡ Some (name, rest) → tokens ≡ Word name ∷ rest
-name_at-some (Word first ∷ behind) rest name e = let p = some_pair_parts first name behind rest e in rw (p.0, p.1) refl
-name_at-some _ rest name e = absurd (none-some _ e)
+pub after_word-some : (word : List ℕ) (tokens rest : List TokenKind) → after_word word tokens ≡ Some rest → tokens ≡ Word word ∷ rest
+after_word-some word (Word first ∷ behind) rest e =
+    let p = cond_some (bytes_eq first word) behind rest e in
+    rw ((bytes_eq-Decides first word).0 p.0, p.1) refl
+after_word-some word _ rest e = absurd (none-some rest e)
 
--- the same, where the step is one over a keyword, a symbol or a name
-pub keyword_step : {B P : Type 0} (keyword : words.Keyword) (tokens : List TokenKind) (next : List TokenKind → Option B) (y : B) → (after_keyword keyword tokens >>= next) ≡ Some y →
+pub after_word-same : (word : List ℕ) (rest : List TokenKind) → after_word word (Word word ∷ rest) ≡ Some rest
+after_word-same word rest = rw ((bytes_eq-Decides word word).1 refl) refl
+
+pub leading_name-some : (tokens rest : List TokenKind) (name : List ℕ) → leading_name tokens ≡ Some (name, rest) → tokens ≡ Word name ∷ rest
+leading_name-some (Word first ∷ behind) rest name e = let p = some_pair_parts first name behind rest e in rw (p.0, p.1) refl
+leading_name-some _ rest name e = absurd (none-some _ e)
+
+-- the same, over a keyword, a symbol, a word or a name
+pub keyword_then : {B P : Type 0} (keyword : words.Keyword) (tokens : List TokenKind) (next : List TokenKind → Option B) (y : B) → (after_keyword keyword tokens >>= next) ≡ Some y →
     ((rest : List TokenKind) → tokens ≡ Keyword keyword ∷ rest → next rest ≡ Some y → P) → P
-keyword_step keyword tokens next y e then = step (after_keyword keyword tokens) next y e (λ rest found. then rest (after_keyword-some keyword tokens rest found))
+keyword_then keyword tokens next y e then = found_then (after_keyword keyword tokens) next y e (λ rest found. then rest (after_keyword-some keyword tokens rest found))
 
-pub symbol_step : {B P : Type 0} (symbol : signs.Symbol) (tokens : List TokenKind) (next : List TokenKind → Option B) (y : B) → (after_symbol symbol tokens >>= next) ≡ Some y →
+pub symbol_then : {B P : Type 0} (symbol : signs.Symbol) (tokens : List TokenKind) (next : List TokenKind → Option B) (y : B) → (after_symbol symbol tokens >>= next) ≡ Some y →
     ((rest : List TokenKind) → tokens ≡ Symbol symbol ∷ rest → next rest ≡ Some y → P) → P
-symbol_step symbol tokens next y e then = step (after_symbol symbol tokens) next y e (λ rest found. then rest (after_symbol-some symbol tokens rest found))
+symbol_then symbol tokens next y e then = found_then (after_symbol symbol tokens) next y e (λ rest found. then rest (after_symbol-some symbol tokens rest found))
 
-pub name_step : {B P : Type 0} (tokens : List TokenKind) (next : List ℕ × List TokenKind → Option B) (y : B) → (name_at tokens >>= next) ≡ Some y →
+pub word_then : {B P : Type 0} (word : List ℕ) (tokens : List TokenKind) (next : List TokenKind → Option B) (y : B) → (after_word word tokens >>= next) ≡ Some y →
+    ((rest : List TokenKind) → tokens ≡ Word word ∷ rest → next rest ≡ Some y → P) → P
+word_then word tokens next y e then = found_then (after_word word tokens) next y e (λ rest found. then rest (after_word-some word tokens rest found))
+
+pub name_then : {B P : Type 0} (tokens : List TokenKind) (next : List ℕ × List TokenKind → Option B) (y : B) → (leading_name tokens >>= next) ≡ Some y →
     ((name : List ℕ) (rest : List TokenKind) → tokens ≡ Word name ∷ rest → next (name, rest) ≡ Some y → P) → P
-name_step tokens next y e then = step (name_at tokens) next y e (λ x found. then x.0 x.1 (name_at-some tokens x.1 x.0 found))
+name_then tokens next y e then = found_then (leading_name tokens) next y e (λ x found. then x.0 x.1 (leading_name-some tokens x.1 x.0 found))
 
 pub keyword_choice : {B P : Type 0} (keyword : words.Keyword) (tokens : List TokenKind) (one : List TokenKind → Option B) (other y : Option B) → either (after_keyword keyword tokens) one other ≡ y →
     ((rest : List TokenKind) → tokens ≡ Keyword keyword ∷ rest → one rest ≡ y → P) → (after_keyword keyword tokens ≡ None → other ≡ y → P) → P
@@ -62,6 +76,11 @@ pub symbol_choice : {B P : Type 0} (symbol : signs.Symbol) (tokens : List TokenK
     ((rest : List TokenKind) → tokens ≡ Symbol symbol ∷ rest → one rest ≡ y → P) → (after_symbol symbol tokens ≡ None → other ≡ y → P) → P
 symbol_choice symbol tokens one other y e first second =
     choice (after_symbol symbol tokens) one other y e (λ rest found. first rest (after_symbol-some symbol tokens rest found)) second
+
+pub word_choice : {B P : Type 0} (word : List ℕ) (tokens : List TokenKind) (one : List TokenKind → Option B) (other y : Option B) → either (after_word word tokens) one other ≡ y →
+    ((rest : List TokenKind) → tokens ≡ Word word ∷ rest → one rest ≡ y → P) → (after_word word tokens ≡ None → other ≡ y → P) → P
+word_choice word tokens one other y e first second =
+    choice (after_word word tokens) one other y e (λ rest found. first rest (after_word-some word tokens rest found)) second
 
 -- what was found is the reading and the rest that are asked for
 pub read_as : {X : Type 0} (IsPart : List TokenKind → X → List TokenKind → Type 0) (tokens rest' rest : List TokenKind) (part' part : X) →

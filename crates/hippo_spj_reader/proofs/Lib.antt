@@ -1,10 +1,12 @@
 pub mod ConditionTheorem
+pub mod EachLoops
 pub mod FrontTheorem
-pub mod JoinSteps
-pub mod ListSteps
+pub mod ListLoops
 pub mod ListTheorem
+pub mod MemberTheorem
 pub mod NameTheorem
 pub mod OperandTheorem
 pub mod SelectTheorem
+pub mod SourceLoops
 pub mod SuffixTheorem
 pub mod WholeTheorem

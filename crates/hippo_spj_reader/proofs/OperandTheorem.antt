@@ -14,20 +14,20 @@ use Rattle.hippo_lexer.specs.declared.kinds.Symbol as signs
 use Rattle.hippo_lexer.specs.declared.kinds.Symbol.TheVariants.{Dot, LeftParen, Equal, NotEqual, Less, LessEqual, Greater, GreaterEqual}
 use Rattle.hippo_lexer.specs.declared.kinds.TokenKind.{TokenKind}
 use Rattle.hippo_lexer.specs.declared.kinds.TokenKind.TheVariants.{Keyword, Number, Quoted, Day, Symbol}
-use Rattle.hippo_spj_reader.specs.Answers.{◌>>=◌}
-use Rattle.hippo_spj_reader.specs.Front.{after_keyword, after_symbol, same_keyword, literal_at}
-use Rattle.hippo_spj_reader.specs.Conditions.{IsColumn, bare, qualified, IsLiteral, number, quoted, day, null, IsOperand, column, literal, IsOperator, equal, not_equal, less, less_equal, greater, greater_equal}
-use Rattle.hippo_spj_reader.specs.Finding.{column_at, begins_with_name, operand_at, operator_of, operator_at}
-use Rattle.hippo_spj_reader.proofs.FrontTheorem.{step, name_step, symbol_choice, read_as}
+use Rattle.hippo_spj_reader.specs.Promises.{◌>>=◌}
+use Rattle.hippo_spj_reader.specs.Front.{after_keyword, after_symbol, same_keyword, leading_literal}
+use Rattle.hippo_spj_reader.specs.ConditionGrammar.{IsColumn, bare, qualified, IsLiteral, number, quoted, day, null, IsOperand, column, literal, IsOperator, equal, not_equal, less, less_equal, greater, greater_equal}
+use Rattle.hippo_spj_reader.specs.ConditionFinder.{leading_column, begins_with_name, leading_operand, operator_of, leading_operator}
+use Rattle.hippo_spj_reader.proofs.FrontTheorem.{found_then, name_then, symbol_choice, read_as}
 
-pub column_found : (tokens : List TokenKind) (c : RawColumn) (rest : List TokenKind) → column_at tokens ≡ Some (c, rest) → IsColumn tokens c rest
+pub column_found : (tokens : List TokenKind) (c : RawColumn) (rest : List TokenKind) → leading_column tokens ≡ Some (c, rest) → IsColumn tokens c rest
 column_found tokens c rest e =
-    name_step tokens _ _ e (λ first behind is_name e.
+    name_then tokens _ _ e (λ first behind is_name e.
     symbol_choice Dot behind _ _ _ e
-    (λ after is_dot e. name_step after _ _ e (λ second left is_column e. rw (is_name, is_dot, is_column) (read_as IsColumn _ _ _ _ _ e qualified)))
+    (λ after is_dot e. name_then after _ _ e (λ second left is_column e. rw (is_name, is_dot, is_column) (read_as IsColumn _ _ _ _ _ e qualified)))
     (λ none e. rw is_name (read_as IsColumn _ _ _ _ _ e bare)))
 
-pub literal_found : (tokens : List TokenKind) (v : Value) (rest : List TokenKind) → literal_at tokens ≡ Some (v, rest) → IsLiteral tokens v rest
+pub literal_found : (tokens : List TokenKind) (v : Value) (rest : List TokenKind) → leading_literal tokens ≡ Some (v, rest) → IsLiteral tokens v rest
 literal_found (Number n ∷ behind) v rest e = read_as IsLiteral _ _ _ _ _ e number
 literal_found (Quoted text ∷ behind) v rest e = read_as IsLiteral _ _ _ _ _ e quoted
 literal_found (Day d ∷ behind) v rest e = read_as IsLiteral _ _ _ _ _ e day
@@ -38,11 +38,11 @@ literal_found (Keyword keyword ∷ behind) v rest e =
 literal_found _ v rest e = absurd (none-some _ e)
 
 operand_found-by : (begins : Bool) (tokens : List TokenKind) (o : RawOperand) (rest : List TokenKind) →
-    (if begins then ◌>>=◌ {B = RawOperand × List TokenKind} (column_at tokens) (λ found. Some (Column found.0, found.1)) else ◌>>=◌ {B = RawOperand × List TokenKind} (literal_at tokens) (λ found. Some (Literal found.0, found.1))) ≡ Some (o, rest) → IsOperand tokens o rest
-operand_found-by true tokens o rest e = step (column_at tokens) _ _ e (λ x found e. read_as IsOperand tokens _ _ _ _ e (column (column_found tokens x.0 x.1 found)))
-operand_found-by false tokens o rest e = step (literal_at tokens) _ _ e (λ x found e. read_as IsOperand tokens _ _ _ _ e (literal (literal_found tokens x.0 x.1 found)))
+    (if begins then ◌>>=◌ {B = RawOperand × List TokenKind} (leading_column tokens) (λ found. Some (Column found.0, found.1)) else ◌>>=◌ {B = RawOperand × List TokenKind} (leading_literal tokens) (λ found. Some (Literal found.0, found.1))) ≡ Some (o, rest) → IsOperand tokens o rest
+operand_found-by true tokens o rest e = found_then (leading_column tokens) _ _ e (λ x found e. read_as IsOperand tokens _ _ _ _ e (column (column_found tokens x.0 x.1 found)))
+operand_found-by false tokens o rest e = found_then (leading_literal tokens) _ _ e (λ x found e. read_as IsOperand tokens _ _ _ _ e (literal (literal_found tokens x.0 x.1 found)))
 
-pub operand_found : (tokens : List TokenKind) (o : RawOperand) (rest : List TokenKind) → operand_at tokens ≡ Some (o, rest) → IsOperand tokens o rest
+pub operand_found : (tokens : List TokenKind) (o : RawOperand) (rest : List TokenKind) → leading_operand tokens ≡ Some (o, rest) → IsOperand tokens o rest
 operand_found tokens o rest e = operand_found-by (begins_with_name tokens) tokens o rest e
 
 operator_of-found : (sign : signs.Symbol) (op : CompareOp) → operator_of sign ≡ Some op → IsOperator sign op
@@ -54,24 +54,24 @@ operator_of-found Greater op e = rw (← same_Some _ op e) greater
 operator_of-found GreaterEqual op e = rw (← same_Some _ op e) greater_equal
 operator_of-found _ op e = absurd (none-some op e)
 
-pub operator_step : {P : Type 0} (tokens : List TokenKind) (op : CompareOp) (rest : List TokenKind) → operator_at tokens ≡ Some (op, rest) →
+pub operator_then : {P : Type 0} (tokens : List TokenKind) (op : CompareOp) (rest : List TokenKind) → leading_operator tokens ≡ Some (op, rest) →
     ((sign : signs.Symbol) → tokens ≡ Symbol sign ∷ rest → IsOperator sign op → P) → P
-operator_step (Symbol sign ∷ behind) op rest e next = step (operator_of sign) _ _ e (λ found is e.
+operator_then (Symbol sign ∷ behind) op rest e next = found_then (operator_of sign) _ _ e (λ found is e.
     let whole = some_pair_parts found op behind rest e in
     next sign (ap (λ (left : List TokenKind). Symbol sign ∷ left) whole.1) (rw whole.0 at (operator_of-found sign found is)))
-operator_step _ op rest e next = absurd (none-some _ e)
+operator_then _ op rest e next = absurd (none-some _ e)
 
-pub column_complete : (tokens : List TokenKind) (c : RawColumn) (rest : List TokenKind) → IsColumn tokens c rest → after_symbol Dot rest ≡ None → column_at tokens ≡ Some (c, rest)
+pub column_complete : (tokens : List TokenKind) (c : RawColumn) (rest : List TokenKind) → IsColumn tokens c rest → after_symbol Dot rest ≡ None → leading_column tokens ≡ Some (c, rest)
 column_complete tokens c rest bare ended = rw ended refl
 column_complete tokens c rest qualified ended = refl
 
-pub literal_complete : (tokens : List TokenKind) (v : Value) (rest : List TokenKind) → IsLiteral tokens v rest → literal_at tokens ≡ Some (v, rest)
+pub literal_complete : (tokens : List TokenKind) (v : Value) (rest : List TokenKind) → IsLiteral tokens v rest → leading_literal tokens ≡ Some (v, rest)
 literal_complete tokens v rest number = refl
 literal_complete tokens v rest quoted = refl
 literal_complete tokens v rest day = refl
 literal_complete tokens v rest null = refl
 
-pub operand_complete : (tokens : List TokenKind) (o : RawOperand) (rest : List TokenKind) → IsOperand tokens o rest → after_symbol Dot rest ≡ None → operand_at tokens ≡ Some (o, rest)
+pub operand_complete : (tokens : List TokenKind) (o : RawOperand) (rest : List TokenKind) → IsOperand tokens o rest → after_symbol Dot rest ≡ None → leading_operand tokens ≡ Some (o, rest)
 operand_complete tokens o rest (column bare) ended = rw ended refl
 operand_complete tokens o rest (column qualified) ended = refl
 operand_complete tokens o rest (literal number) ended = refl

@@ -1,53 +1,40 @@
 -- The select that is found is the one of the grammar.
-use Rattle.std.proofs.Common.{◌≡◌, ℕ, zero, suc, ◌<◌, List, [], ◌∷◌, ◌++◌, length, option_to_list, Option, Some, None, refl, sym, ◌∙◌, ap, arith}
+use Rattle.std.proofs.Common.{◌≡◌, ℕ, zero, suc, ◌<◌, Bool, true, false, List, [], ◌∷◌, ◌++◌, length, map, codes, option_to_list, Option, Some, None, refl, sym, ◌∙◌, arith}
 use Rattle.std.proofs.lemmas.Option.{none-some, same_Some, some_pair_parts}
-use Rattle.hippo_model.specs.declared.statement.RawItem.{RawItem}
+use Rattle.hippo_model.specs.declared.statement.RawColumn.{RawColumn}
+use Rattle.hippo_model.specs.declared.statement.RawForm.TheVariants.{Plain, Distinct, Grouped}
 use Rattle.hippo_model.specs.declared.statement.RawSelect.{RawSelect}
-use Rattle.hippo_lexer.specs.declared.kinds.Keyword.TheVariants.{KFrom, KInner, KJoin, KOn, KSelect, KWhere}
-use Rattle.hippo_lexer.specs.declared.kinds.Symbol.TheVariants.{Comma, Dot, Star}
+use Rattle.hippo_lexer.specs.declared.kinds.Keyword.TheVariants.{KDistinct, KFrom, KGroup, KInner, KJoin, KOn, KSelect, KWhere}
+use Rattle.hippo_lexer.specs.declared.kinds.Symbol.TheVariants.{Comma, Dot, Semicolon}
 use Rattle.hippo_lexer.specs.declared.kinds.TokenKind.{TokenKind}
 use Rattle.hippo_lexer.specs.declared.kinds.TokenKind.TheVariants.{Word, Keyword, Symbol}
+use Rattle.hippo_spj_reader.specs.declared.selects.Draft.{Draft}
+use Rattle.hippo_spj_reader.specs.declared.selects.JoinedTable.{JoinedTable}
+use Rattle.hippo_spj_reader.specs.declared.selects.Member.{Member}
+use Rattle.hippo_spj_reader.specs.declared.selects.Member.TheVariants as member
+use Rattle.hippo_spj_reader.specs.declared.selects.Scope.{Scope}
+use Rattle.hippo_spj_reader.specs.declared.selects.Sources.{Sources}
 use Rattle.hippo_spj_reader.specs.Front.{after_keyword, after_symbol}
-use Rattle.hippo_spj_reader.specs.Lists.{IsListOf, last_part, more_parts}
-use Rattle.hippo_spj_reader.specs.Conditions.{RawCond, bare, qualified, IsCondition}
-use Rattle.hippo_spj_reader.specs.Finding.{column_at, condition_at}
-use Rattle.hippo_spj_reader.specs.Selects.{IsItem, one_column, all_of_table, AreItems, star, listed, AreJoined, no_more, comma, join, inner_join, IsWhere, no_where, condition, IsSelect, select}
-use Rattle.hippo_spj_reader.specs.Selecting.{whole_table_at, item_at, items_at, after_join, joined_by_comma, joined_on, joined_at, all_joined_at, tables_at, where_at, select_at}
-use Rattle.hippo_spj_reader.proofs.FrontTheorem.{step, choice, keyword_step, symbol_step, name_step, keyword_choice, symbol_choice, after_keyword-some, after_symbol-some, read_as}
-use Rattle.hippo_spj_reader.proofs.ListTheorem.{parts_found, list_complete}
-use Rattle.hippo_spj_reader.proofs.OperandTheorem.{column_found, column_shorter}
+use Rattle.hippo_spj_reader.specs.ConditionGrammar.{RawCond, IsCondition}
+use Rattle.hippo_spj_reader.specs.ConditionFinder.{leading_column, leading_condition}
+use Rattle.hippo_spj_reader.specs.ListFinder.{leading_list}
+use Rattle.hippo_spj_reader.specs.SelectGrammar.{AreItems, AreJoined, no_more, comma, join, inner_join, IsWhere, no_where, condition, IsScope, scope, select_of, IsSelect, plain, distinct, grouped}
+use Rattle.hippo_spj_reader.specs.SelectFinder.{item_of, out_of, each_of, after_join, joined_table, leading_joined_by_comma, leading_joined_on, leading_joined, no_sources, with_first, leading_all_joined, leading_sources, leading_where, leading_scope, draft_of, leading_draft_of, leading_draft, leading_members, ungrouped, leading_grouped, leading_select}
+use Rattle.hippo_spj_reader.proofs.FrontTheorem.{found_then, choice, keyword_then, word_then, name_then, keyword_choice, symbol_choice, after_keyword-some, after_word-same, read_as}
+use Rattle.hippo_spj_reader.proofs.NameTheorem.{columns_found, columns_complete}
+use Rattle.hippo_spj_reader.proofs.MemberTheorem.{AreMembers, members_found, as_items, as_outs, members-no_distinct, members_complete, from_items, items_back, from_outs, outs_back, member_of_out}
 use Rattle.hippo_spj_reader.proofs.ConditionTheorem as theorem
 use Rattle.hippo_spj_reader.proofs.ConditionTheorem.{Ends}
 
-item_found : (tokens : List TokenKind) (i : RawItem) (rest : List TokenKind) → item_at tokens ≡ Some (i, rest) → IsItem tokens i rest
-unfolding item_at
-item_found tokens i rest e =
-    choice (whole_table_at tokens) _ _ _ e
-    (λ table found e.
-    name_step tokens _ _ found (λ name behind is_name found.
-    symbol_step Dot behind _ _ found (λ after is_dot found.
-    symbol_step Star after _ _ found (λ left is_star found.
-    let whole = some_pair_parts name table.0 left table.1 found in
-    rw (is_name, is_dot, is_star, whole.0, whole.1) (read_as IsItem _ _ _ _ _ e all_of_table)))))
-    (λ _ e. step (column_at tokens) _ _ e (λ c found e. read_as IsItem tokens _ _ _ _ e (one_column (column_found tokens c.0 c.1 found))))
-
-items_found : (tokens : List TokenKind) (items : List RawItem) (rest : List TokenKind) → items_at tokens ≡ Some (items, rest) → AreItems tokens items rest
-unfolding items_at
-items_found tokens items rest e =
-    symbol_choice Star tokens _ _ _ e
-    (λ left is_star e. rw is_star (read_as AreItems _ _ _ _ _ e star))
-    (λ _ e. listed (parts_found item_at (after_symbol Comma) IsItem (Symbol Comma) (IsListOf IsItem (Symbol Comma)) item_found (after_symbol-some Comma)
-    (λ _ _ _ d. last_part d) (λ _ _ _ _ _ d ds. more_parts d ds) (suc (length tokens)) tokens items rest e))
-
-on_found : {P : Type 0} (tokens : List TokenKind) (table : List ℕ) (on : Option RawCond) (left : List TokenKind) → joined_on tokens ≡ Some ((table, on), left) →
-    ((behind : List TokenKind) (c : RawCond) → tokens ≡ Word table ∷ Keyword KOn ∷ behind → IsCondition behind c left → on ≡ Some c → P) → P
-on_found tokens table on left e next =
-    name_step tokens _ _ e (λ name behind is_name e.
-    keyword_step KOn behind _ _ e (λ conditions is_on e.
-    step (condition_at conditions) _ _ e (λ c found e.
-    let whole = some_pair_parts (name, Some c.0) (table, on) c.1 left e in
+on_found : {P : Type 0} (tokens : List TokenKind) (entry : JoinedTable) (left : List TokenKind) → leading_joined_on tokens ≡ Some (entry, left) →
+    ((behind : List TokenKind) (c : RawCond) (table : List ℕ) → tokens ≡ Word table ∷ Keyword KOn ∷ behind → IsCondition behind c left → entry ≡ joined_table table (Some c) → P) → P
+on_found tokens entry left e next =
+    name_then tokens _ _ e (λ name behind is_name e.
+    keyword_then KOn behind _ _ e (λ conditions is_on e.
+    found_then (leading_condition conditions) _ _ e (λ c found e.
+    let whole = some_pair_parts (joined_table name (Some c.0)) entry c.1 left e in
     let is_condition : IsCondition conditions c.0 left = rw whole.1 at (theorem.found conditions c.0 c.1 found) in
-    next conditions c.0 (rw (is_name, is_on, ap (λ (x : List ℕ × Option RawCond). x.0) whole.0) refl) is_condition (sym (ap (λ (x : List ℕ × Option RawCond). x.1) whole.0)))))
+    next conditions c.0 name (rw (is_name, is_on) refl) is_condition (sym whole.0))))
 
 after_join_found : {P : Type 0} (tokens behind : List TokenKind) → after_join tokens ≡ Some behind →
     (tokens ≡ Keyword KJoin ∷ behind → P) → (tokens ≡ Keyword KInner ∷ Keyword KJoin ∷ behind → P) → P
@@ -63,92 +50,110 @@ found_is : {A : Type 0} {found : Option A} {x y : A} → found ≡ Some x → �
 found_is is same = is ∙ same
 
 -- one table more, before those that follow it
-joined_found : (tokens left : List TokenKind) (table : List ℕ) (on : Option RawCond) → joined_at tokens ≡ Some (Some ((table, on), left)) →
+joined_found : (tokens left : List TokenKind) (entry : JoinedTable) → leading_joined tokens ≡ Some (Some (entry, left)) →
     (tables : List (List ℕ)) (conditions : List RawCond) (rest : List TokenKind) → AreJoined left tables conditions rest →
-    AreJoined tokens (table ∷ tables) (option_to_list on ++ conditions) rest
-unfolding joined_at
-joined_found tokens left table on e tables conditions rest others =
+    AreJoined tokens (entry.table ∷ tables) (option_to_list entry.on ++ conditions) rest
+unfolding leading_joined
+joined_found tokens left entry e tables conditions rest others =
     symbol_choice Comma tokens _ _ _ e
-    (λ behind is_comma e. step (joined_by_comma behind) _ _ e (λ one found e.
-    name_step behind _ _ found (λ name after is_name found.
-    let whole = some_pair_parts (name, None) (table, on) after left (found_is found (same_Some _ _ e)) in
-    let is_none : None ≡ on = ap (λ (x : List ℕ × Option RawCond). x.1) whole.0 in
-    let is_table : name ≡ table = ap (λ (x : List ℕ × Option RawCond). x.0) whole.0 in
-    rw (is_comma, is_name, is_table, whole.1, ← is_none) (comma others))))
+    (λ behind is_comma e. found_then (leading_joined_by_comma behind) _ _ e (λ one found e.
+    name_then behind _ _ found (λ name after is_name found.
+    let whole = some_pair_parts (joined_table name None) entry after left (found_is found (same_Some _ _ e)) in
+    rw (is_comma, is_name, ← whole.0, whole.1) (comma others))))
     (λ _ e. choice (after_join tokens) _ _ _ e
-    (λ behind is_join e. step (joined_on behind) _ _ e (λ one found e.
-    on_found behind table on left (found_is found (same_Some _ _ e)) (λ after c is_on is_condition is.
+    (λ behind is_join e. found_then (leading_joined_on behind) _ _ e (λ one found e.
+    on_found behind entry left (found_is found (same_Some _ _ e)) (λ after c table is_on is_condition is.
     after_join_found tokens behind is_join
     (λ is_join. rw (is_join, is_on, is) (join is_condition others))
     (λ is_join. rw (is_join, is_on, is) (inner_join is_condition others)))))
     (λ _ e. absurd (none_found _ (same_Some _ _ e))))
 
-all_joined_found : (n : ℕ) (tokens : List TokenKind) (tables : List (List ℕ)) (conditions : List RawCond) (rest : List TokenKind) → all_joined_at n tokens ≡ Some ((tables, conditions), rest) → AreJoined tokens tables conditions rest
-all_joined_found zero tokens tables conditions rest e = absurd (none-some _ e)
-all_joined_found (suc n) tokens tables conditions rest e =
-    step (joined_at tokens) _ _ e (λ found is e. choice found _ _ _ e
-    (λ one is_one e. step (all_joined_at n one.1) _ _ e (λ others others_found e.
-    let whole = some_pair_parts (one.0.0 ∷ others.0.0, option_to_list one.0.1 ++ others.0.1) (tables, conditions) others.1 rest e in
-    let is_tables : one.0.0 ∷ others.0.0 ≡ tables = ap (λ (x : List (List ℕ) × List RawCond). x.0) whole.0 in
-    let is_conditions : option_to_list one.0.1 ++ others.0.1 ≡ conditions = ap (λ (x : List (List ℕ) × List RawCond). x.1) whole.0 in
-    rw (← is_tables, ← is_conditions, ← whole.1)
-    (joined_found tokens one.1 one.0.0 one.0.1 (rw is_one at is) others.0.0 others.0.1 others.1 (all_joined_found n one.1 others.0.0 others.0.1 others.1 others_found))))
+all_joined_found : (n : ℕ) (tokens : List TokenKind) (s : Sources) (rest : List TokenKind) → leading_all_joined n tokens ≡ Some (s, rest) → AreJoined tokens s.names s.conditions rest
+all_joined_found zero tokens s rest e = absurd (none-some _ e)
+all_joined_found (suc n) tokens s rest e =
+    found_then (leading_joined tokens) _ _ e (λ found is e. choice found _ _ _ e
+    (λ one is_one e. found_then (leading_all_joined n one.1) _ _ e (λ others others_found e.
+    let whole = some_pair_parts (with_first one.0.table one.0.on others.0) s others.1 rest e in
+    rw (← whole.0, ← whole.1)
+    (joined_found tokens one.1 one.0 (rw is_one at is) others.0.names others.0.conditions others.1 (all_joined_found n one.1 others.0 others.1 others_found))))
     (λ none e.
-    let whole = some_pair_parts ([], []) (tables, conditions) tokens rest e in
-    let is_tables : [] ≡ tables = ap (λ (x : List (List ℕ) × List RawCond). x.0) whole.0 in
-    let is_conditions : [] ≡ conditions = ap (λ (x : List (List ℕ) × List RawCond). x.1) whole.0 in
-    rw (← is_tables, ← is_conditions, whole.1) no_more))
+    let whole = some_pair_parts no_sources s tokens rest e in
+    rw (← whole.0, whole.1) no_more))
 
-pub where_found : (tokens : List TokenKind) (conditions : List RawCond) (rest : List TokenKind) → where_at tokens ≡ Some (conditions, rest) → IsWhere tokens conditions rest
-unfolding where_at
-where_found tokens conditions rest e =
+pub where_found : (tokens : List TokenKind) (last : Option RawCond) (rest : List TokenKind) → leading_where tokens ≡ Some (last, rest) → IsWhere tokens last rest
+unfolding leading_where
+where_found tokens last rest e =
     keyword_choice KWhere tokens _ _ _ e
-    (λ behind is_where e. step (condition_at behind) _ _ e (λ c found e. rw is_where (read_as IsWhere _ _ _ _ _ e (condition (theorem.found behind c.0 c.1 found)))))
+    (λ behind is_where e. found_then (leading_condition behind) _ _ e (λ c found e. rw is_where (read_as IsWhere _ _ _ _ _ e (condition (theorem.found behind c.0 c.1 found)))))
     (λ _ e. read_as IsWhere tokens _ _ _ _ e no_where)
 
+scope_found : (tokens : List TokenKind) (s : Scope) (rest : List TokenKind) → leading_scope tokens ≡ Some (s, rest) → IsScope tokens s rest
+unfolding leading_scope leading_sources
+scope_found tokens s rest e =
+    keyword_then KFrom tokens _ _ e (λ named is_from e.
+    found_then (leading_sources named) _ _ e (λ sources sources_is e.
+    found_then (leading_where sources.1) _ _ e (λ last last_is e.
+    name_then named _ _ sources_is (λ table joined is_name sources_is.
+    found_then (leading_all_joined (suc (length joined)) joined) _ _ sources_is (λ others others_is sources_is.
+    let whole = some_pair_parts (with_first table None others.0) sources.0 others.1 sources.1 sources_is in
+    let are_joined : AreJoined joined others.0.names others.0.conditions sources.1 = rw whole.1 at (all_joined_found (suc (length joined)) joined others.0 others.1 others_is) in
+    rw (is_from, is_name) (read_as IsScope _ _ _ _ _ e (rw (← whole.0) (scope are_joined (where_found sources.1 last.0 last.1 last_is) refl))))))))
+
+-- a select up to GROUP
+data IsDraft : List TokenKind → Draft → List TokenKind → Type 0 where
+  each_row : {members : List Member} {s : Scope} {tokens from rest : List TokenKind} →
+      AreMembers tokens members from → IsScope from s rest → IsDraft (Keyword KSelect ∷ tokens) (draft_of false members s) rest
+  without_repeats : {members : List Member} {s : Scope} {tokens from rest : List TokenKind} →
+      AreMembers tokens members from → IsScope from s rest → IsDraft (Keyword KSelect ∷ Keyword KDistinct ∷ tokens) (draft_of true members s) rest
+
+draft_of_found : {P : Type 0} (once : Bool) (tokens : List TokenKind) (d : Draft) (rest : List TokenKind) → leading_draft_of once tokens ≡ Some (d, rest) →
+    ((members : List Member) (s : Scope) (from : List TokenKind) → AreMembers tokens members from → IsScope from s rest → d ≡ draft_of once members s → P) → P
+unfolding leading_draft_of
+draft_of_found once tokens d rest e next =
+    found_then (leading_members tokens) _ _ e (λ members members_is e.
+    found_then (leading_scope members.1) _ _ e (λ s scope_is e.
+    let whole = some_pair_parts (draft_of once members.0 s.0) d s.1 rest e in
+    let is_scope : IsScope members.1 s.0 rest = rw whole.1 at (scope_found members.1 s.0 s.1 scope_is) in
+    next members.0 s.0 members.1 (members_found tokens members.0 members.1 members_is) is_scope (sym whole.0)))
+
+draft_found : (tokens : List TokenKind) (d : Draft) (rest : List TokenKind) → leading_draft tokens ≡ Some (d, rest) → IsDraft tokens d rest
+unfolding leading_draft
+draft_found tokens d rest e =
+    keyword_then KSelect tokens _ _ e (λ behind is_select e.
+    keyword_choice KDistinct behind _ _ _ e
+    (λ after is_distinct e. draft_of_found true after d rest e (λ members s from are_members is_scope is. rw (is_select, is_distinct, is) (without_repeats are_members is_scope)))
+    (λ _ e. draft_of_found false behind d rest e (λ members s from are_members is_scope is. rw (is_select, is) (each_row are_members is_scope))))
+
+ungrouped_found : (tokens : List TokenKind) (d : Draft) (rest : List TokenKind) (s : RawSelect) → IsDraft tokens d rest → ungrouped d ≡ Some s → IsSelect tokens s rest
+unfolding ungrouped
+ungrouped_found _ _ rest s (each_row {members = members} {s = in_scope} {tokens = tokens} {from = from} are_members is_scope) e =
+    found_then (each_of item_of members) _ _ e (λ items items_are e.
+    rw (← same_Some (select_of items in_scope Plain) s e) (plain (as_items tokens members items from are_members items_are) is_scope))
+ungrouped_found _ _ rest s (without_repeats {members = members} {s = in_scope} {tokens = tokens} {from = from} are_members is_scope) e =
+    found_then (each_of item_of members) _ _ e (λ items items_are e.
+    rw (← same_Some (select_of items in_scope Distinct) s e) (distinct (as_items tokens members items from are_members items_are) is_scope))
+
+grouped_found : (tokens : List TokenKind) (d : Draft) (behind rest : List TokenKind) (s : RawSelect) → IsDraft tokens d (Keyword KGroup ∷ behind) → leading_grouped d behind ≡ Some (s, rest) → IsSelect tokens s rest
+unfolding leading_grouped
+grouped_found _ _ behind rest s (each_row {members = members} {s = in_scope} {tokens = tokens} {from = from} are_members is_scope) e =
+    word_then (codes "by") behind _ _ e (λ columns is_by e.
+    found_then (leading_list leading_column (after_symbol Comma) columns) _ _ e (λ by by_is e.
+    found_then (each_of out_of members) _ _ e (λ outs outs_are e.
+    let in_group : IsScope from in_scope (Keyword KGroup ∷ Word (codes "by") ∷ columns) = rw is_by at is_scope in
+    read_as IsSelect _ _ _ _ _ e (grouped (as_outs tokens members outs from are_members outs_are) in_group (columns_found columns by.0 by.1 by_is)))))
+grouped_found _ _ behind rest s (without_repeats are_members is_scope) e =
+    word_then (codes "by") behind _ _ e (λ columns is_by e.
+    found_then (leading_list leading_column (after_symbol Comma) columns) _ _ e (λ by by_is e. absurd (none-some _ e)))
+
 -- what is found is a select of the grammar
-pub found : (tokens : List TokenKind) (s : RawSelect) (rest : List TokenKind) → select_at tokens ≡ Some (s, rest) → IsSelect tokens s rest
-unfolding select_at tables_at
+pub found : (tokens : List TokenKind) (s : RawSelect) (rest : List TokenKind) → leading_select tokens ≡ Some (s, rest) → IsSelect tokens s rest
+unfolding leading_select
 found tokens s rest e =
-    keyword_step KSelect tokens _ _ e (λ behind is_select e.
-    step (items_at behind) _ _ e (λ items items_is e.
-    keyword_step KFrom items.1 _ _ e (λ from is_from e.
-    step (tables_at from) _ _ e (λ tables tables_is e.
-    step (where_at tables.1) _ _ e (λ last last_is e.
-    name_step from _ _ tables_is (λ table joined is_name tables_is.
-    step (all_joined_at (suc (length joined)) joined) _ _ tables_is (λ others others_is tables_is.
-    let whole = some_pair_parts (table ∷ others.0.0, others.0.1) tables.0 others.1 tables.1 tables_is in
-    let are_items : AreItems behind items.0 (Keyword KFrom ∷ Word table ∷ joined) = rw (is_from, is_name) at (items_found behind items.0 items.1 items_is) in
-    let are_joined : AreJoined joined others.0.0 others.0.1 tables.1 = rw whole.1 at (all_joined_found (suc (length joined)) joined others.0.0 others.0.1 others.1 others_is) in
-    rw is_select (read_as IsSelect _ _ _ _ _ e (rw (← whole.0) (select are_items are_joined (where_found tables.1 last.0 last.1 last_is) refl))))))))))
-
-item_complete : (tokens : List TokenKind) (i : RawItem) (rest : List TokenKind) → IsItem tokens i rest → after_symbol Dot rest ≡ None → item_at tokens ≡ Some (i, rest)
-unfolding item_at
-item_complete tokens i rest (one_column bare) no_dot = rw no_dot refl
-item_complete tokens i rest (one_column qualified) no_dot = refl
-item_complete tokens i rest all_of_table no_dot = refl
-
-item_shorter : (tokens : List TokenKind) (i : RawItem) (rest : List TokenKind) → IsItem tokens i rest → length rest < length tokens
-item_shorter tokens i rest (one_column c) = column_shorter tokens _ rest c
-item_shorter tokens i rest all_of_table = omega arith
-
--- an item does not begin with a star
-item-no_star : (tokens : List TokenKind) (i : RawItem) (rest : List TokenKind) → IsItem tokens i rest → after_symbol Star tokens ≡ None
-item-no_star tokens i rest (one_column bare) = refl
-item-no_star tokens i rest (one_column qualified) = refl
-item-no_star tokens i rest all_of_table = refl
-
-list-no_star : (tokens : List TokenKind) (items : List RawItem) (rest : List TokenKind) → IsListOf IsItem (Symbol Comma) tokens items rest → after_symbol Star tokens ≡ None
-list-no_star tokens items rest (last_part d) = item-no_star tokens _ rest d
-list-no_star tokens items rest (more_parts d ds) = item-no_star tokens _ _ d
-
-items_complete : (tokens : List TokenKind) (items : List RawItem) (rest : List TokenKind) → AreItems tokens items rest → after_symbol Dot rest ≡ None → after_symbol Comma rest ≡ None → items_at tokens ≡ Some (items, rest)
-unfolding items_at
-items_complete tokens items rest star no_dot no_comma = refl
-items_complete tokens items rest (listed ds) no_dot no_comma =
-    rw (list-no_star tokens items rest ds)
-    (list_complete item_at (after_symbol Comma) IsItem (Symbol Comma) (λ rest. after_symbol Dot rest ≡ None) item_complete (λ _. refl) (λ _ _ _ _. refl) item_shorter
-    tokens items rest ds no_dot no_comma)
+    found_then (leading_draft tokens) _ _ e (λ draft draft_is e.
+    let is_draft : IsDraft tokens draft.0 draft.1 = draft_found tokens draft.0 draft.1 draft_is in
+    keyword_choice KGroup draft.1 _ _ _ e
+    (λ behind is_group e. grouped_found tokens draft.0 behind rest s (rw is_group at is_draft) e)
+    (λ _ e. found_then (ungrouped draft.0) _ _ e (λ one one_is e. read_as IsSelect tokens _ _ _ _ e (ungrouped_found tokens draft.0 draft.1 one is_draft one_is))))
 
 -- what the tables of FROM and their conditions are not followed by
 pub record JoinsEnd (rest : List TokenKind) : Type 0 where
@@ -157,10 +162,41 @@ pub record JoinsEnd (rest : List TokenKind) : Type 0 where
   pub no_inner : after_keyword KInner rest ≡ None
   pub no_join : after_keyword KJoin rest ≡ None
 
--- what a whole select is not followed by
-pub record SelectEnds (rest : List TokenKind) : Type 0 where
+-- what the tables and the condition of a select are not followed by
+record ScopeEnds (rest : List TokenKind) : Type 0 where
   pub joins_end : JoinsEnd rest
   pub no_where : after_keyword KWhere rest ≡ None
+
+-- what a whole select is not followed by
+pub record SelectEnds (rest : List TokenKind) : Type 0 where
+  pub scope_ends : ScopeEnds rest
+  pub no_group : after_keyword KGroup rest ≡ None
+
+-- nothing follows it, or a semicolon
+pub ends-nothing : SelectEnds []
+ends-nothing = record {
+  scope_ends = record {
+    joins_end = record { condition_ends = record { no_dot = refl; no_and = refl; no_or = refl }; no_comma = refl; no_inner = refl; no_join = refl };
+    no_where = refl;
+  };
+  no_group = refl;
+}
+
+pub ends-semicolon : (rest : List TokenKind) → SelectEnds (Symbol Semicolon ∷ rest)
+ends-semicolon rest = record {
+  scope_ends = record {
+    joins_end = record { condition_ends = record { no_dot = refl; no_and = refl; no_or = refl }; no_comma = refl; no_inner = refl; no_join = refl };
+    no_where = refl;
+  };
+  no_group = refl;
+}
+
+-- before GROUP a select's condition has ended
+scope_ends-group : (rest : List TokenKind) → ScopeEnds (Keyword KGroup ∷ rest)
+scope_ends-group rest = record {
+  joins_end = record { condition_ends = record { no_dot = refl; no_and = refl; no_or = refl }; no_comma = refl; no_inner = refl; no_join = refl };
+  no_where = refl;
+}
 
 joined-ends : (tokens : List TokenKind) (tables : List (List ℕ)) (conditions : List RawCond) (rest : List TokenKind) → AreJoined tokens tables conditions rest → JoinsEnd rest → Ends tokens
 joined-ends tokens tables conditions rest no_more ends = ends.condition_ends
@@ -169,8 +205,8 @@ joined-ends tokens tables conditions rest (join c d) ends = record { no_dot = re
 joined-ends tokens tables conditions rest (inner_join c d) ends = record { no_dot = refl; no_and = refl; no_or = refl }
 
 all_joined_complete : (n : ℕ) (tokens : List TokenKind) (tables : List (List ℕ)) (conditions : List RawCond) (rest : List TokenKind) → AreJoined tokens tables conditions rest → JoinsEnd rest → length tokens < n →
-    all_joined_at n tokens ≡ Some ((tables, conditions), rest)
-unfolding joined_at
+    leading_all_joined n tokens ≡ Some (record { names = tables; conditions = conditions }, rest)
+unfolding leading_joined
 all_joined_complete zero tokens tables conditions rest d ends enough = absurd (omega arith)
 all_joined_complete (suc n) tokens tables conditions rest no_more ends enough = rw (ends.no_comma, ends.no_inner, ends.no_join) refl
 all_joined_complete (suc n) _ _ conditions rest (comma {tables = tables} {others = others} d) ends enough =
@@ -182,23 +218,62 @@ all_joined_complete (suc n) _ _ _ rest (inner_join {tables = tables} {condition 
     let shorter : length others < length on = theorem.condition_shorter on c others is_condition in
     rw (theorem.complete on c others is_condition (joined-ends others tables conditions rest d ends), all_joined_complete n others tables conditions rest d ends (omega (arith, shorter))) refl
 
-where-ends : (tokens : List TokenKind) (conditions : List RawCond) (rest : List TokenKind) → IsWhere tokens conditions rest → JoinsEnd rest → JoinsEnd tokens
-where-ends tokens conditions rest no_where ends = ends
-where-ends tokens conditions rest (condition d) ends = record { condition_ends = record { no_dot = refl; no_and = refl; no_or = refl }; no_comma = refl; no_inner = refl; no_join = refl }
+where-ends : (tokens : List TokenKind) (last : Option RawCond) (rest : List TokenKind) → IsWhere tokens last rest → JoinsEnd rest → JoinsEnd tokens
+where-ends tokens last rest no_where ends = ends
+where-ends tokens last rest (condition d) ends = record { condition_ends = record { no_dot = refl; no_and = refl; no_or = refl }; no_comma = refl; no_inner = refl; no_join = refl }
 
-pub where_complete : (tokens : List TokenKind) (conditions : List RawCond) (rest : List TokenKind) → IsWhere tokens conditions rest → Ends rest → after_keyword KWhere rest ≡ None → where_at tokens ≡ Some (conditions, rest)
-unfolding where_at
-where_complete tokens conditions rest no_where ends no_more_where = rw no_more_where refl
+pub where_complete : (tokens : List TokenKind) (last : Option RawCond) (rest : List TokenKind) → IsWhere tokens last rest → Ends rest → after_keyword KWhere rest ≡ None → leading_where tokens ≡ Some (last, rest)
+unfolding leading_where
+where_complete tokens last rest no_where ends no_more_where = rw no_more_where refl
 where_complete _ _ rest (condition {condition = c} {tokens = tokens} d) ends no_more_where = rw (theorem.complete tokens c rest d ends) refl
 
--- the select is found, whole, where nothing behind it goes on with it
-pub complete : (tokens : List TokenKind) (s : RawSelect) (rest : List TokenKind) → IsSelect tokens s rest → SelectEnds rest → select_at tokens ≡ Some (s, rest)
-unfolding select_at tables_at
-complete _ _ rest (select {items = items} {table = table} {tables = tables} {conditions = conditions} {last = last} {tokens = tokens} {joined = joined} {behind = behind} are_items are_joined is_where is_whole) ends =
+scope_complete : (tokens : List TokenKind) (s : Scope) (rest : List TokenKind) → IsScope tokens s rest → ScopeEnds rest → leading_scope tokens ≡ Some (s, rest)
+unfolding leading_scope leading_sources
+scope_complete _ _ rest (scope {tables = tables} {conditions = conditions} {last = last} {joined = joined} {behind = behind} are_joined is_where is_whole) ends =
     let joins_end : JoinsEnd behind = where-ends behind last rest is_where ends.joins_end in
     rw (
-      items_complete tokens items (Keyword KFrom ∷ Word table ∷ joined) are_items refl refl,
       all_joined_complete (suc (length joined)) joined tables conditions behind are_joined joins_end (omega arith),
       where_complete behind last rest is_where ends.joins_end.condition_ends ends.no_where,
       is_whole,
+    ) refl
+
+scope-no_dot : (tokens : List TokenKind) (s : Scope) (rest : List TokenKind) → IsScope tokens s rest → after_symbol Dot tokens ≡ None
+scope-no_dot _ _ rest (scope are_joined is_where is_whole) = refl
+
+scope-no_comma : (tokens : List TokenKind) (s : Scope) (rest : List TokenKind) → IsScope tokens s rest → after_symbol Comma tokens ≡ None
+scope-no_comma _ _ rest (scope are_joined is_where is_whole) = refl
+
+draft_of_complete : (once : Bool) (tokens : List TokenKind) (members : List Member) (from : List TokenKind) (s : Scope) (rest : List TokenKind) →
+    AreMembers tokens members from → IsScope from s rest → ScopeEnds rest → leading_draft_of once tokens ≡ Some (draft_of once members s, rest)
+unfolding leading_draft_of
+draft_of_complete once tokens members from s rest are_members is_scope ends =
+    rw (
+      members_complete tokens members from are_members (scope-no_dot from s rest is_scope) (scope-no_comma from s rest is_scope),
+      scope_complete from s rest is_scope ends,
+    ) refl
+
+-- the select is found, whole, where nothing behind it goes on with it
+pub complete : (tokens : List TokenKind) (s : RawSelect) (rest : List TokenKind) → IsSelect tokens s rest → SelectEnds rest → leading_select tokens ≡ Some (s, rest)
+unfolding leading_select leading_draft ungrouped leading_grouped
+complete _ _ rest (plain {items = items} {in_scope = in_scope} {tokens = tokens} {from = from} are_items is_scope) ends =
+    rw (
+      members-no_distinct tokens (map member.Item items) from (from_items tokens items from are_items),
+      draft_of_complete false tokens (map member.Item items) from in_scope rest (from_items tokens items from are_items) is_scope ends.scope_ends,
+      ends.no_group,
+      items_back items,
+    ) refl
+complete _ _ rest (distinct {items = items} {in_scope = in_scope} {tokens = tokens} {from = from} are_items is_scope) ends =
+    rw (
+      draft_of_complete true tokens (map member.Item items) from in_scope rest (from_items tokens items from are_items) is_scope ends.scope_ends,
+      ends.no_group,
+      items_back items,
+    ) refl
+complete _ _ rest (grouped {outs = outs} {by = by} {in_scope = in_scope} {tokens = tokens} {from = from} {columns = columns} are_outs is_scope are_columns) ends =
+    let behind : List TokenKind = Keyword KGroup ∷ Word (codes "by") ∷ columns in
+    rw (
+      members-no_distinct tokens (map member_of_out outs) from (from_outs tokens outs from are_outs),
+      draft_of_complete false tokens (map member_of_out outs) from in_scope behind (from_outs tokens outs from are_outs) is_scope (scope_ends-group (Word (codes "by") ∷ columns)),
+      after_word-same (codes "by") columns,
+      columns_complete columns by rest are_columns ends.scope_ends.joins_end.condition_ends.no_dot ends.scope_ends.joins_end.no_comma,
+      outs_back outs,
     ) refl

@@ -1,14 +1,17 @@
 -- What follows a part of the grammar is the end of the tokens that it begins.
-use Rattle.std.proofs.Common.{◌≡◌, List, [], ◌∷◌, ◌++◌, refl, ap}
+use Rattle.std.proofs.Common.{◌≡◌, List, [], ◌∷◌, ◌++◌, Option, refl, ap}
 use Rattle.hippo_values.specs.declared.values.Value.{Value}
 use Rattle.hippo_model.specs.declared.statement.RawColumn.{RawColumn}
 use Rattle.hippo_model.specs.declared.statement.RawItem.{RawItem}
+use Rattle.hippo_model.specs.declared.statement.RawOut.{RawOut}
 use Rattle.hippo_model.specs.declared.statement.RawOperand.{RawOperand}
 use Rattle.hippo_model.specs.declared.statement.RawSelect.{RawSelect}
 use Rattle.hippo_lexer.specs.declared.kinds.TokenKind.{TokenKind}
-use Rattle.hippo_spj_reader.specs.Conditions.{RawCond, IsColumn, bare, qualified, IsLiteral, number, quoted, day, null, IsOperand, column, literal, IsCondition, disjunction, AreDisjuncts, last_disjunct, more_disjuncts, IsConjunction, conjunction, AreConjuncts, last_conjunct, more_conjuncts, IsNegation, negated, plain, IsPrimary, parentheses, comparison, between, not_between, among, not_among, missing, present}
-use Rattle.hippo_spj_reader.specs.Lists.{IsListOf, last_part, more_parts}
-use Rattle.hippo_spj_reader.specs.Selects.{IsItem, one_column, all_of_table, AreItems, star, listed, AreJoined, no_more, comma, join, inner_join, IsWhere, no_where, condition, IsSelect, select}
+use Rattle.hippo_spj_reader.specs.declared.selects.Scope.{Scope}
+use Rattle.hippo_spj_reader.specs.ConditionGrammar as conditions
+use Rattle.hippo_spj_reader.specs.ConditionGrammar.{RawCond, IsColumn, bare, qualified, IsLiteral, number, quoted, day, null, IsOperand, column, literal, IsCondition, disjunction, AreDisjuncts, last_disjunct, more_disjuncts, IsConjunction, conjunction, AreConjuncts, last_conjunct, more_conjuncts, IsNegation, negated, IsPrimary, parentheses, comparison, between, not_between, among, not_among, missing, present}
+use Rattle.hippo_spj_reader.specs.ListGrammar.{IsListOf, last_part, more_parts}
+use Rattle.hippo_spj_reader.specs.SelectGrammar.{IsItem, one_column, all_of_table, AreItems, star, listed, AreJoined, no_more, comma, join, inner_join, IsWhere, no_where, condition, IsScope, scope, IsOut, column_out, minimum, maximum, IsSelect, plain, distinct, grouped}
 
 -- the rest is what is left of the tokens behind some of them
 pub data IsSuffix (rest : List TokenKind) : List TokenKind → Type 0 where
@@ -64,7 +67,7 @@ mutual
 
   negation_suffix : {tokens rest : List TokenKind} {c : RawCond} → IsNegation tokens c rest → IsSuffix rest tokens
   negation_suffix (negated d e) = behind (negation_suffix d)
-  negation_suffix (plain d) = primary_suffix d
+  negation_suffix (conditions.plain d) = primary_suffix d
 
   primary_suffix : {tokens rest : List TokenKind} {c : RawCond} → IsPrimary tokens c rest → IsSuffix rest tokens
   primary_suffix (parentheses d) = behind (next (condition_suffix d))
@@ -84,17 +87,28 @@ items_suffix : {tokens rest : List TokenKind} {items : List RawItem} → AreItem
 items_suffix star = behind all_left
 items_suffix (listed ds) = list_suffix IsItem _ (λ _ _ _ d. item_suffix d) ds
 
+out_suffix : {tokens rest : List TokenKind} {o : RawOut} → IsOut tokens o rest → IsSuffix rest tokens
+out_suffix (column_out c) = column_suffix c
+out_suffix (minimum c) = behind (behind (next (column_suffix c)))
+out_suffix (maximum c) = behind (behind (next (column_suffix c)))
+
 joined_suffix : {tokens rest : List TokenKind} {tables : List _} {conditions : List RawCond} → AreJoined tokens tables conditions rest → IsSuffix rest tokens
 joined_suffix no_more = all_left
 joined_suffix (comma d) = behind (behind (joined_suffix d))
 joined_suffix (join c d) = behind (behind (behind (within (condition_suffix c) (joined_suffix d))))
 joined_suffix (inner_join c d) = behind (behind (behind (behind (within (condition_suffix c) (joined_suffix d)))))
 
-where_suffix : {tokens rest : List TokenKind} {conditions : List RawCond} → IsWhere tokens conditions rest → IsSuffix rest tokens
+where_suffix : {tokens rest : List TokenKind} {last : Option RawCond} → IsWhere tokens last rest → IsSuffix rest tokens
 where_suffix no_where = all_left
 where_suffix (condition c) = behind (condition_suffix c)
 
+scope_suffix : {tokens rest : List TokenKind} {s : Scope} → IsScope tokens s rest → IsSuffix rest tokens
+scope_suffix (scope are_joined is_where is_whole) = behind (behind (within (joined_suffix are_joined) (where_suffix is_where)))
+
 -- what follows a select is the end of its tokens
 pub select_suffix : {tokens rest : List TokenKind} {s : RawSelect} → IsSelect tokens s rest → IsSuffix rest tokens
-select_suffix (select are_items are_joined is_where is_whole) =
-    behind (within (next (next (items_suffix are_items))) (within (joined_suffix are_joined) (where_suffix is_where)))
+select_suffix (plain are_items is_scope) = behind (within (items_suffix are_items) (scope_suffix is_scope))
+select_suffix (distinct are_items is_scope) = behind (behind (within (items_suffix are_items) (scope_suffix is_scope)))
+select_suffix (grouped are_outs is_scope are_columns) =
+    behind (within (list_suffix IsOut _ (λ _ _ _ d. out_suffix d) are_outs)
+    (within (next (next (scope_suffix is_scope))) (list_suffix IsColumn _ (λ _ _ _ d. column_suffix d) are_columns)))

@@ -1,5 +1,5 @@
 -- What stands at the front of a list of tokens.
-use Rattle.std.specs.Prelude.{ℕ, Bool, List, ◌∷◌, map, Option, Some, None, if◌then◌else◌, slice_range}
+use Rattle.std.specs.Prelude.{ℕ, Bool, List, ◌∷◌, map, Option, Some, None, if◌then◌else◌, slice_range, bytes_eq}
 use denote.Enum.Bare.{sameb}
 use Rattle.hippo_values.specs.declared.values.Value.{Value}
 use Rattle.hippo_values.specs.declared.values.Value.TheVariants as value
@@ -11,6 +11,10 @@ use Rattle.hippo_lexer.specs.declared.kinds.Symbol as signs
 use Rattle.hippo_lexer.specs.declared.kinds.Token.{Token}
 use Rattle.hippo_lexer.specs.declared.kinds.TokenKind.{TokenKind}
 use Rattle.hippo_lexer.specs.declared.kinds.TokenKind.TheVariants.{Word, Keyword, Number, Quoted, Day, Symbol}
+
+-- what can be found at the front of the tokens, and what follows it
+abbrev pub Finds : Type 0 → Type 0
+Finds X = List TokenKind → Option (X × List TokenKind)
 
 -- what the tokens say, without their places
 abbrev pub kinds : List Token → List TokenKind
@@ -36,15 +40,20 @@ abbrev pub after_symbol : signs.Symbol → List TokenKind → Option (List Token
 after_symbol symbol (Symbol first ∷ rest) = if same_symbol first symbol then Some rest else None
 after_symbol symbol tokens = None
 
+-- what follows the word, a name, where it stands first
+abbrev pub after_word : List ℕ → List TokenKind → Option (List TokenKind)
+after_word word (Word first ∷ rest) = if bytes_eq first word then Some rest else None
+after_word word tokens = None
+
 -- the name that stands first, and what follows it
-abbrev pub name_at : List TokenKind → Option (List ℕ × List TokenKind)
-name_at (Word name ∷ rest) = Some (name, rest)
-name_at tokens = None
+abbrev pub leading_name : Finds (List ℕ)
+leading_name (Word name ∷ rest) = Some (name, rest)
+leading_name tokens = None
 
 -- literal = number | quoted | day | NULL
-abbrev pub literal_at : List TokenKind → Option (Value × List TokenKind)
-literal_at (Number number ∷ rest) = Some (value.Int number, rest)
-literal_at (Quoted text ∷ rest) = Some (value.Text text, rest)
-literal_at (Day day ∷ rest) = Some (value.Day day, rest)
-literal_at (Keyword keyword ∷ rest) = if same_keyword keyword KNull then Some (value.Null, rest) else None
-literal_at tokens = None
+abbrev pub leading_literal : Finds Value
+leading_literal (Number number ∷ rest) = Some (value.Int number, rest)
+leading_literal (Quoted text ∷ rest) = Some (value.Text text, rest)
+leading_literal (Day day ∷ rest) = Some (value.Day day, rest)
+leading_literal (Keyword keyword ∷ rest) = if same_keyword keyword KNull then Some (value.Null, rest) else None
+leading_literal tokens = None

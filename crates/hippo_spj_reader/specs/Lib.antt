@@ -1,7 +1,8 @@
-pub mod Answers
-pub mod Conditions
-pub mod Finding
+pub mod ConditionFinder
+pub mod ConditionGrammar
 pub mod Front
-pub mod Lists
-pub mod Selecting
-pub mod Selects
+pub mod ListFinder
+pub mod ListGrammar
+pub mod Promises
+pub mod SelectFinder
+pub mod SelectGrammar

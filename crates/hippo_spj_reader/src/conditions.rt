@@ -1,13 +1,16 @@
-ghost use Rattle.std.specs.Prelude.{◌≡◌, ◌≢◌, ℕ, ◌<◌, ◌≤◌, [], ◌∷◌, length, IfOk, IfErr, IfSome, option_map, MatchResult};
-ghost use Rattle.hippo_spj_reader.specs.Answers.{Gives, whole_of, IsFaultOnlyWhere};
+//! Conditions, operands and columns.
+
+ghost use Rattle.std.specs.Prelude.{◌≡◌, ◌≢◌, ℕ, ◌<◌, ◌≤◌, [], ◌∷◌, length, IfOk, slice_range, IfSome, option_map, MatchResult};
+ghost use Rattle.hippo_lexer.specs.Words.{words_check};
+ghost use Rattle.hippo_spj_reader.specs.Promises.{Gives, GivesPart, LeavesNoMore, Reads, ReadsAll};
 ghost use Rattle.hippo_spj_reader.specs.Front.{kinds, kinds_between};
-ghost use Rattle.hippo_spj_reader.specs.Conditions.{RawCond, any_of, all_of, IsCondition};
-ghost use Rattle.hippo_spj_reader.specs.Finding.{column_at, begins_with_name, operand_at, operator_of, operator_at, comparison_at, between_at, among_at, range_at, null_at, test_at, conjunction_with, condition_with, primary_with, negation_at, condition_at};
+ghost use Rattle.hippo_spj_reader.specs.ConditionGrammar.{RawCond, any_of, all_of, IsCondition};
+ghost use Rattle.hippo_spj_reader.specs.ConditionFinder.{leading_column, begins_with_name, leading_operand, operator_of, leading_operator, leading_comparison, leading_between, leading_among, leading_range, leading_null, leading_test, conjunction_with, condition_with, primary_with, leading_negation, leading_condition};
 
 use crate::front::{
     after_keyword, after_symbol, expect_keyword, expect_symbol, literal, name, split,
 };
-use crate::lists::{Listed, list};
+use crate::lists::{Commas, Part, list, whole};
 use hippo_lexer::{Keyword, Symbol, SyntaxFault, Token, TokenKind, Tokens};
 use hippo_model::{CondOf, RawColumn, RawCond, RawOperand};
 use hippo_values::{Boxed, CompareOp, Sequence};
@@ -15,8 +18,7 @@ use std::alloc::Global;
 
 /// The column that has to stand first, with its table or without, and the tokens behind it.
 pub fn column(alloc: Global, tokens: &[Token]) -> Result<(RawColumn, &[Token]), SyntaxFault>
-    ensures found { Gives (λ x. (x.0, kinds x.1.now)) result (column_at (kinds tokens.now)) }
-    ensures shorter { IfOk result (λ x. length x.1.now < length tokens.now) }
+    ensures { Reads leading_column tokens.now result }
 {
     let (first, rest) = name(alloc, tokens)?;
     let Some(behind) = after_symbol(rest, Symbol::Dot) else {
@@ -34,6 +36,21 @@ pub fn column(alloc: Global, tokens: &[Token]) -> Result<(RawColumn, &[Token]), 
     Ok((RawColumn { table, column }, rest))
 }
 
+/// The rule of a column.
+pub struct ColumnPart;
+
+impl Part for ColumnPart {
+    ghost use Rattle.hippo_spj_reader.specs.ConditionFinder.{leading_column};
+
+    type Reading = RawColumn;
+
+    ghost leading = { leading_column };
+
+    fn read(alloc: Global, tokens: &[Token]) -> Result<(RawColumn, &[Token]), SyntaxFault> {
+        column(alloc, tokens)
+    }
+}
+
 fn begins_with_name(tokens: &[Token]) -> bool
     ensures { result ≡ begins_with_name (kinds tokens.now) }
 {
@@ -42,8 +59,7 @@ fn begins_with_name(tokens: &[Token]) -> bool
 
 /// The operand that has to stand first, and the tokens behind it.
 pub fn operand(alloc: Global, tokens: &[Token]) -> Result<(RawOperand, &[Token]), SyntaxFault>
-    ensures found { Gives (λ x. (x.0, kinds x.1.now)) result (operand_at (kinds tokens.now)) }
-    ensures shorter { IfOk result (λ x. length x.1.now < length tokens.now) }
+    ensures { Reads leading_operand tokens.now result }
 {
     if begins_with_name(tokens) {
         let (found, rest) = column(alloc, tokens)?;
@@ -68,7 +84,7 @@ fn operator_of(symbol: Symbol) -> Option<CompareOp>
 }
 
 fn operator(tokens: &[Token]) -> Option<(CompareOp, &[Token])>
-    ensures found { option_map (λ x. (x.0, kinds x.1.now)) result ≡ operator_at (kinds tokens.now) }
+    ensures found { option_map (λ x. (x.0, kinds x.1.now)) result ≡ leading_operator (kinds tokens.now) }
     ensures shorter { IfSome result (λ x. length x.1.now < length tokens.now) }
 {
     match split(tokens)? {
@@ -77,26 +93,18 @@ fn operator(tokens: &[Token]) -> Option<(CompareOp, &[Token])>
     }
 }
 
-/// The operands of IN.
-struct Operands;
+// The rule of an operand.
+struct OperandPart;
 
-impl Listed for Operands {
-    ghost use Rattle.hippo_lexer.specs.declared.kinds.Symbol.TheVariants.{Comma};
-    ghost use Rattle.hippo_spj_reader.specs.Front.{after_symbol};
-    ghost use Rattle.hippo_spj_reader.specs.Finding.{operand_at};
+impl Part for OperandPart {
+    ghost use Rattle.hippo_spj_reader.specs.ConditionFinder.{leading_operand};
 
-    type Part = RawOperand;
+    type Reading = RawOperand;
 
-    ghost part_at = { operand_at };
+    ghost leading = { leading_operand };
 
-    ghost next_at = { after_symbol Comma };
-
-    fn part(alloc: Global, tokens: &[Token]) -> Result<(RawOperand, &[Token]), SyntaxFault> {
+    fn read(alloc: Global, tokens: &[Token]) -> Result<(RawOperand, &[Token]), SyntaxFault> {
         operand(alloc, tokens)
-    }
-
-    fn next(tokens: &[Token]) -> Option<&[Token]> {
-        after_symbol(tokens, Symbol::Comma)
     }
 }
 
@@ -106,28 +114,26 @@ fn negated(alloc: Global, part: RawCond) -> Result<RawCond, SyntaxFault>
     Ok(CondOf::Not(Boxed::new(alloc, part)?))
 }
 
-#[tactic(auto, unfolding(crate::specs::Finding::comparison_at))]
+#[tactic(auto, unfolding(crate::specs::ConditionFinder::leading_comparison))]
 fn comparison(
     alloc: Global,
     left: RawOperand,
     op: CompareOp,
     tokens: &[Token],
 ) -> Result<(RawCond, &[Token]), SyntaxFault>
-    ensures found { Gives (λ x. (x.0, kinds x.1.now)) result (comparison_at left op (kinds tokens.now)) }
-    ensures shorter { IfOk result (λ x. length x.1.now < length tokens.now) }
+    ensures { Reads (leading_comparison left op) tokens.now result }
 {
     let (right, rest) = operand(alloc, tokens)?;
     Ok((CondOf::Compare { op, left, right }, rest))
 }
 
-#[tactic(auto, unfolding(crate::specs::Finding::between_at))]
+#[tactic(auto, unfolding(crate::specs::ConditionFinder::leading_between))]
 fn between(
     alloc: Global,
     value: RawOperand,
     tokens: &[Token],
 ) -> Result<(RawCond, &[Token]), SyntaxFault>
-    ensures found { Gives (λ x. (x.0, kinds x.1.now)) result (between_at value (kinds tokens.now)) }
-    ensures shorter { IfOk result (λ x. length x.1.now < length tokens.now) }
+    ensures { Reads (leading_between value) tokens.now result }
 {
     let (low, rest) = operand(alloc, tokens)?;
     let rest = expect_keyword(rest, Keyword::KAnd)?;
@@ -135,17 +141,16 @@ fn between(
     Ok((CondOf::Between { value, low, high }, rest))
 }
 
-#[tactic(auto, unfolding(crate::specs::Finding::among_at))]
+#[tactic(auto, unfolding(crate::specs::ConditionFinder::leading_among))]
 fn among(
     alloc: Global,
     value: RawOperand,
     tokens: &[Token],
 ) -> Result<(RawCond, &[Token]), SyntaxFault>
-    ensures found { Gives (λ x. (x.0, kinds x.1.now)) result (among_at value (kinds tokens.now)) }
-    ensures shorter { IfOk result (λ x. length x.1.now < length tokens.now) }
+    ensures { Reads (leading_among value) tokens.now result }
 {
     let inside = expect_symbol(tokens, Symbol::LeftParen)?;
-    let (members, rest) = list::<Operands>(alloc, inside)?;
+    let (members, rest) = list::<OperandPart, Commas>(alloc, inside)?;
     let rest = expect_symbol(rest, Symbol::RightParen)?;
     Ok((
         CondOf::Among {
@@ -156,14 +161,13 @@ fn among(
     ))
 }
 
-#[tactic(auto, unfolding(crate::specs::Finding::range_at))]
+#[tactic(auto, unfolding(crate::specs::ConditionFinder::leading_range))]
 fn range(
     alloc: Global,
     value: RawOperand,
     tokens: &[Token],
 ) -> Result<(RawCond, &[Token]), SyntaxFault>
-    ensures found { Gives (λ x. (x.0, kinds x.1.now)) result (range_at value (kinds tokens.now)) }
-    ensures shorter { IfOk result (λ x. length x.1.now < length tokens.now) }
+    ensures { Reads (leading_range value) tokens.now result }
 {
     if let Some(behind) = after_keyword(tokens, Keyword::KBetween) {
         return between(alloc, value, behind);
@@ -172,14 +176,13 @@ fn range(
     among(alloc, value, behind)
 }
 
-#[tactic(auto, unfolding(crate::specs::Finding::null_at))]
+#[tactic(auto, unfolding(crate::specs::ConditionFinder::leading_null))]
 fn null_test(
     alloc: Global,
     value: RawOperand,
     tokens: &[Token],
 ) -> Result<(RawCond, &[Token]), SyntaxFault>
-    ensures found { Gives (λ x. (x.0, kinds x.1.now)) result (null_at value (kinds tokens.now)) }
-    ensures shorter { IfOk result (λ x. length x.1.now < length tokens.now) }
+    ensures { Reads (leading_null value) tokens.now result }
 {
     if let Some(behind) = after_keyword(tokens, Keyword::KNot) {
         let rest = expect_keyword(behind, Keyword::KNull)?;
@@ -189,14 +192,13 @@ fn null_test(
     Ok((CondOf::Missing { value }, rest))
 }
 
-#[tactic(auto, unfolding(crate::specs::Finding::test_at))]
+#[tactic(auto, unfolding(crate::specs::ConditionFinder::leading_test))]
 fn test(
     alloc: Global,
     value: RawOperand,
     tokens: &[Token],
 ) -> Result<(RawCond, &[Token]), SyntaxFault>
-    ensures found { Gives (λ x. (x.0, kinds x.1.now)) result (test_at value (kinds tokens.now)) }
-    ensures shorter { IfOk result (λ x. length x.1.now < length tokens.now) }
+    ensures { Reads (leading_test value) tokens.now result }
 {
     if let Some(behind) = after_keyword(tokens, Keyword::KNot) {
         let (part, rest) = range(alloc, value, behind)?;
@@ -246,8 +248,8 @@ fn all_of(parts: Sequence<RawCond>) -> RawCond
 #[cycle(condition)]
 fn primary(alloc: Global, tokens: &[Token]) -> Result<(RawCond, &[Token]), SyntaxFault>
     ensures found { (n : ℕ) → length tokens.now ≤ n →
-        Gives (λ x. (x.0, kinds x.1.now)) result (primary_with (negation_at n) (kinds tokens.now)) }
-    ensures shorter { IfOk result (λ x. length x.1.now < length tokens.now) }
+        GivesPart result (primary_with (leading_negation n) (kinds tokens.now)) }
+    ensures no_longer { LeavesNoMore tokens.now result }
 {
     if let Some(inside) = after_symbol(tokens, Symbol::LeftParen) {
         let (found, rest) = disjunction(alloc, inside)?;
@@ -261,8 +263,8 @@ fn primary(alloc: Global, tokens: &[Token]) -> Result<(RawCond, &[Token]), Synta
 #[cycle(condition)]
 fn negation(alloc: Global, tokens: &[Token]) -> Result<(RawCond, &[Token]), SyntaxFault>
     ensures found { (n : ℕ) → length tokens.now < n →
-        Gives (λ x. (x.0, kinds x.1.now)) result (negation_at n (kinds tokens.now)) }
-    ensures shorter { IfOk result (λ x. length x.1.now < length tokens.now) }
+        GivesPart result (leading_negation n (kinds tokens.now)) }
+    ensures no_longer { LeavesNoMore tokens.now result }
 {
     if let Some(behind) = after_keyword(tokens, Keyword::KNot) {
         let (part, rest) = negation(alloc, behind)?;
@@ -274,8 +276,8 @@ fn negation(alloc: Global, tokens: &[Token]) -> Result<(RawCond, &[Token]), Synt
 #[cycle(condition)]
 fn conjunction(alloc: Global, tokens: &[Token]) -> Result<(RawCond, &[Token]), SyntaxFault>
     ensures found { (n : ℕ) → length tokens.now < n →
-        Gives (λ x. (x.0, kinds x.1.now)) result (conjunction_with (negation_at n) (kinds tokens.now)) }
-    ensures shorter { IfOk result (λ x. length x.1.now < length tokens.now) }
+        GivesPart result (conjunction_with (leading_negation n) (kinds tokens.now)) }
+    ensures no_longer { LeavesNoMore tokens.now result }
 {
     let mut parts = Sequence::new(alloc);
     let (first, mut rest) = negation(alloc, tokens)?;
@@ -291,8 +293,8 @@ fn conjunction(alloc: Global, tokens: &[Token]) -> Result<(RawCond, &[Token]), S
 #[cycle(condition)]
 fn disjunction(alloc: Global, tokens: &[Token]) -> Result<(RawCond, &[Token]), SyntaxFault>
     ensures found { (n : ℕ) → length tokens.now < n →
-        Gives (λ x. (x.0, kinds x.1.now)) result (condition_with (negation_at n) (kinds tokens.now)) }
-    ensures shorter { IfOk result (λ x. length x.1.now < length tokens.now) }
+        GivesPart result (condition_with (leading_negation n) (kinds tokens.now)) }
+    ensures no_longer { LeavesNoMore tokens.now result }
 {
     let mut parts = Sequence::new(alloc);
     let (first, mut rest) = conjunction(alloc, tokens)?;
@@ -307,20 +309,23 @@ fn disjunction(alloc: Global, tokens: &[Token]) -> Result<(RawCond, &[Token]), S
 
 /// The condition that has to stand first, as long as it goes on, and the tokens behind it.
 pub fn condition(alloc: Global, tokens: &[Token]) -> Result<(RawCond, &[Token]), SyntaxFault>
-    ensures found { Gives (λ x. (x.0, kinds x.1.now)) result (condition_at (kinds tokens.now)) }
-    ensures shorter { IfOk result (λ x. length x.1.now < length tokens.now) }
+    ensures { Reads leading_condition tokens.now result }
 {
     disjunction(alloc, tokens)
 }
 
-fn whole(alloc: Global, tokens: &[Token]) -> Result<RawCond, SyntaxFault>
-    ensures { Gives (λ condition. condition) result (whole_of (condition_at (kinds tokens.now))) }
-{
-    let (found, rest) = condition(alloc, tokens)?;
-    if rest.is_empty() {
-        Ok(found)
-    } else {
-        Err(SyntaxFault::BadSyntax)
+// The rule of a condition.
+struct ConditionPart;
+
+impl Part for ConditionPart {
+    ghost use Rattle.hippo_spj_reader.specs.ConditionFinder.{leading_condition};
+
+    type Reading = RawCond;
+
+    ghost leading = { leading_condition };
+
+    fn read(alloc: Global, tokens: &[Token]) -> Result<(RawCond, &[Token]), SyntaxFault> {
+        condition(alloc, tokens)
     }
 }
 
@@ -334,11 +339,8 @@ pub fn read_condition(
 ) -> Result<RawCond, SyntaxFault>
     requires order { first ≤ last }
     requires within { last ≤ length t.now }
-    ensures found { IfOk result (λ condition. IsCondition (kinds_between t.now first last) condition []) }
-    ensures only { IfOk result (λ condition. (other : RawCond) →
-        IsCondition (kinds_between t.now first last) other [] → other ≡ condition) }
-    ensures errors { IfErr result (IsFaultOnlyWhere ((condition : RawCond) →
-        ¬ IsCondition (kinds_between t.now first last) condition [])) }
+    requires words { words_check (slice_range t.now first last) ≡ Ok tt }
+    ensures { ReadsAll IsCondition (kinds_between t.now first last) result }
 {
-    whole(alloc, &t.as_slice()[first..last])
+    whole::<ConditionPart>(alloc, &t.as_slice()[first..last])
 }

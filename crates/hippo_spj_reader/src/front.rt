@@ -1,6 +1,8 @@
-ghost use Rattle.std.specs.Prelude.{◌≡◌, ◌∷◌, ◌<◌, [], length, MatchOption, IfSome, IfOk, option_map};
-ghost use Rattle.hippo_spj_reader.specs.Answers.{Gives};
-ghost use Rattle.hippo_spj_reader.specs.Front.{kinds, after_keyword, after_symbol, name_at, literal_at};
+//! What stands first among the tokens.
+
+ghost use Rattle.std.specs.Prelude.{◌≡◌, ◌∷◌, ◌<◌, [], length, MatchOption, IfSome};
+ghost use Rattle.hippo_spj_reader.specs.Promises.{Reads, Passes, Expects};
+ghost use Rattle.hippo_spj_reader.specs.Front.{kinds, after_keyword, after_symbol, after_word, leading_name, leading_literal};
 
 use hippo_lexer::{Keyword, Symbol, SyntaxFault, Token, TokenKind};
 use hippo_values::{Duplicate, Name, Value};
@@ -20,8 +22,7 @@ pub fn split(tokens: &[Token]) -> Option<(&TokenKind, &[Token])>
 
 /// The tokens behind a keyword, where it stands first.
 pub fn after_keyword(tokens: &[Token], keyword: Keyword) -> Option<&[Token]>
-    ensures rest { option_map (λ rest. kinds rest.now) result ≡ after_keyword keyword (kinds tokens.now) }
-    ensures shorter { IfSome result (λ rest. length rest.now < length tokens.now) }
+    ensures { Passes (after_keyword keyword) tokens.now result }
 {
     match split(tokens)? {
         (TokenKind::Keyword(first), rest) if *first == keyword => Some(rest),
@@ -31,8 +32,7 @@ pub fn after_keyword(tokens: &[Token], keyword: Keyword) -> Option<&[Token]>
 
 /// The tokens behind a symbol, where it stands first.
 pub fn after_symbol(tokens: &[Token], symbol: Symbol) -> Option<&[Token]>
-    ensures rest { option_map (λ rest. kinds rest.now) result ≡ after_symbol symbol (kinds tokens.now) }
-    ensures shorter { IfSome result (λ rest. length rest.now < length tokens.now) }
+    ensures { Passes (after_symbol symbol) tokens.now result }
 {
     match split(tokens)? {
         (TokenKind::Symbol(first), rest) if *first == symbol => Some(rest),
@@ -40,26 +40,40 @@ pub fn after_symbol(tokens: &[Token], symbol: Symbol) -> Option<&[Token]>
     }
 }
 
+/// The tokens behind a word that is no keyword, where it stands first.
+pub fn after_word<'a>(tokens: &'a [Token], word: &str) -> Option<&'a [Token]>
+    ensures { Passes (after_word word.now) tokens.now result }
+{
+    match split(tokens)? {
+        (TokenKind::Word(first), rest) if first.as_str() == word => Some(rest),
+        _ => None,
+    }
+}
+
 /// The tokens behind a keyword that has to stand first.
 pub fn expect_keyword(tokens: &[Token], keyword: Keyword) -> Result<&[Token], SyntaxFault>
-    ensures rest { Gives (λ rest. kinds rest.now) result (after_keyword keyword (kinds tokens.now)) }
-    ensures shorter { IfOk result (λ rest. length rest.now < length tokens.now) }
+    ensures { Expects (after_keyword keyword) tokens.now result }
 {
     after_keyword(tokens, keyword).ok_or(SyntaxFault::BadSyntax)
 }
 
 /// The tokens behind a symbol that has to stand first.
 pub fn expect_symbol(tokens: &[Token], symbol: Symbol) -> Result<&[Token], SyntaxFault>
-    ensures rest { Gives (λ rest. kinds rest.now) result (after_symbol symbol (kinds tokens.now)) }
-    ensures shorter { IfOk result (λ rest. length rest.now < length tokens.now) }
+    ensures { Expects (after_symbol symbol) tokens.now result }
 {
     after_symbol(tokens, symbol).ok_or(SyntaxFault::BadSyntax)
 }
 
+/// The tokens behind a word, no keyword, that has to stand first.
+pub fn expect_word<'a>(tokens: &'a [Token], word: &str) -> Result<&'a [Token], SyntaxFault>
+    ensures { Expects (after_word word.now) tokens.now result }
+{
+    after_word(tokens, word).ok_or(SyntaxFault::BadSyntax)
+}
+
 /// The name that has to stand first, and the tokens behind it.
 pub fn name(alloc: Global, tokens: &[Token]) -> Result<(Name, &[Token]), SyntaxFault>
-    ensures found { Gives (λ x. (x.0, kinds x.1.now)) result (name_at (kinds tokens.now)) }
-    ensures shorter { IfOk result (λ x. length x.1.now < length tokens.now) }
+    ensures { Reads leading_name tokens.now result }
 {
     match split(tokens) {
         Some((TokenKind::Word(name), rest)) => Ok((name.copy(alloc)?, rest)),
@@ -69,8 +83,7 @@ pub fn name(alloc: Global, tokens: &[Token]) -> Result<(Name, &[Token]), SyntaxF
 
 /// The literal that has to stand first, and the tokens behind it.
 pub fn literal(alloc: Global, tokens: &[Token]) -> Result<(Value, &[Token]), SyntaxFault>
-    ensures found { Gives (λ x. (x.0, kinds x.1.now)) result (literal_at (kinds tokens.now)) }
-    ensures shorter { IfOk result (λ x. length x.1.now < length tokens.now) }
+    ensures { Reads leading_literal tokens.now result }
 {
     match split(tokens) {
         Some((TokenKind::Number(number), rest)) => Ok((Value::Int(*number), rest)),

@@ -6,7 +6,10 @@ mod front;
 mod lists;
 mod selects;
 
-pub use conditions::{column, condition, read_condition};
-pub use front::{after_keyword, after_symbol, expect_keyword, expect_symbol, literal, name, split};
-pub use lists::{Listed, NameList, list};
+pub use conditions::{ColumnPart, column, condition, read_condition};
+pub use front::{
+    after_keyword, after_symbol, after_word, expect_keyword, expect_symbol, expect_word, literal,
+    name, split,
+};
+pub use lists::{Commas, NamePart, Part, Separator, list, whole};
 pub use selects::{after_where, read_select, select, whole_condition};

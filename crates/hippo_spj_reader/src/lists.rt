@@ -1,73 +1,96 @@
-ghost use Rattle.std.specs.Prelude.{◌≡◌, ◌<◌, length, IfSome, IfOk, option_map};
-ghost use Rattle.hippo_spj_reader.specs.Answers.{Gives};
+//! The rules of the grammar as types, lists of their parts, and texts that are one part and nothing more.
+
+ghost use Rattle.std.specs.Prelude.{◌≡◌, ◌≤◌, length};
+ghost use Rattle.hippo_spj_reader.specs.Promises.{Gives, Reads, Passes, whole_of};
 ghost use Rattle.hippo_spj_reader.specs.Front.{kinds};
-ghost use Rattle.hippo_spj_reader.specs.Lists.{list_at};
+ghost use Rattle.hippo_spj_reader.specs.ListFinder.{leading_list};
 
 use crate::front::{after_symbol, name};
 use hippo_lexer::{Symbol, SyntaxFault, Token};
 use hippo_values::{Name, Sequence};
 use std::alloc::Global;
 
-/// A rule of the grammar whose parts stand in a list.
-pub trait Listed {
+/// A rule of the grammar.
+pub trait Part {
+    ghost use Rattle.hippo_spj_reader.specs.Front.{Finds};
+
+    /// How a part reads.
+    type Reading: Drop;
+
+    ghost leading: { Finds Self.Reading };
+
+    /// The part that has to stand first, and the tokens behind it.
+    fn read(alloc: Global, tokens: &[Token]) -> Result<(Self::Reading, &[Token]), SyntaxFault>
+        ensures { Reads leading tokens.now result };
+}
+
+/// What stands between the parts of a list.
+pub trait Separator {
     ghost use Rattle.std.specs.Prelude.{List, Option};
     ghost use Rattle.hippo_lexer.specs.declared.kinds.TokenKind.{TokenKind};
 
-    /// What a part says.
-    type Part: Drop;
-
-    ghost part_at: { List TokenKind → Option (Self.Part × List TokenKind) };
-
-    ghost next_at: { List TokenKind → Option (List TokenKind) };
-
-    /// The part that has to stand first, and the tokens behind it.
-    fn part(alloc: Global, tokens: &[Token]) -> Result<(Self::Part, &[Token]), SyntaxFault>
-        ensures found { Gives (λ x. (x.0, kinds x.1.now)) result (part_at (kinds tokens.now)) }
-        ensures shorter { IfOk result (λ x. length x.1.now < length tokens.now) };
+    ghost after: { List TokenKind → Option (List TokenKind) };
 
     /// The tokens behind what leads from a part to the next, where it stands first.
-    fn next(tokens: &[Token]) -> Option<&[Token]>
-        ensures rest { option_map (λ rest. kinds rest.now) result ≡ next_at (kinds tokens.now) }
-        ensures shorter { IfSome result (λ rest. length rest.now < length tokens.now) };
+    fn pass(tokens: &[Token]) -> Option<&[Token]>
+        ensures { Passes after tokens.now result };
 }
 
 /// The parts of the list that has to stand first, and the tokens behind it.
-pub fn list<L: Listed>(
+pub fn list<P: Part, S: Separator>(
     alloc: Global,
     tokens: &[Token],
-) -> Result<(Sequence<L::Part>, &[Token]), SyntaxFault>
-    ensures found { Gives (λ x. (x.0, kinds x.1.now)) result (list_at L.part_at L.next_at (kinds tokens.now)) }
-    ensures shorter { IfOk result (λ x. length x.1.now < length tokens.now) }
+) -> Result<(Sequence<P::Reading>, &[Token]), SyntaxFault>
+    ensures { Reads (leading_list P.leading S.after) tokens.now result }
 {
     let mut parts = Sequence::new(alloc);
-    let (first, mut rest) = L::part(alloc, tokens)?;
+    let (first, mut rest) = P::read(alloc, tokens)?;
     parts.push(first)?;
-    while let Some(behind) = L::next(rest) {
-        let (part, left) = L::part(alloc, behind)?;
+    while let Some(behind) = S::pass(rest) {
+        let (part, left) = P::read(alloc, behind)?;
         parts.push(part)?;
         rest = left;
     }
     Ok((parts, rest))
 }
 
-/// The rule of lists of names with commas between them.
-pub struct NameList;
-
-impl Listed for NameList {
-    ghost use Rattle.hippo_lexer.specs.declared.kinds.Symbol.TheVariants.{Comma};
-    ghost use Rattle.hippo_spj_reader.specs.Front.{after_symbol, name_at};
-
-    type Part = Name;
-
-    ghost part_at = { name_at };
-
-    ghost next_at = { after_symbol Comma };
-
-    fn part(alloc: Global, tokens: &[Token]) -> Result<(Name, &[Token]), SyntaxFault> {
-        name(alloc, tokens)
+/// What the tokens are by a rule, where they are one part and nothing more.
+pub fn whole<P: Part>(alloc: Global, tokens: &[Token]) -> Result<P::Reading, SyntaxFault>
+    ensures { Gives (λ x. x) result (whole_of (P.leading (kinds tokens.now))) }
+{
+    let (part, rest) = P::read(alloc, tokens)?;
+    if rest.is_empty() {
+        Ok(part)
+    } else {
+        Err(SyntaxFault::BadSyntax)
     }
+}
 
-    fn next(tokens: &[Token]) -> Option<&[Token]> {
+/// A comma between parts.
+pub struct Commas;
+
+impl Separator for Commas {
+    ghost use Rattle.hippo_lexer.specs.declared.kinds.Symbol.TheVariants.{Comma};
+    ghost use Rattle.hippo_spj_reader.specs.Front.{after_symbol};
+
+    ghost after = { after_symbol Comma };
+
+    fn pass(tokens: &[Token]) -> Option<&[Token]> {
         after_symbol(tokens, Symbol::Comma)
+    }
+}
+
+/// The rule of a name.
+pub struct NamePart;
+
+impl Part for NamePart {
+    ghost use Rattle.hippo_spj_reader.specs.Front.{leading_name};
+
+    type Reading = Name;
+
+    ghost leading = { leading_name };
+
+    fn read(alloc: Global, tokens: &[Token]) -> Result<(Name, &[Token]), SyntaxFault> {
+        name(alloc, tokens)
     }
 }

@@ -1,15 +1,22 @@
-ghost use Rattle.std.specs.Prelude.{◌≡◌, [], ◌∷◌, ◌++◌, ◌<◌, ◌≤◌, length, IfOk, IfErr, IfSome, OnOk, option_map, option_to_list, Some, None};
-ghost use Rattle.hippo_model.specs.declared.statement.RawSelect.{RawSelect};
-ghost use Rattle.hippo_spj_reader.specs.Answers.{Gives, whole_of, IsFaultOnlyWhere};
-ghost use Rattle.hippo_spj_reader.specs.Front.{kinds, kinds_between};
-ghost use Rattle.hippo_spj_reader.specs.Selects.{own_parts, whole_condition, IsSelect};
-ghost use Rattle.hippo_spj_reader.specs.Selecting.{whole_table_at, item_at, items_at, after_join, joined_by_comma, joined_on, joined_at, tables_at, where_at, select_at};
+//! Selects: their items, their sources and their condition.
 
-use crate::conditions::{column, condition};
-use crate::front::{after_keyword, after_symbol, expect_keyword, name, split};
-use crate::lists::{Listed, list};
+ghost use Rattle.std.specs.Prelude.{◌≡◌, [], ◌∷◌, ◌++◌, ◌<◌, ◌≤◌, length, IfOk, slice_range, IfSome, OnOk, option_map, option_to_list, Some, None, if◌then◌else◌};
+ghost use Rattle.hippo_model.specs.declared.statement.RawSelect.{RawSelect};
+ghost use Rattle.hippo_lexer.specs.Words.{words_check};
+ghost use Rattle.hippo_spj_reader.specs.Promises.{Gives, Reads, Passes, ReadsAll};
+ghost use Rattle.hippo_spj_reader.specs.Front.{kinds, kinds_between};
+ghost use Rattle.hippo_spj_reader.specs.SelectGrammar.{own_parts, whole_condition, IsSelect};
+ghost use Rattle.hippo_spj_reader.specs.SelectFinder.{leading_whole_table, leading_item, leading_argument, leading_member, leading_members, out_of, each_of, after_join, leading_joined_by_comma, leading_joined_on, leading_joined, leading_sources, leading_where, leading_scope, leading_draft_of, leading_draft, ungrouped, leading_grouped, leading_select};
+
+use crate::conditions::{ColumnPart, column, condition};
+use crate::front::{
+    after_keyword, after_symbol, expect_keyword, expect_symbol, expect_word, name, split,
+};
+use crate::lists::{Commas, Part, list, whole};
 use hippo_lexer::{Keyword, Symbol, SyntaxFault, Token, TokenKind, Tokens};
-use hippo_model::{CondOf, Names, RawCond, RawItem, RawItems, RawSelect};
+use hippo_model::{
+    CondOf, Names, RawColumn, RawCond, RawForm, RawItem, RawOut, RawOuts, RawSelect,
+};
 use hippo_values::{Memory, Name, Sequence};
 use std::alloc::Global;
 
@@ -17,7 +24,7 @@ type Conditions = Sequence<RawCond>;
 
 // The tokens behind `t.*`, where it stands first.
 fn after_whole_table(tokens: &[Token]) -> Option<&[Token]>
-    ensures rest { option_map (λ rest. kinds rest.now) result ≡ option_map (λ x. x.1) (whole_table_at (kinds tokens.now)) }
+    ensures rest { option_map (λ rest. kinds rest.now) result ≡ option_map (λ x. x.1) (leading_whole_table (kinds tokens.now)) }
     ensures shorter { IfSome result (λ rest. length rest.now < length tokens.now) }
 {
     match split(tokens)? {
@@ -26,10 +33,9 @@ fn after_whole_table(tokens: &[Token]) -> Option<&[Token]>
     }
 }
 
-#[tactic(auto, unfolding(crate::specs::Selecting::item_at))]
+#[tactic(auto, unfolding(crate::specs::SelectFinder::leading_item))]
 fn item(alloc: Global, tokens: &[Token]) -> Result<(RawItem, &[Token]), SyntaxFault>
-    ensures found { Gives (λ x. (x.0, kinds x.1.now)) result (item_at (kinds tokens.now)) }
-    ensures shorter { IfOk result (λ x. length x.1.now < length tokens.now) }
+    ensures { Reads leading_item tokens.now result }
 {
     if let Some(rest) = after_whole_table(tokens) {
         let (table, _) = name(alloc, tokens)?;
@@ -39,52 +45,127 @@ fn item(alloc: Global, tokens: &[Token]) -> Result<(RawItem, &[Token]), SyntaxFa
     Ok((RawItem::One(found), rest))
 }
 
-/// The items of a select list.
-struct ItemList;
-
-impl Listed for ItemList {
-    ghost use Rattle.hippo_lexer.specs.declared.kinds.Symbol.TheVariants.{Comma};
-    ghost use Rattle.hippo_spj_reader.specs.Front.{after_symbol};
-    ghost use Rattle.hippo_spj_reader.specs.Selecting.{item_at};
-
-    type Part = RawItem;
-
-    ghost part_at = { item_at };
-
-    ghost next_at = { after_symbol Comma };
-
-    fn part(alloc: Global, tokens: &[Token]) -> Result<(RawItem, &[Token]), SyntaxFault> {
-        item(alloc, tokens)
-    }
-
-    fn next(tokens: &[Token]) -> Option<&[Token]> {
-        after_symbol(tokens, Symbol::Comma)
-    }
+// A member of a select list, before it is known whether the select is grouped.
+#[derive(Drop)]
+enum Member {
+    Item(RawItem),
+    Min(RawColumn),
+    Max(RawColumn),
 }
 
-fn only(alloc: Global, item: RawItem) -> Result<RawItems, Memory>
-    ensures { IfOk result (λ items. items ≡ item ∷ []) }
+type Members = Sequence<Member>;
+
+#[tactic(auto, unfolding(crate::specs::SelectFinder::leading_argument))]
+fn argument(alloc: Global, tokens: &[Token]) -> Result<(RawColumn, &[Token]), SyntaxFault>
+    ensures { Reads leading_argument tokens.now result }
 {
-    let mut items = Sequence::new(alloc);
-    items.push(item)?;
-    Ok(items)
+    let inside = expect_symbol(tokens, Symbol::LeftParen)?;
+    let (found, rest) = column(alloc, inside)?;
+    let rest = expect_symbol(rest, Symbol::RightParen)?;
+    Ok((found, rest))
 }
 
-#[tactic(auto, unfolding(crate::specs::Selecting::items_at))]
-fn items(alloc: Global, tokens: &[Token]) -> Result<(RawItems, &[Token]), SyntaxFault>
-    ensures found { Gives (λ x. (x.0, kinds x.1.now)) result (items_at (kinds tokens.now)) }
-    ensures shorter { IfOk result (λ x. length x.1.now < length tokens.now) }
+#[tactic(auto, unfolding(crate::specs::SelectFinder::leading_member))]
+fn list_member(alloc: Global, tokens: &[Token]) -> Result<(Member, &[Token]), SyntaxFault>
+    ensures { Reads leading_member tokens.now result }
+{
+    if let Some(behind) = after_keyword(tokens, Keyword::KMin) {
+        let (column, rest) = argument(alloc, behind)?;
+        return Ok((Member::Min(column), rest));
+    }
+    if let Some(behind) = after_keyword(tokens, Keyword::KMax) {
+        let (column, rest) = argument(alloc, behind)?;
+        return Ok((Member::Max(column), rest));
+    }
+    let (item, rest) = item(alloc, tokens)?;
+    Ok((Member::Item(item), rest))
+}
+
+// The rule of a member.
+struct MemberPart;
+
+impl Part for MemberPart {
+    ghost use Rattle.hippo_spj_reader.specs.SelectFinder.{leading_member};
+
+    type Reading = Member;
+
+    ghost leading = { leading_member };
+
+    fn read(alloc: Global, tokens: &[Token]) -> Result<(Member, &[Token]), SyntaxFault> {
+        list_member(alloc, tokens)
+    }
+}
+
+fn only(alloc: Global, member: Member) -> Result<Members, Memory>
+    ensures { IfOk result (λ members. members ≡ member ∷ []) }
+{
+    let mut members = Sequence::new(alloc);
+    members.push(member)?;
+    Ok(members)
+}
+
+#[tactic(auto, unfolding(crate::specs::SelectFinder::leading_members))]
+fn members(alloc: Global, tokens: &[Token]) -> Result<(Members, &[Token]), SyntaxFault>
+    ensures { Reads leading_members tokens.now result }
 {
     if let Some(rest) = after_symbol(tokens, Symbol::Star) {
-        return Ok((only(alloc, RawItem::All)?, rest));
+        return Ok((only(alloc, Member::Item(RawItem::All))?, rest));
     }
-    list::<ItemList>(alloc, tokens)
+    list::<MemberPart, Commas>(alloc, tokens)
+}
+
+// What a member of a select list is, once the select's form is known.
+trait OfMember: Sized + Drop {
+    ghost use Rattle.std.specs.Prelude.{Option};
+    ghost use Rattle.hippo_spj_reader.specs.declared.selects.Member.{Member};
+
+    ghost of: { Member → Option Self };
+
+    fn of(member: Member) -> Result<Self, SyntaxFault>
+        ensures { Gives (λ x. x) result (of member) };
+}
+
+impl OfMember for RawItem {
+    ghost use Rattle.hippo_spj_reader.specs.SelectFinder.{item_of};
+
+    ghost of = { item_of };
+
+    fn of(member: Member) -> Result<RawItem, SyntaxFault> {
+        match member {
+            Member::Item(item) => Ok(item),
+            _ => Err(SyntaxFault::BadSyntax),
+        }
+    }
+}
+
+impl OfMember for RawOut {
+    ghost use Rattle.hippo_spj_reader.specs.SelectFinder.{out_of};
+
+    ghost of = { out_of };
+
+    fn of(member: Member) -> Result<RawOut, SyntaxFault> {
+        match member {
+            Member::Item(RawItem::One(column)) => Ok(RawOut::Column(column)),
+            Member::Min(column) => Ok(RawOut::Min(column)),
+            Member::Max(column) => Ok(RawOut::Max(column)),
+            _ => Err(SyntaxFault::BadSyntax),
+        }
+    }
+}
+
+fn each<T: OfMember>(alloc: Global, members: Members) -> Result<Sequence<T>, SyntaxFault>
+    ensures { Gives (λ x. x) result (each_of T.of members) }
+{
+    let mut list = Sequence::new(alloc);
+    for member in members.into_vec() {
+        list.push(T::of(member)?)?;
+    }
+    Ok(list)
 }
 
 // The tokens behind JOIN or INNER JOIN, where it stands first.
 fn after_join(tokens: &[Token]) -> Option<&[Token]>
-    ensures rest { option_map (λ rest. kinds rest.now) result ≡ after_join (kinds tokens.now) }
-    ensures shorter { IfSome result (λ rest. length rest.now < length tokens.now) }
+    ensures { Passes after_join tokens.now result }
 {
     match after_keyword(tokens, Keyword::KInner) {
         Some(behind) => after_keyword(behind, Keyword::KJoin),
@@ -100,8 +181,7 @@ struct JoinedTable {
 }
 
 fn joined_on(alloc: Global, tokens: &[Token]) -> Result<(JoinedTable, &[Token]), SyntaxFault>
-    ensures found { Gives (λ x. ((x.0.table, x.0.on), kinds x.1.now)) result (joined_on (kinds tokens.now)) }
-    ensures shorter { IfOk result (λ x. length x.1.now < length tokens.now) }
+    ensures { Reads leading_joined_on tokens.now result }
 {
     let (table, rest) = name(alloc, tokens)?;
     let rest = expect_keyword(rest, Keyword::KOn)?;
@@ -111,8 +191,7 @@ fn joined_on(alloc: Global, tokens: &[Token]) -> Result<(JoinedTable, &[Token]),
 }
 
 fn joined_by_comma(alloc: Global, tokens: &[Token]) -> Result<(JoinedTable, &[Token]), SyntaxFault>
-    ensures found { Gives (λ x. ((x.0.table, x.0.on), kinds x.1.now)) result (joined_by_comma (kinds tokens.now)) }
-    ensures shorter { IfOk result (λ x. length x.1.now < length tokens.now) }
+    ensures { Reads leading_joined_by_comma tokens.now result }
 {
     let (table, rest) = name(alloc, tokens)?;
     let on = None;
@@ -120,9 +199,9 @@ fn joined_by_comma(alloc: Global, tokens: &[Token]) -> Result<(JoinedTable, &[To
 }
 
 // The table that a comma or a JOIN adds, where one of them stands first, and the tokens behind it.
-#[tactic(auto, unfolding(crate::specs::Selecting::joined_at))]
+#[tactic(auto, unfolding(crate::specs::SelectFinder::leading_joined))]
 fn joined(alloc: Global, tokens: &[Token]) -> Result<Option<(JoinedTable, &[Token])>, SyntaxFault>
-    ensures found { Gives (λ r. option_map (λ x. ((x.0.table, x.0.on), kinds x.1.now)) r) result (joined_at (kinds tokens.now)) }
+    ensures found { Gives (λ r. option_map (λ x. (x.0, kinds x.1.now)) r) result (leading_joined (kinds tokens.now)) }
     ensures shorter { IfOk result (λ r. IfSome r (λ x. length x.1.now < length tokens.now)) }
 {
     if let Some(behind) = after_symbol(tokens, Symbol::Comma) {
@@ -176,15 +255,14 @@ pub fn whole_condition(alloc: Global, conditions: Conditions) -> Result<RawCond,
 
 // The tables of FROM, and the conditions of its ONs.
 #[derive(Drop)]
-struct Tables {
+struct Sources {
     names: Names,
     conditions: Conditions,
 }
 
-#[tactic(auto, unfolding(crate::specs::Selecting::tables_at))]
-fn from_list(alloc: Global, tokens: &[Token]) -> Result<(Tables, &[Token]), SyntaxFault>
-    ensures found { Gives (λ x. ((x.0.names, x.0.conditions), kinds x.1.now)) result (tables_at (kinds tokens.now)) }
-    ensures shorter { IfOk result (λ x. length x.1.now < length tokens.now) }
+#[tactic(auto, unfolding(crate::specs::SelectFinder::leading_sources))]
+fn from_list(alloc: Global, tokens: &[Token]) -> Result<(Sources, &[Token]), SyntaxFault>
+    ensures { Reads leading_sources tokens.now result }
 {
     let mut names = Sequence::new(alloc);
     let mut conditions = Sequence::new(alloc);
@@ -195,17 +273,16 @@ fn from_list(alloc: Global, tokens: &[Token]) -> Result<(Tables, &[Token]), Synt
         add_condition(&mut conditions, entry.on)?;
         rest = left;
     }
-    Ok((Tables { names, conditions }, rest))
+    Ok((Sources { names, conditions }, rest))
 }
 
 /// The condition behind WHERE, where that stands first, and the tokens behind it.
-#[tactic(auto, unfolding(crate::specs::Selecting::where_at))]
+#[tactic(auto, unfolding(crate::specs::SelectFinder::leading_where))]
 pub fn after_where(
     alloc: Global,
     tokens: &[Token],
 ) -> Result<(Option<RawCond>, &[Token]), SyntaxFault>
-    ensures found { Gives (λ x. (option_to_list x.0, kinds x.1.now)) result (where_at (kinds tokens.now)) }
-    ensures shorter { IfOk result (λ x. length x.1.now ≤ length tokens.now) }
+    ensures { Reads leading_where tokens.now result }
 {
     let Some(behind) = after_keyword(tokens, Keyword::KWhere) else {
         return Ok((None, tokens));
@@ -214,41 +291,152 @@ pub fn after_where(
     Ok((Some(found), rest))
 }
 
-/// The select that has to stand first, as long as it goes on, and the tokens behind it.
-#[tactic(auto, unfolding(crate::specs::Selecting::select_at))]
-pub fn select(alloc: Global, tokens: &[Token]) -> Result<(RawSelect, &[Token]), SyntaxFault>
-    ensures found { Gives (λ x. (x.0, kinds x.1.now)) result (select_at (kinds tokens.now)) }
-    ensures shorter { IfOk result (λ x. length x.1.now < length tokens.now) }
+// The tables of a select, and its whole condition.
+#[derive(Drop)]
+struct Scope {
+    tables: Names,
+    cond: RawCond,
+}
+
+#[tactic(auto, unfolding(crate::specs::SelectFinder::leading_scope))]
+fn from_clause(alloc: Global, tokens: &[Token]) -> Result<(Scope, &[Token]), SyntaxFault>
+    ensures { Reads leading_scope tokens.now result }
 {
-    let rest = expect_keyword(tokens, Keyword::KSelect)?;
-    let (items, rest) = items(alloc, rest)?;
-    let rest = expect_keyword(rest, Keyword::KFrom)?;
-    let (tables, rest) = from_list(alloc, rest)?;
+    let rest = expect_keyword(tokens, Keyword::KFrom)?;
+    let (sources, rest) = from_list(alloc, rest)?;
     let (last, rest) = after_where(alloc, rest)?;
-    let Tables {
-        names,
+    let Sources {
+        names: tables,
         mut conditions,
-    } = tables;
+    } = sources;
     add_condition(&mut conditions, last)?;
     let cond = whole_condition(alloc, conditions)?;
+    Ok((Scope { tables, cond }, rest))
+}
+
+// A select up to GROUP.
+#[derive(Drop)]
+struct Draft {
+    distinct: bool,
+    members: Members,
+    scope: Scope,
+}
+
+#[tactic(auto, unfolding(crate::specs::SelectFinder::leading_draft_of))]
+fn draft_of(
+    alloc: Global,
+    distinct: bool,
+    tokens: &[Token],
+) -> Result<(Draft, &[Token]), SyntaxFault>
+    ensures { Reads (leading_draft_of distinct) tokens.now result }
+{
+    let (members, rest) = members(alloc, tokens)?;
+    let (scope, rest) = from_clause(alloc, rest)?;
     Ok((
-        RawSelect {
-            items,
-            tables: names,
-            cond,
+        Draft {
+            distinct,
+            members,
+            scope,
         },
         rest,
     ))
 }
 
-fn whole(alloc: Global, tokens: &[Token]) -> Result<RawSelect, SyntaxFault>
-    ensures { Gives (λ select. select) result (whole_of (select_at (kinds tokens.now))) }
+#[tactic(auto, unfolding(crate::specs::SelectFinder::leading_draft))]
+fn select_draft(alloc: Global, tokens: &[Token]) -> Result<(Draft, &[Token]), SyntaxFault>
+    ensures { Reads leading_draft tokens.now result }
 {
-    let (found, rest) = select(alloc, tokens)?;
-    if rest.is_empty() {
-        Ok(found)
+    let rest = expect_keyword(tokens, Keyword::KSelect)?;
+    match after_keyword(rest, Keyword::KDistinct) {
+        Some(behind) => draft_of(alloc, true, behind),
+        None => draft_of(alloc, false, rest),
+    }
+}
+
+#[tactic(auto, unfolding(crate::specs::SelectFinder::ungrouped))]
+fn ungrouped(alloc: Global, draft: Draft) -> Result<RawSelect, SyntaxFault>
+    ensures { Gives (λ x. x) result (ungrouped draft) }
+{
+    let Draft {
+        distinct,
+        members,
+        scope: Scope { tables, cond },
+    } = draft;
+    let form = if distinct {
+        RawForm::Distinct
     } else {
-        Err(SyntaxFault::BadSyntax)
+        RawForm::Plain
+    };
+    let items = each(alloc, members)?;
+    Ok(RawSelect {
+        items,
+        tables,
+        cond,
+        form,
+    })
+}
+
+fn outs(alloc: Global, distinct: bool, members: Members) -> Result<RawOuts, SyntaxFault>
+    ensures { Gives (λ x. x) result (if distinct then None else each_of out_of members) }
+{
+    if distinct {
+        return Err(SyntaxFault::BadSyntax);
+    }
+    each(alloc, members)
+}
+
+// The select that goes on behind GROUP, and the tokens behind it.
+#[tactic(auto, unfolding(crate::specs::SelectFinder::leading_grouped))]
+fn grouped(
+    alloc: Global,
+    draft: Draft,
+    tokens: &[Token],
+) -> Result<(RawSelect, &[Token]), SyntaxFault>
+    ensures { Reads (leading_grouped draft) tokens.now result }
+{
+    let Draft {
+        distinct,
+        members,
+        scope: Scope { tables, cond },
+    } = draft;
+    let columns = expect_word(tokens, "by")?;
+    let (by, rest) = list::<ColumnPart, Commas>(alloc, columns)?;
+    let outs = outs(alloc, distinct, members)?;
+    Ok((
+        RawSelect {
+            items: Sequence::new(alloc),
+            tables,
+            cond,
+            form: RawForm::Grouped { outs, by },
+        },
+        rest,
+    ))
+}
+
+/// The select that has to stand first, as long as it goes on, and the tokens behind it.
+#[tactic(auto, unfolding(crate::specs::SelectFinder::leading_select))]
+pub fn select(alloc: Global, tokens: &[Token]) -> Result<(RawSelect, &[Token]), SyntaxFault>
+    ensures { Reads leading_select tokens.now result }
+{
+    let (draft, rest) = select_draft(alloc, tokens)?;
+    if let Some(behind) = after_keyword(rest, Keyword::KGroup) {
+        return grouped(alloc, draft, behind);
+    }
+    Ok((ungrouped(alloc, draft)?, rest))
+}
+
+// The rule of a select.
+struct SelectPart;
+
+impl Part for SelectPart {
+    ghost use Rattle.hippo_spj_reader.specs.SelectFinder.{leading_select};
+
+    type Reading = RawSelect;
+
+    ghost leading = { leading_select };
+
+    fn read(alloc: Global, tokens: &[Token]) -> Result<(RawSelect, &[Token]), SyntaxFault> {
+        select(alloc, tokens)
     }
 }
 
@@ -262,11 +450,8 @@ pub fn read_select(
 ) -> Result<RawSelect, SyntaxFault>
     requires order { first ≤ last }
     requires within { last ≤ length t.now }
-    ensures found { IfOk result (λ select. IsSelect (kinds_between t.now first last) select []) }
-    ensures only { IfOk result (λ select. (other : RawSelect) →
-        IsSelect (kinds_between t.now first last) other [] → other ≡ select) }
-    ensures errors { IfErr result (IsFaultOnlyWhere ((select : RawSelect) →
-        ¬ IsSelect (kinds_between t.now first last) select [])) }
+    requires words { words_check (slice_range t.now first last) ≡ Ok tt }
+    ensures { ReadsAll IsSelect (kinds_between t.now first last) result }
 {
-    whole(alloc, &t.as_slice()[first..last])
+    whole::<SelectPart>(alloc, &t.as_slice()[first..last])
 }

@@ -1,11 +1,11 @@
 -- Each reader of the cycle takes what is read by the next after it; the parts so far and the list that is left make the
 -- whole list.
-use Rattle.std.proofs.Common.{ℕ, ◌+◌, ◌*◌, ◌<◌, length}
+use Rattle.std.proofs.Common.{ℕ, ◌+◌, ◌*◌, ◌<◌, ◌≤◌, length}
 use Rattle.hippo_lexer.specs.declared.kinds.Keyword.TheVariants.{KAnd, KOr}
 use Rattle.hippo_spj_reader.specs.Front.{kinds, after_keyword}
-use Rattle.hippo_spj_reader.specs.Lists.{list_at}
-use Rattle.hippo_spj_reader.specs.Finding.{conjunction_with, negation_at}
-use Rattle.hippo_spj_reader.proofs.ListSteps.{Continues}
+use Rattle.hippo_spj_reader.specs.ListFinder.{leading_list}
+use Rattle.hippo_spj_reader.specs.ConditionFinder.{conjunction_with, leading_negation}
+use Rattle.hippo_spj_reader.proofs.ListLoops.{Continues}
 use Rattle.hippo_spj_reader.proofs.conditions.+condition.Given as goal
 
 abbrev pub decreases-disjunction : goal.decreases-disjunction
@@ -22,8 +22,8 @@ decreases-primary l = 4 * length l.tokens.now
 
 abbrev pub invariant-conjunction-loop-behind : goal.invariant-conjunction-loop-behind
 invariant-conjunction-loop-behind l = record {
-  shorter : length l.rest < length l.fn.tokens;
-  so_far : ((n : ℕ) → length l.fn.tokens < n → Continues (negation_at n) (after_keyword KAnd) (list_at (negation_at n) (after_keyword KAnd) (kinds l.fn.tokens)) l.parts l.rest);
+  no_longer : length l.rest ≤ length l.fn.tokens;
+  so_far : ((n : ℕ) → length l.fn.tokens < n → Continues (leading_negation n) (after_keyword KAnd) (leading_list (leading_negation n) (after_keyword KAnd) (kinds l.fn.tokens)) l.parts l.rest);
 }
 
 abbrev pub decreases-conjunction-loop-behind : goal.decreases-conjunction-loop-behind
@@ -31,8 +31,8 @@ decreases-conjunction-loop-behind l = length l.rest
 
 abbrev pub invariant-disjunction-loop-behind : goal.invariant-disjunction-loop-behind
 invariant-disjunction-loop-behind l = record {
-  shorter : length l.rest < length l.fn.tokens;
-  so_far : ((n : ℕ) → length l.fn.tokens < n → Continues (conjunction_with (negation_at n)) (after_keyword KOr) (list_at (conjunction_with (negation_at n)) (after_keyword KOr) (kinds l.fn.tokens)) l.parts l.rest);
+  no_longer : length l.rest ≤ length l.fn.tokens;
+  so_far : ((n : ℕ) → length l.fn.tokens < n → Continues (conjunction_with (leading_negation n)) (after_keyword KOr) (leading_list (conjunction_with (leading_negation n)) (after_keyword KOr) (kinds l.fn.tokens)) l.parts l.rest);
 }
 
 abbrev pub decreases-disjunction-loop-behind : goal.decreases-disjunction-loop-behind

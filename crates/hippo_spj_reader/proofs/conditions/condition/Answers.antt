@@ -2,11 +2,13 @@
 use Rattle.std.proofs.Common.{suc, length, arith}
 use Rattle.std.proofs.lemmas.List.{length-map}
 use Rattle.hippo_lexer.specs.declared.kinds.Token.{Token}
-use Rattle.hippo_spj_reader.specs.Finding.{condition_at}
+use Rattle.hippo_spj_reader.specs.ConditionFinder.{leading_condition}
 use Rattle.hippo_spj_reader.specs.Front.{kinds}
 use Rattle.hippo_spj_reader.proofs.conditions.condition.Goals as goal
 
-pub returns-clause-found : goal.returns-clause-found
-unfolding condition_at
-returns-clause-found c =
-    c.disjunction.ensures.found (suc (length (kinds c.args.tokens.now))) (omega (arith, length-map c.args.tokens.now (λ (token : Token). token.kind)))
+pub returns : goal.returns
+unfolding leading_condition
+returns c = record {
+  found = c.disjunction.ensures.found (suc (length (kinds c.args.tokens.now))) (omega (arith, length-map c.args.tokens.now (λ (token : Token). token.kind)));
+  no_longer = c.disjunction.ensures.no_longer;
+}

@@ -1,14 +1,14 @@
 -- The tables and conditions so far and those that are left are all of FROM.
-use Rattle.std.proofs.Common.{◌<◌, length}
+use Rattle.std.proofs.Common.{◌≤◌, length}
 use Rattle.hippo_spj_reader.specs.Front.{kinds}
-use Rattle.hippo_spj_reader.specs.Selecting.{tables_at}
-use Rattle.hippo_spj_reader.proofs.JoinSteps.{Joins}
+use Rattle.hippo_spj_reader.specs.SelectFinder.{leading_sources}
+use Rattle.hippo_spj_reader.proofs.SourceLoops.{Joins}
 use Rattle.hippo_spj_reader.proofs.selects.from_list.Given as goal
 
 abbrev pub invariant-loop-conditions : goal.invariant-loop-conditions
 invariant-loop-conditions l = record {
-  shorter : length l.rest < length l.fn.tokens;
-  so_far : Joins (tables_at (kinds l.fn.tokens)) l.names l.conditions l.rest;
+  no_longer : length l.rest ≤ length l.fn.tokens;
+  so_far : Joins (leading_sources (kinds l.fn.tokens)) l.names l.conditions l.rest;
 }
 
 abbrev pub decreases-loop-conditions : goal.decreases-loop-conditions

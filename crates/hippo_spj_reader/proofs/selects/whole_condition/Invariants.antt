@@ -2,7 +2,7 @@
 use Rattle.std.proofs.Common.{◌≡◌, ◌++◌}
 use Rattle.std.specs.List.{flat_map}
 use Rattle.std.specs.Vec.Iter.{into_iter_items}
-use Rattle.hippo_spj_reader.specs.Selects.{own_parts}
+use Rattle.hippo_spj_reader.specs.SelectGrammar.{own_parts}
 use Rattle.hippo_spj_reader.proofs.selects.whole_condition.Given as goal
 
 abbrev pub invariant-loop-condition : goal.invariant-loop-condition

@@ -13,7 +13,7 @@ use Rattle.hippo_lexer.specs.declared.kinds.Symbol as signs
 use Rattle.hippo_lexer.specs.declared.kinds.Symbol.TheVariants.{LeftParen, RightParen, Comma, Dot, Equal, NotEqual, Less, LessEqual, Greater, GreaterEqual}
 use Rattle.hippo_lexer.specs.declared.kinds.TokenKind.{TokenKind}
 use Rattle.hippo_lexer.specs.declared.kinds.TokenKind.TheVariants.{Word, Keyword, Number, Quoted, Day, Symbol}
-use Rattle.hippo_spj_reader.specs.Lists.{IsListOf}
+use Rattle.hippo_spj_reader.specs.ListGrammar.{IsListOf}
 
 abbrev pub RawCond : Type 0
 RawCond = CondOf RawOperand

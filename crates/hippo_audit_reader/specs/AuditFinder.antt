@@ -1,0 +1,59 @@
+-- The audit expression that can be found at the front of a list of tokens, part by part: the longest one.
+use Rattle.std.specs.Prelude.{ℕ, Bool, true, false, List, [], ◌∷◌, option_to_list, Some, None}
+use Rattle.hippo_model.specs.declared.audit.Pair.{Pair}
+use Rattle.hippo_model.specs.declared.statement.RawAudit.{RawAudit}
+use Rattle.hippo_lexer.specs.declared.kinds.Keyword.TheVariants.{KAudit, KDuring, KFrom, KOtherthan, KShown, KTo}
+use Rattle.hippo_lexer.specs.declared.kinds.Symbol.TheVariants.{Comma, LeftParen, RightParen}
+use Rattle.hippo_lexer.specs.declared.kinds.TokenKind.TheVariants.{Quoted}
+use Rattle.hippo_audit_reader.specs.declared.audits.Period.{Period}
+use Rattle.hippo_spj_reader.specs.Promises.{◌>>=◌, either}
+use Rattle.hippo_spj_reader.specs.ConditionFinder.{leading_column}
+use Rattle.hippo_spj_reader.specs.Front.{Finds, after_keyword, after_symbol, leading_name}
+use Rattle.hippo_spj_reader.specs.ListFinder.{leading_list}
+use Rattle.hippo_spj_reader.specs.SelectFinder.{leading_where}
+use Rattle.hippo_spj_reader.specs.SelectGrammar.{whole_condition}
+
+-- the quoted text that stands first
+abbrev pub leading_quoted : Finds (List ℕ)
+leading_quoted (Quoted text ∷ rest) = Some (text, rest)
+leading_quoted tokens = None
+
+unfoldable pub leading_pair : Finds Pair
+leading_pair tokens = do
+  inside ← after_symbol LeftParen tokens
+  purpose ← leading_name inside
+  behind ← after_symbol Comma purpose.1
+  recipient ← leading_name behind
+  rest ← after_symbol RightParen recipient.1
+  Some (record { purpose = purpose.0; recipient = recipient.0 }, rest)
+
+unfoldable pub leading_exempt : Finds (List Pair)
+leading_exempt tokens = either (after_keyword KOtherthan tokens) (leading_list leading_pair (after_symbol Comma)) (Some ([], tokens))
+
+abbrev pub period_of : List ℕ → List ℕ → Period
+period_of from to = record { from = from; to = to }
+
+unfoldable pub leading_period : Finds Period
+leading_period tokens = do
+  first ← after_keyword KDuring tokens
+  start ← leading_quoted first
+  second ← after_keyword KTo start.1
+  end ← leading_quoted second
+  Some (period_of start.0 end.0, end.1)
+
+-- whether SHOWN stands first, and what follows it
+unfoldable pub leading_shown : Finds Bool
+leading_shown tokens = either (after_keyword KShown tokens) (λ rest. Some (true, rest)) (Some (false, tokens))
+
+-- the longest audit expression that stands first
+unfoldable pub leading_audit : Finds RawAudit
+leading_audit tokens = do
+  period ← leading_period tokens
+  exempt ← leading_exempt period.1
+  audited ← after_keyword KAudit exempt.1
+  shown ← leading_shown audited
+  columns ← leading_list leading_column (after_symbol Comma) shown.1
+  named ← after_keyword KFrom columns.1
+  tables ← leading_list leading_name (after_symbol Comma) named
+  last ← leading_where tables.1
+  Some (record { from = period.0.from; to = period.0.to; exempt = exempt.0; shown = shown.0; columns = columns.0; tables = tables.0; cond = whole_condition (option_to_list last.0) }, last.1)

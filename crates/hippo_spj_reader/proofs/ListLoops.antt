@@ -1,0 +1,75 @@
+-- A loop over the parts of a list, part by part.
+use Rattle.std.proofs.Common.{◌≡◌, ℕ, zero, suc, ◌<◌, ◌≤◌, List, [], ◌∷◌, ◌++◌, length, Option, Some, None, refl, sym, ◌∙◌, ap, arith, append_assoc}
+use Rattle.std.proofs.lemmas.List.{length-map}
+use Rattle.hippo_lexer.specs.declared.kinds.Token.{Token}
+use Rattle.hippo_lexer.specs.declared.kinds.TokenKind.{TokenKind}
+use Rattle.hippo_lexer.specs.declared.faults.SyntaxFault.{SyntaxFault}
+use Rattle.hippo_lexer.specs.declared.faults.SyntaxFault.TheVariants as fault
+use Rattle.hippo_spj_reader.specs.Promises.{◌>>=◌, Fails}
+use Rattle.hippo_spj_reader.specs.Front.{kinds}
+use Rattle.hippo_spj_reader.specs.ListFinder.{further_parts, leading_list, with_front}
+
+pub append-nil : {X : Type 0} (xs : List X) → xs ++ [] ≡ xs
+append-nil [] = refl
+append-nil (x ∷ xs) = ap (λ ys. x ∷ ys) (append-nil xs)
+
+pushed : {X : Type 0} (front : List X) (part : X) (found : Option (List X × List TokenKind)) →
+    with_front front (found >>= λ others. Some (part ∷ others.0, others.1)) ≡ with_front (front ++ part ∷ []) found
+pushed front part None = refl
+pushed front part (Some others) =
+    ap (λ (parts : List _). Some (parts, others.1)) (sym (append_assoc front (part ∷ []) others.0))
+
+module _ {X : Type 0} (leading_part : List TokenKind → Option (X × List TokenKind)) (after_part : List TokenKind → Option (List TokenKind)) where
+  -- the parts so far and the list that is left make the whole list
+  pub record Continues (whole : Option (List X × List TokenKind)) (front : List X) (rest : List Token) : Type 0 where
+    pub fuel : ℕ
+    pub enough : length rest ≤ fuel
+    pub same : with_front front (further_parts leading_part after_part fuel (kinds rest)) ≡ whole
+
+  pub begins : (tokens rest : List Token) (first : X) (empty front : List X) →
+      leading_part (kinds tokens) ≡ Some (first, kinds rest) → length rest ≤ length tokens → empty ≡ [] → front ≡ empty ++ first ∷ [] →
+      Continues (leading_list leading_part after_part (kinds tokens)) front rest
+  begins tokens rest first empty front found no_longer none pushed = record {
+    fuel = length (kinds tokens);
+    enough = omega (arith, length-map tokens (λ (token : Token). token.kind));
+    same = rw (pushed, none, found) (elim (further_parts leading_part after_part (length (kinds tokens)) (kinds rest)) as (λ m. with_front (first ∷ []) m ≡ m >>= λ others. Some (first ∷ others.0, others.1)) [ None ↦ refl | Some others ↦ refl ]);
+  }
+
+  found_then : (front : List X) (fuel : ℕ) (rest behind left : List TokenKind) (part : X) → after_part rest ≡ Some behind → leading_part behind ≡ Some (part, left) →
+      with_front front (further_parts leading_part after_part (suc fuel) rest) ≡ with_front (front ++ part ∷ []) (further_parts leading_part after_part fuel left)
+  found_then front fuel rest behind left part next found = rw (next, found) (pushed front part (further_parts leading_part after_part fuel left))
+
+  goes_on_from : {whole : Option (List X × List TokenKind)} (front : List X) (fuel : ℕ) (rest left : List Token) (behind : List TokenKind) (part : X) →
+      length rest ≤ fuel → with_front front (further_parts leading_part after_part fuel (kinds rest)) ≡ whole →
+      after_part (kinds rest) ≡ Some behind → leading_part behind ≡ Some (part, kinds left) → length left < length rest →
+      Continues whole (front ++ part ∷ []) left
+  goes_on_from front zero rest left behind part enough same next found shorter = absurd (omega arith)
+  goes_on_from front (suc fuel) rest left behind part enough same next found shorter = record {
+    fuel = fuel;
+    enough = omega arith;
+    same = sym (found_then front fuel (kinds rest) behind (kinds left) part next found) ∙ same;
+  }
+
+  pub goes_on : {whole : Option (List X × List TokenKind)} (front longer : List X) (rest behind left : List Token) (part : X) →
+      Continues whole front rest →
+      Some (kinds behind) ≡ after_part (kinds rest) → leading_part (kinds behind) ≡ Some (part, kinds left) →
+      length left ≤ length behind → length behind < length rest →
+      longer ≡ front ++ part ∷ [] →
+      Continues whole longer left
+  goes_on front longer rest behind left part so_far next found no_longer behind_shorter pushed =
+      rw pushed (goes_on_from front so_far.fuel rest left (kinds behind) part so_far.enough so_far.same (sym next) found (omega arith))
+
+  breaks_from : {whole : Option (List X × List TokenKind)} (front : List X) (fuel : ℕ) (rest behind : List Token) →
+      length rest ≤ fuel → length behind < length rest → with_front front (further_parts leading_part after_part fuel (kinds rest)) ≡ whole →
+      after_part (kinds rest) ≡ Some (kinds behind) → leading_part (kinds behind) ≡ None → whole ≡ None
+  breaks_from front zero rest behind enough shorter same next found = absurd (omega arith)
+  breaks_from front (suc fuel) rest behind enough shorter same next found = sym same ∙ rw (next, found) refl
+
+  -- where no part stands behind what leads to one, there is no list
+  pub breaks : {Y : Type 0} {whole : Option (List X × List TokenKind)} (made : List X × List TokenKind → Option Y) (e : SyntaxFault) (front : List X) (rest behind : List Token) →
+      Continues whole front rest → Some (kinds behind) ≡ after_part (kinds rest) → length behind < length rest → Fails e (leading_part (kinds behind)) → Fails e (whole >>= made)
+  breaks made fault.TooDeep front rest behind so_far next shorter found = found
+  breaks made (fault.Unsupported place) front rest behind so_far next shorter found = found
+  breaks made fault.BadSyntax front rest behind so_far next shorter found =
+      rw (breaks_from front so_far.fuel rest behind so_far.enough shorter so_far.same (sym next) found) refl
+  breaks made fault.Memory front rest behind so_far next shorter found = tt

@@ -1,0 +1,26 @@
+-- The list that can be found at the front of the tokens, part by part: the longest one.
+use Rattle.std.specs.Prelude.{ℕ, zero, suc, List, [], ◌∷◌, ◌++◌, length, Option, Some, None}
+use Rattle.hippo_lexer.specs.declared.kinds.TokenKind.{TokenKind}
+use Rattle.hippo_spj_reader.specs.Front.{Finds}
+use Rattle.hippo_spj_reader.specs.Promises.{◌>>=◌, either}
+
+module _ {X : Type 0} (leading_part : Finds X) (after_part : List TokenKind → Option (List TokenKind)) where
+  -- at most this many parts, as long as something leads from one to the next
+  abbrev pub leading_parts : ℕ → Finds (List X)
+  leading_parts zero tokens = None
+  leading_parts (suc n) tokens = do
+    first ← leading_part tokens
+    others ← either (after_part first.1) (λ behind. leading_parts n behind) (Some ([], first.1))
+    Some (first.0 ∷ others.0, others.1)
+
+  -- what is left of a list behind one of its parts
+  abbrev pub further_parts : ℕ → Finds (List X)
+  further_parts n tokens = either (after_part tokens) (λ behind. leading_parts n behind) (Some ([], tokens))
+
+  -- the longest list that stands first
+  abbrev pub leading_list : Finds (List X)
+  leading_list tokens = leading_parts (suc (length tokens)) tokens
+
+-- these parts, and then those
+abbrev pub with_front : {X : Type 0} → List X → Option (List X × List TokenKind) → Option (List X × List TokenKind)
+with_front front found = found >>= λ others. Some (front ++ others.0, others.1)

@@ -1,0 +1,78 @@
+-- What a reader promises, against what can be found at the front of its tokens.
+use Rattle.std.specs.Prelude.{◌≡◌, ◌<◌, ◌≤◌, List, [], ◌∷◌, length, Option, Some, None, option_and_then, option_map, IfSome, IfOk, IfErr, Result, Ok, Err}
+use denote.Ref.{Bor}
+use Rattle.hippo_lexer.specs.declared.faults.SyntaxFault.{SyntaxFault}
+use Rattle.hippo_lexer.specs.declared.faults.SyntaxFault.TheVariants as fault
+use Rattle.hippo_lexer.specs.declared.kinds.Token.{Token}
+use Rattle.hippo_lexer.specs.declared.kinds.TokenKind.{TokenKind}
+use Rattle.hippo_spj_reader.specs.Front.{Finds, kinds}
+
+infixl 10 ◌>>=◌
+-- one and then the next, where both find something
+abbrev pub ◌>>=◌ : {A B : Type 0} → Option A → (A → Option B) → Option B
+found >>= next = option_and_then next found
+
+-- the first where it finds something, else the other
+abbrev pub either : {A B : Type 0} → Option A → (A → B) → B → B
+either (Some x) one other = one x
+either None one other = other
+
+-- nothing is there to be found, or memory ran out; no reader fails otherwise
+abbrev pub Fails : {Y : Type 0} → SyntaxFault → Option Y → Type 0
+Fails fault.TooDeep found = ⊥
+Fails (fault.Unsupported place) found = ⊥
+Fails fault.BadSyntax found = found ≡ None
+Fails fault.Memory found = Unit {0}
+
+-- what was read, seen by view, is what can be found
+abbrev pub Gives : {X Y : Type 0} → (X → Y) → Result X SyntaxFault → Option Y → Type 0
+Gives view (Ok x) found = found ≡ Some (view x)
+Gives view (Err e) found = Fails e found
+
+-- a part that was read, and the tokens that are left behind it
+abbrev Read : Type 0 → Type 0
+Read X = Result (X × Bor (List Token)) SyntaxFault
+
+-- the part that was read is the one that can be found, and what follows it is left
+abbrev pub GivesPart : {X : Type 0} → Read X → Option (X × List TokenKind) → Type 0
+GivesPart result found = Gives (λ x. (x.0, kinds x.1.now)) result found
+
+-- no more is left than there was
+abbrev pub LeavesNoMore : {X : Type 0} → List Token → Read X → Type 0
+LeavesNoMore tokens result = IfOk result (λ x. length x.1.now ≤ length tokens)
+
+-- the part that can be found first is read, and what follows it is left
+pub record Reads {X : Type 0} (leading : Finds X) (tokens : List Token) (result : Read X) : Type 0 where
+  pub found : GivesPart result (leading (kinds tokens))
+  pub no_longer : LeavesNoMore tokens result
+
+-- where it stands first, a token or two are passed
+pub record Passes (after : List TokenKind → Option (List TokenKind)) (tokens : List Token) (result : Option (Bor (List Token))) : Type 0 where
+  pub rest : option_map (λ rest. kinds rest.now) result ≡ after (kinds tokens)
+  pub shorter : IfSome result (λ rest. length rest.now < length tokens)
+
+-- the same, where it has to stand first
+pub record Expects (after : List TokenKind → Option (List TokenKind)) (tokens : List Token) (result : Result (Bor (List Token)) SyntaxFault) : Type 0 where
+  pub rest : Gives (λ rest. kinds rest.now) result (after (kinds tokens))
+  pub shorter : IfOk result (λ rest. length rest.now < length tokens)
+
+abbrev pub ended : {X : Type 0} → X × List TokenKind → Option X
+ended (x, []) = Some x
+ended (x, first ∷ rest) = None
+
+-- what was found, where nothing follows it
+abbrev pub whole_of : {X : Type 0} → Option (X × List TokenKind) → Option X
+whole_of found = found >>= ended
+
+-- BadSyntax comes only where this holds, want of memory at any time, and no other fault at all
+abbrev pub IsFaultOnlyWhere : Type 0 → SyntaxFault → Type 0
+IsFaultOnlyWhere P fault.TooDeep = ⊥
+IsFaultOnlyWhere P (fault.Unsupported place) = ⊥
+IsFaultOnlyWhere P fault.BadSyntax = P
+IsFaultOnlyWhere P fault.Memory = Unit {0}
+
+-- all of the tokens are read: as the one reading that the grammar has for them, or with BadSyntax only where it has none
+pub record ReadsAll {X : Type 0} (IsPart : List TokenKind → X → List TokenKind → Type 0) (tokens : List TokenKind) (result : Result X SyntaxFault) : Type 0 where
+  pub found : IfOk result (λ x. IsPart tokens x [])
+  pub only : IfOk result (λ x. (other : X) → IsPart tokens other [] → other ≡ x)
+  pub errors : IfErr result (IsFaultOnlyWhere ((x : X) → ¬ IsPart tokens x []))
