@@ -15,18 +15,18 @@ use Rattle.hippo_lexer.specs.declared.kinds.Keyword.TheVariants.{KOpen, KSelect}
 use Rattle.hippo_lexer.specs.declared.kinds.Token.{Token}
 use Rattle.hippo_lexer.specs.declared.kinds.TokenKind.{TokenKind}
 use Rattle.hippo_lexer.specs.declared.kinds.TokenKind.TheVariants.{Word, Keyword}
-use Rattle.hippo_spj_reader.specs.Answers.{Gives}
+use Rattle.hippo_spj_reader.specs.Promises.{Gives}
 use Rattle.hippo_spj_reader.specs.Front.{kinds, after_keyword}
-use Rattle.hippo_spj_reader.specs.Selects as selects
-use Rattle.hippo_spj_reader.specs.Selects.{IsSelect}
-use Rattle.hippo_spj_reader.specs.Selecting.{select_at}
-use Rattle.hippo_spj_reader.proofs.FrontTheorem.{step, keyword_choice}
+use Rattle.hippo_spj_reader.specs.SelectGrammar as selects
+use Rattle.hippo_spj_reader.specs.SelectGrammar.{IsSelect}
+use Rattle.hippo_spj_reader.specs.SelectFinder.{leading_select}
+use Rattle.hippo_spj_reader.proofs.FrontTheorem.{found_then, keyword_choice, word_choice}
 use Rattle.hippo_spj_reader.proofs.SelectTheorem as selecting
 use Rattle.hippo_spj_reader.proofs.SuffixTheorem.{front_of, select_suffix}
 use Rattle.hippo_stmt_reader.specs.StatementGrammar.{IsEnd, nothing, semicolon, IsPlacedSelect, placed, IsStatement, console, select, open_select, extract_select, IsRefusal}
 use Rattle.hippo_stmt_reader.specs.StatementFinder.{end_left, console_of, placed_select_of, open_of, extract_of, select_of, statement_of}
 use Rattle.hippo_stmt_reader.proofs.ConsoleTheorem.{console_found, console_complete, console-no_select}
-use Rattle.hippo_stmt_reader.proofs.PartTheorem.{word_choice, end_found, end_complete}
+use Rattle.hippo_stmt_reader.proofs.PartTheorem.{end_found, end_complete}
 
 -- the tokens whose kinds are the end of the kinds
 rest_of : (tokens : List Token) (front rest : List TokenKind) → kinds tokens ≡ front ++ rest → kinds (drop (length tokens - length rest) tokens) ≡ rest
@@ -45,12 +45,12 @@ text_of tokens text rest e =
 placed_select_found : (tokens : List Token) (s : RawSelect) (start end : ℕ) → placed_select_of tokens ≡ Some (s, start, end) → IsPlacedSelect tokens s start end
 unfolding placed_select_of
 placed_select_found tokens s start end e =
-    step (select_at (kinds tokens)) _ _ e (λ found found_is e.
+    found_then (leading_select (kinds tokens)) _ _ e (λ found found_is e.
     let text = take (length tokens - length found.1) tokens in
     let rest = drop (length tokens - length found.1) tokens in
-    step (slice_get text 0) _ _ e (λ first first_is e.
-    step (slice_get text (length text - 1)) _ _ e (λ last last_is e.
-    step (end_left found.1) _ _ e (λ u is_end e.
+    found_then (slice_get text 0) _ _ e (λ first first_is e.
+    found_then (slice_get text (length text - 1)) _ _ e (λ last last_is e.
+    found_then (end_left found.1) _ _ e (λ u is_end e.
     let is_select : IsSelect (kinds tokens) found.0 found.1 = selecting.found (kinds tokens) found.0 found.1 found_is in
     let front = front_of (select_suffix is_select) in
     let rest_is : kinds rest ≡ found.1 = rest_of tokens front.0 found.1 front.1 in
@@ -61,8 +61,8 @@ placed_select_found tokens s start end e =
     (placed text rest (sym (take-append-drop (length tokens - length found.1) tokens)) select_to ends first_is last_is)))))
 
 select_ends : (rest : List TokenKind) → IsEnd rest → selecting.SelectEnds rest
-select_ends rest nothing = record { joins_end = record { condition_ends = record { no_dot = refl; no_and = refl; no_or = refl }; no_comma = refl; no_inner = refl; no_join = refl }; no_where = refl }
-select_ends rest semicolon = record { joins_end = record { condition_ends = record { no_dot = refl; no_and = refl; no_or = refl }; no_comma = refl; no_inner = refl; no_join = refl }; no_where = refl }
+select_ends rest nothing = selecting.ends-nothing
+select_ends rest semicolon = selecting.ends-semicolon []
 
 placed_select_complete : (tokens : List Token) (s : RawSelect) (start end : ℕ) → IsPlacedSelect tokens s start end → placed_select_of tokens ≡ Some (s, start, end)
 unfolding placed_select_of
@@ -70,7 +70,9 @@ placed_select_complete tokens s _ _ (placed text rest is_whole is_select is_end 
     rw (selecting.complete (kinds tokens) s (kinds rest) is_select (select_ends (kinds rest) is_end), text_of tokens text rest is_whole, first_is, last_is, end_complete (kinds rest) is_end) refl
 
 select_first : (tokens : List TokenKind) (s : RawSelect) (rest : List TokenKind) → IsSelect tokens s rest → (after_keyword KOpen tokens ≡ None) × ((behind : List TokenKind) × (after_keyword KSelect tokens ≡ Some behind))
-select_first _ s rest (selects.select a b c e) = (refl, (_, refl))
+select_first _ s rest (selects.plain a b) = (refl, (_, refl))
+select_first _ s rest (selects.distinct a b) = (refl, (_, refl))
+select_first _ s rest (selects.grouped a b c) = (refl, (_, refl))
 
 placed_select_first : (tokens : List Token) (s : RawSelect) (start end : ℕ) → IsPlacedSelect tokens s start end → (after_keyword KOpen (kinds tokens) ≡ None) × ((behind : List TokenKind) × (after_keyword KSelect (kinds tokens) ≡ Some behind))
 placed_select_first tokens s _ _ (placed text rest is_whole is_select is_end first_is last_is) = select_first (kinds tokens) s (kinds rest) is_select
@@ -81,14 +83,14 @@ unfolding statement_of open_of select_of extract_of
 found [] s e = let read = console_found [] s e in console read.1 read.2
 found (first ∷ tokens) s e =
     keyword_choice KOpen (kinds (first ∷ tokens)) _ _ _ e
-    (λ behind is_open e. step (placed_select_of tokens) _ _ e (λ q q_is e.
+    (λ behind is_open e. found_then (placed_select_of tokens) _ _ e (λ q q_is e.
     let is_kind : first.kind ≡ Keyword KOpen = cc in
     rw (← same_Some (stmt.Ask q.0 q.1 q.2) s e) (open_select is_kind (placed_select_found tokens q.0 q.1 q.2 q_is))))
     (λ _ e. keyword_choice KSelect (kinds (first ∷ tokens)) _ _ _ e
-    (λ _ _ e. step (placed_select_of (first ∷ tokens)) _ _ e (λ q q_is e.
+    (λ _ _ e. found_then (placed_select_of (first ∷ tokens)) _ _ e (λ q q_is e.
     rw (← same_Some (stmt.Select q.0 q.1 q.2) s e) (select (placed_select_found (first ∷ tokens) q.0 q.1 q.2 q_is))))
     (λ _ e. word_choice (codes "extract") (kinds (first ∷ tokens)) _ _ _ e
-    (λ behind is_extract e. step (placed_select_of tokens) _ _ e (λ q q_is e.
+    (λ behind is_extract e. found_then (placed_select_of tokens) _ _ e (λ q q_is e.
     let is_kind : first.kind ≡ Word (codes "extract") = cc in
     rw (← same_Some (stmt.Extract q.0 q.1 q.2) s e) (extract_select is_kind (placed_select_found tokens q.0 q.1 q.2 q_is))))
     (λ _ e. let read = console_found (kinds (first ∷ tokens)) s e in console read.1 read.2)))

@@ -15,13 +15,14 @@ use Rattle.hippo_lexer.specs.declared.kinds.Symbol.TheVariants.{Comma, Equal, Le
 use Rattle.hippo_lexer.specs.declared.kinds.Token.{Token}
 use Rattle.hippo_lexer.specs.declared.kinds.TokenKind.{TokenKind}
 use Rattle.hippo_lexer.specs.declared.kinds.TokenKind.TheVariants.{Keyword, Number}
-use Rattle.hippo_spj_reader.specs.Answers.{◌>>=◌, either}
-use Rattle.hippo_spj_reader.specs.Finding.{Finds, begins_with_name}
-use Rattle.hippo_spj_reader.specs.Front.{kinds, after_keyword, after_symbol, name_at, literal_at}
-use Rattle.hippo_stmt_reader.specs.Words.{after_word}
-use Rattle.hippo_spj_reader.specs.Lists.{list_at}
-use Rattle.hippo_spj_reader.specs.Selecting.{select_at}
-use Rattle.hippo_audit_reader.specs.Auditing.{audit_at}
+use Rattle.hippo_spj_reader.specs.Promises.{◌>>=◌, either}
+use Rattle.hippo_spj_reader.specs.ConditionFinder.{begins_with_name}
+use Rattle.hippo_spj_reader.specs.Front.{Finds, kinds, after_keyword, after_symbol, after_word, leading_name, leading_literal}
+use Rattle.hippo_spj_reader.specs.ListFinder.{leading_list}
+use Rattle.hippo_spj_reader.specs.SelectFinder.{leading_select}
+use Rattle.hippo_audit_reader.specs.AuditFinder.{leading_audit}
+use Rattle.hippo_stmt_reader.specs.declared.policies.Disclosure.{Disclosure}
+use Rattle.hippo_stmt_reader.specs.declared.policies.Grant.{Grant}
 use Rattle.hippo_stmt_reader.specs.StatementGrammar.{most_days, columns_of, values_of}
 
 abbrev pub nothing_left : List TokenKind → Option (Unit {0})
@@ -48,7 +49,7 @@ leading_column_kind tokens = None
 
 unfoldable pub leading_column_def : Finds Column
 leading_column_def tokens = do
-  name ← name_at tokens
+  name ← leading_name tokens
   k ← leading_column_kind name.1
   either (after_keyword KNot k.1) (λ behind. do
     rest ← after_keyword KNull behind
@@ -62,7 +63,7 @@ after_column tokens = after_symbol Comma tokens >>= λ behind. if begins_with_na
 unfoldable pub leading_names : Finds (List (List ℕ))
 leading_names tokens = do
   inside ← after_symbol LeftParen tokens
-  names ← list_at name_at (after_symbol Comma) inside
+  names ← leading_list leading_name (after_symbol Comma) inside
   rest ← after_symbol RightParen names.1
   Some (names.0, rest)
 
@@ -70,11 +71,11 @@ unfoldable pub leading_subject : Finds (Option (List ℕ))
 leading_subject tokens =
     either (after_symbol Comma tokens) (λ behind. do
       named ← after_keyword KSubject behind
-      c ← name_at named
+      c ← leading_name named
       Some (Some c.0, c.1)) (Some (None, tokens))
 
 unfoldable pub leading_item : Finds (Option (List ℕ))
-leading_item tokens = either (after_keyword KWith tokens) (λ behind. name_at behind >>= λ i. Some (Some i.0, i.1)) (Some (None, tokens))
+leading_item tokens = either (after_keyword KWith tokens) (λ behind. leading_name behind >>= λ i. Some (Some i.0, i.1)) (Some (None, tokens))
 
 -- the number that stands first
 abbrev pub leading_number : Finds ℤ
@@ -96,17 +97,17 @@ leading_retention tokens =
 
 unfoldable pub leading_assignment : Finds (List ℕ × Value)
 leading_assignment tokens = do
-  c ← name_at tokens
+  c ← leading_name tokens
   behind ← after_symbol Equal c.1
-  v ← literal_at behind
+  v ← leading_literal behind
   Some ((c.0, v.0), v.1)
 
 -- behind CREATE TABLE
 unfoldable pub create_table_of : List TokenKind → Option Stmt
 create_table_of tokens = do
-  table ← name_at tokens
+  table ← leading_name tokens
   defs ← after_symbol LeftParen table.1
-  columns ← list_at leading_column_def after_column defs
+  columns ← leading_list leading_column_def after_column defs
   a ← after_symbol Comma columns.1
   b ← after_keyword KPrimary a
   c ← after_keyword KKey b
@@ -119,14 +120,14 @@ create_table_of tokens = do
 -- behind CREATE PURPOSE
 unfoldable pub create_purpose_of : List TokenKind → Option Stmt
 create_purpose_of tokens = do
-  purpose ← name_at tokens
+  purpose ← leading_name tokens
   end ← end_left purpose.1
   Some (stmt.CreatePurpose purpose.0)
 
 -- behind CREATE RECIPIENT
 unfoldable pub create_recipient_of : List TokenKind → Option Stmt
 create_recipient_of tokens = do
-  recipient ← name_at tokens
+  recipient ← leading_name tokens
   end ← end_left recipient.1
   Some (stmt.CreateRecipient recipient.0)
 
@@ -137,7 +138,7 @@ leading_item_kind tokens = either (after_keyword KIn tokens) (λ rest. Some (Opt
 -- behind CREATE ITEM
 unfoldable pub create_item_of : List TokenKind → Option Stmt
 create_item_of tokens = do
-  item ← name_at tokens
+  item ← leading_name tokens
   behind ← after_keyword KOpt item.1
   k ← leading_item_kind behind
   end ← end_left k.1
@@ -152,39 +153,39 @@ create_of tokens =
     (after_keyword KItem tokens >>= create_item_of)))
 
 -- u FOR p "," r
-unfoldable pub leading_grant : Finds (List ℕ × List ℕ × List ℕ)
+unfoldable pub leading_grant : Finds Grant
 leading_grant tokens = do
-  user ← name_at tokens
+  user ← leading_name tokens
   a ← after_keyword KFor user.1
-  purpose ← name_at a
+  purpose ← leading_name a
   b ← after_symbol Comma purpose.1
-  recipient ← name_at b
-  Some ((user.0, purpose.0, recipient.0), recipient.1)
+  recipient ← leading_name b
+  Some (record { user = user.0; purpose = purpose.0; recipient = recipient.0 }, recipient.1)
 
 -- behind AUTHORIZE
 unfoldable pub authorize_of : List TokenKind → Option Stmt
 authorize_of tokens = do
   grant ← leading_grant tokens
   end ← end_left grant.1
-  Some (stmt.Authorize grant.0.0 grant.0.1 grant.0.2)
+  Some (stmt.Authorize grant.0.user grant.0.purpose grant.0.recipient)
 
 -- behind DEAUTHORIZE
 unfoldable pub deauthorize_of : List TokenKind → Option Stmt
 deauthorize_of tokens = do
   grant ← leading_grant tokens
   end ← end_left grant.1
-  Some (stmt.Deauthorize grant.0.0 grant.0.1 grant.0.2)
+  Some (stmt.Deauthorize grant.0.user grant.0.purpose grant.0.recipient)
 
 -- p TO r ON t "(" c {"," c} ")"
-unfoldable pub leading_disclosure : Finds (List ℕ × List ℕ × List ℕ × List (List ℕ))
+unfoldable pub leading_disclosure : Finds Disclosure
 leading_disclosure tokens = do
-  purpose ← name_at tokens
+  purpose ← leading_name tokens
   a ← after_keyword KTo purpose.1
-  recipient ← name_at a
+  recipient ← leading_name a
   b ← after_keyword KOn recipient.1
-  table ← name_at b
+  table ← leading_name b
   columns ← leading_names table.1
-  Some ((purpose.0, recipient.0, table.0, columns.0), columns.1)
+  Some (record { purpose = purpose.0; recipient = recipient.0; table = table.0; columns = columns.0 }, columns.1)
 
 -- behind ALLOW
 unfoldable pub allow_of : List TokenKind → Option Stmt
@@ -193,14 +194,14 @@ allow_of tokens = do
   item ← leading_item disclosure.1
   days ← leading_retention item.1
   end ← end_left days.1
-  Some (stmt.Allow disclosure.0.0 disclosure.0.1 disclosure.0.2 disclosure.0.3 item.0 days.0)
+  Some (stmt.Allow disclosure.0.purpose disclosure.0.recipient disclosure.0.table disclosure.0.columns item.0 days.0)
 
 -- behind REVOKE
 unfoldable pub revoke_of : List TokenKind → Option Stmt
 revoke_of tokens = do
   disclosure ← leading_disclosure tokens
   end ← end_left disclosure.1
-  Some (stmt.Revoke disclosure.0.0 disclosure.0.1 disclosure.0.2 disclosure.0.3)
+  Some (stmt.Revoke disclosure.0.purpose disclosure.0.recipient disclosure.0.table disclosure.0.columns)
 
 -- YES | NO
 abbrev pub leading_yes_or_no : Finds Bool
@@ -211,7 +212,7 @@ unfoldable pub choice_of : List TokenKind → Option Stmt
 choice_of tokens = do
   n ← leading_number tokens
   a ← after_keyword KOn n.1
-  item ← name_at a
+  item ← leading_name a
   b ← after_keyword KIs item.1
   yes ← leading_yes_or_no b
   end ← end_left yes.1
@@ -221,10 +222,10 @@ choice_of tokens = do
 unfoldable pub insert_of : List TokenKind → Option Stmt
 insert_of tokens = do
   a ← after_keyword KInto tokens
-  table ← name_at a
+  table ← leading_name a
   b ← after_keyword KValues table.1
   inside ← after_symbol LeftParen b
-  values ← list_at literal_at (after_symbol Comma) inside
+  values ← leading_list leading_literal (after_symbol Comma) inside
   rest ← after_symbol RightParen values.1
   end ← end_left rest
   Some (stmt.Insert table.0 values.0)
@@ -232,11 +233,11 @@ insert_of tokens = do
 -- behind UPDATE
 unfoldable pub update_of : List TokenKind → Option Stmt
 update_of tokens = do
-  table ← name_at tokens
+  table ← leading_name tokens
   a ← after_keyword KSet table.1
-  settings ← list_at leading_assignment (after_symbol Comma) a
+  settings ← leading_list leading_assignment (after_symbol Comma) a
   b ← after_keyword KWhere settings.1
-  keys ← list_at leading_assignment (after_keyword KAnd) b
+  keys ← leading_list leading_assignment (after_keyword KAnd) b
   end ← end_left keys.1
   Some (stmt.Update table.0 (columns_of settings.0) (values_of settings.0) (columns_of keys.0) (values_of keys.0))
 
@@ -244,9 +245,9 @@ update_of tokens = do
 unfoldable pub delete_of : List TokenKind → Option Stmt
 delete_of tokens = do
   a ← after_keyword KFrom tokens
-  table ← name_at a
+  table ← leading_name a
   b ← after_keyword KWhere table.1
-  keys ← list_at leading_assignment (after_keyword KAnd) b
+  keys ← leading_list leading_assignment (after_keyword KAnd) b
   end ← end_left keys.1
   Some (stmt.Delete table.0 (columns_of keys.0) (values_of keys.0))
 
@@ -259,7 +260,7 @@ explain_of tokens = do
 
 unfoldable pub audit_of : List TokenKind → Option Stmt
 audit_of tokens = do
-  a ← audit_at tokens
+  a ← leading_audit tokens
   end ← end_left a.1
   Some (stmt.Audit a.0)
 
@@ -267,14 +268,14 @@ audit_of tokens = do
 unfoldable pub begin_audit_of : List TokenKind → Option Stmt
 begin_audit_of tokens = do
   behind ← after_keyword KAudit tokens
-  a ← audit_at behind
+  a ← leading_audit behind
   end ← end_left a.1
   Some (stmt.BeginAudit a.0)
 
 -- behind WATCH
 unfoldable pub watch_of : List TokenKind → Option Stmt
 watch_of tokens = do
-  a ← audit_at tokens
+  a ← leading_audit tokens
   end ← end_left a.1
   Some (stmt.Watch a.0)
 
@@ -305,7 +306,7 @@ console_of tokens =
 -- a select up to the end, with the places where its text begins and ends
 unfoldable pub placed_select_of : List Token → Option (RawSelect × ℕ × ℕ)
 placed_select_of tokens = do
-  found ← select_at (kinds tokens)
+  found ← leading_select (kinds tokens)
   let text = take (length tokens - length found.1) tokens
   first ← slice_get text 0
   last ← slice_get text (length text - 1)

@@ -18,11 +18,11 @@ use Rattle.hippo_lexer.specs.declared.kinds.Symbol.TheVariants.{Comma, Equal, Le
 use Rattle.hippo_lexer.specs.declared.kinds.Token.{Token}
 use Rattle.hippo_lexer.specs.declared.kinds.TokenKind.{TokenKind}
 use Rattle.hippo_lexer.specs.declared.kinds.TokenKind.TheVariants.{Word, Keyword, Number, Symbol}
-use Rattle.hippo_spj_reader.specs.Conditions.{IsLiteral}
+use Rattle.hippo_spj_reader.specs.ConditionGrammar.{IsLiteral}
 use Rattle.hippo_spj_reader.specs.Front.{kinds}
-use Rattle.hippo_spj_reader.specs.Lists.{IsName, IsListOf}
-use Rattle.hippo_spj_reader.specs.Selects.{IsSelect}
-use Rattle.hippo_audit_reader.specs.Audits.{IsAudit}
+use Rattle.hippo_spj_reader.specs.ListGrammar.{IsName, IsListOf}
+use Rattle.hippo_spj_reader.specs.SelectGrammar.{IsSelect}
+use Rattle.hippo_audit_reader.specs.AuditGrammar.{IsAudit}
 
 -- INTEGER | TEXT | DATE
 pub data IsColumnKind : words.Keyword → ColumnKind → Type 0 where

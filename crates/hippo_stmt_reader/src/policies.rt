@@ -1,13 +1,15 @@
 //! AUTHORIZE, DEAUTHORIZE, ALLOW, REVOKE and CHOICE.
 ghost use Rattle.std.specs.Prelude.{◌≡◌, ◌<◌, ◌≤◌, length, IfOk};
-ghost use Rattle.hippo_spj_reader.specs.Answers.{Gives};
+ghost use Rattle.hippo_spj_reader.specs.Promises.{Gives, Reads};
 ghost use Rattle.hippo_spj_reader.specs.Front.{kinds};
 ghost use Rattle.hippo_stmt_reader.specs.StatementFinder.{leading_grant, authorize_of, deauthorize_of, leading_disclosure, leading_item, days_of, leading_retention, allow_of, revoke_of, leading_yes_or_no, choice_of};
 
-use crate::parts::{after_word, with_end, expect_word, names, number};
+use crate::parts::{names, number, with_end};
 use hippo_lexer::{Keyword, Symbol, SyntaxFault, Token};
 use hippo_model::{Names, Stmt};
-use hippo_spj_reader::{after_keyword, expect_keyword, expect_symbol, name};
+use hippo_spj_reader::{
+    after_keyword, after_word, expect_keyword, expect_symbol, expect_word, name,
+};
 use hippo_values::Name;
 use std::alloc::Global;
 
@@ -21,8 +23,7 @@ struct Grant {
 
 #[tactic(auto, unfolding(crate::specs::StatementFinder::leading_grant))]
 fn authorization(alloc: Global, tokens: &[Token]) -> Result<(Grant, &[Token]), SyntaxFault>
-    ensures found { Gives (λ x. ((x.0.user, x.0.purpose, x.0.recipient), kinds x.1.now)) result (leading_grant (kinds tokens.now)) }
-    ensures shorter { IfOk result (λ x. length x.1.now < length tokens.now) }
+    ensures { Reads leading_grant tokens.now result }
 {
     let (user, rest) = name(alloc, tokens)?;
     let rest = expect_keyword(rest, Keyword::KFor)?;
@@ -42,7 +43,7 @@ fn authorization(alloc: Global, tokens: &[Token]) -> Result<(Grant, &[Token]), S
 /// The statement that the tokens behind AUTHORIZE have to be.
 #[tactic(auto, unfolding(crate::specs::StatementFinder::authorize_of))]
 pub fn authorize(alloc: Global, tokens: &[Token]) -> Result<Stmt, SyntaxFault>
-    ensures { Gives (λ stmt. stmt) result (authorize_of (kinds tokens.now)) }
+    ensures { Gives (λ s. s) result (authorize_of (kinds tokens.now)) }
 {
     let (grant, rest) = authorization(alloc, tokens)?;
     let Grant {
@@ -63,7 +64,7 @@ pub fn authorize(alloc: Global, tokens: &[Token]) -> Result<Stmt, SyntaxFault>
 /// The statement that the tokens behind DEAUTHORIZE have to be.
 #[tactic(auto, unfolding(crate::specs::StatementFinder::deauthorize_of))]
 pub fn deauthorize(alloc: Global, tokens: &[Token]) -> Result<Stmt, SyntaxFault>
-    ensures { Gives (λ stmt. stmt) result (deauthorize_of (kinds tokens.now)) }
+    ensures { Gives (λ s. s) result (deauthorize_of (kinds tokens.now)) }
 {
     let (grant, rest) = authorization(alloc, tokens)?;
     let Grant {
@@ -92,8 +93,7 @@ struct Disclosure {
 
 #[tactic(auto, unfolding(crate::specs::StatementFinder::leading_disclosure))]
 fn disclosed(alloc: Global, tokens: &[Token]) -> Result<(Disclosure, &[Token]), SyntaxFault>
-    ensures found { Gives (λ x. ((x.0.purpose, x.0.recipient, x.0.table, x.0.columns), kinds x.1.now)) result (leading_disclosure (kinds tokens.now)) }
-    ensures shorter { IfOk result (λ x. length x.1.now < length tokens.now) }
+    ensures { Reads leading_disclosure tokens.now result }
 {
     let (purpose, rest) = name(alloc, tokens)?;
     let rest = expect_keyword(rest, Keyword::KTo)?;
@@ -114,8 +114,7 @@ fn disclosed(alloc: Global, tokens: &[Token]) -> Result<(Disclosure, &[Token]), 
 
 #[tactic(auto, unfolding(crate::specs::StatementFinder::leading_item))]
 fn with_item(alloc: Global, tokens: &[Token]) -> Result<(Option<Name>, &[Token]), SyntaxFault>
-    ensures found { Gives (λ x. (x.0, kinds x.1.now)) result (leading_item (kinds tokens.now)) }
-    ensures shorter { IfOk result (λ x. length x.1.now ≤ length tokens.now) }
+    ensures { Reads leading_item tokens.now result }
 {
     let Some(behind) = after_keyword(tokens, Keyword::KWith) else {
         return Ok((None, tokens));
@@ -138,8 +137,7 @@ fn days_of(number: &i64) -> Option<u32>
 
 #[tactic(auto, unfolding(crate::specs::StatementFinder::leading_retention))]
 fn retention(tokens: &[Token]) -> Result<(Option<u32>, &[Token]), SyntaxFault>
-    ensures found { Gives (λ x. (x.0, kinds x.1.now)) result (leading_retention (kinds tokens.now)) }
-    ensures shorter { IfOk result (λ x. length x.1.now ≤ length tokens.now) }
+    ensures { Reads leading_retention tokens.now result }
 {
     let Some(behind) = after_word(tokens, "retain") else {
         return Ok((None, tokens));
@@ -153,7 +151,7 @@ fn retention(tokens: &[Token]) -> Result<(Option<u32>, &[Token]), SyntaxFault>
 /// The statement that the tokens behind ALLOW have to be.
 #[tactic(auto, unfolding(crate::specs::StatementFinder::allow_of))]
 pub fn allow(alloc: Global, tokens: &[Token]) -> Result<Stmt, SyntaxFault>
-    ensures { Gives (λ stmt. stmt) result (allow_of (kinds tokens.now)) }
+    ensures { Gives (λ s. s) result (allow_of (kinds tokens.now)) }
 {
     let (disclosure, rest) = disclosed(alloc, tokens)?;
     let (item, rest) = with_item(alloc, rest)?;
@@ -180,7 +178,7 @@ pub fn allow(alloc: Global, tokens: &[Token]) -> Result<Stmt, SyntaxFault>
 /// The statement that the tokens behind REVOKE have to be.
 #[tactic(auto, unfolding(crate::specs::StatementFinder::revoke_of))]
 pub fn revoke(alloc: Global, tokens: &[Token]) -> Result<Stmt, SyntaxFault>
-    ensures { Gives (λ stmt. stmt) result (revoke_of (kinds tokens.now)) }
+    ensures { Gives (λ s. s) result (revoke_of (kinds tokens.now)) }
 {
     let (disclosure, rest) = disclosed(alloc, tokens)?;
     let Disclosure {
@@ -201,8 +199,7 @@ pub fn revoke(alloc: Global, tokens: &[Token]) -> Result<Stmt, SyntaxFault>
 }
 
 fn yes_or_no(tokens: &[Token]) -> Result<(bool, &[Token]), SyntaxFault>
-    ensures found { Gives (λ x. (x.0, kinds x.1.now)) result (leading_yes_or_no (kinds tokens.now)) }
-    ensures shorter { IfOk result (λ x. length x.1.now < length tokens.now) }
+    ensures { Reads leading_yes_or_no tokens.now result }
 {
     if let Some(rest) = after_keyword(tokens, Keyword::KYes) {
         return Ok((true, rest));
@@ -214,7 +211,7 @@ fn yes_or_no(tokens: &[Token]) -> Result<(bool, &[Token]), SyntaxFault>
 /// The statement that the tokens behind CHOICE have to be.
 #[tactic(auto, unfolding(crate::specs::StatementFinder::choice_of))]
 pub fn choice(alloc: Global, tokens: &[Token]) -> Result<Stmt, SyntaxFault>
-    ensures { Gives (λ stmt. stmt) result (choice_of (kinds tokens.now)) }
+    ensures { Gives (λ s. s) result (choice_of (kinds tokens.now)) }
 {
     let (subject, rest) = number(tokens)?;
     let rest = expect_keyword(rest, Keyword::KOn)?;

@@ -1,6 +1,6 @@
 //! CREATE TABLE, PURPOSE, RECIPIENT and ITEM.
 ghost use Rattle.std.specs.Prelude.{◌≡◌, ◌<◌, ◌≤◌, length, option_map, IfOk, IfSome};
-ghost use Rattle.hippo_spj_reader.specs.Answers.{Gives};
+ghost use Rattle.hippo_spj_reader.specs.Promises.{Gives, Reads};
 ghost use Rattle.hippo_spj_reader.specs.Front.{kinds};
 ghost use Rattle.hippo_stmt_reader.specs.StatementFinder.{column_kind_of, leading_column_kind, leading_column_def, after_column, leading_subject, create_table_of, create_purpose_of, create_recipient_of, leading_item_kind, create_item_of, create_of};
 
@@ -8,7 +8,7 @@ use crate::parts::{with_end, names};
 use hippo_lexer::{Keyword, Symbol, SyntaxFault, Token, TokenKind};
 use hippo_model::{Column, ColumnKind, ItemKind, Stmt};
 use hippo_spj_reader::{
-    Listed, after_keyword, after_symbol, expect_keyword, expect_symbol, list, name, split,
+    Part, Separator, after_keyword, after_symbol, expect_keyword, expect_symbol, list, name, split,
 };
 use hippo_values::Name;
 use std::alloc::Global;
@@ -36,8 +36,7 @@ fn column_kind(tokens: &[Token]) -> Option<(ColumnKind, &[Token])>
 
 #[tactic(auto, unfolding(crate::specs::StatementFinder::leading_column_def))]
 fn column_def(alloc: Global, tokens: &[Token]) -> Result<(Column, &[Token]), SyntaxFault>
-    ensures found { Gives (λ x. (x.0, kinds x.1.now)) result (leading_column_def (kinds tokens.now)) }
-    ensures shorter { IfOk result (λ x. length x.1.now < length tokens.now) }
+    ensures { Reads leading_column_def tokens.now result }
 {
     let (name, rest) = name(alloc, tokens)?;
     let (kind, rest) = column_kind(rest).ok_or(SyntaxFault::BadSyntax)?;
@@ -64,23 +63,30 @@ fn column_def(alloc: Global, tokens: &[Token]) -> Result<(Column, &[Token]), Syn
     ))
 }
 
-/// The rule of the columns of CREATE TABLE: the comma that PRIMARY KEY follows leads to no further one.
-struct ColumnDefs;
+// The rule of a column of CREATE TABLE.
+struct ColumnDefPart;
 
-impl Listed for ColumnDefs {
-    ghost use Rattle.hippo_stmt_reader.specs.StatementFinder.{leading_column_def, after_column};
+impl Part for ColumnDefPart {
+    ghost use Rattle.hippo_stmt_reader.specs.StatementFinder.{leading_column_def};
 
-    type Part = Column;
+    type Reading = Column;
 
-    ghost part_at = { leading_column_def };
+    ghost leading = { leading_column_def };
 
-    ghost next_at = { after_column };
-
-    fn part(alloc: Global, tokens: &[Token]) -> Result<(Column, &[Token]), SyntaxFault> {
+    fn read(alloc: Global, tokens: &[Token]) -> Result<(Column, &[Token]), SyntaxFault> {
         column_def(alloc, tokens)
     }
+}
 
-    fn next(tokens: &[Token]) -> Option<&[Token]> {
+// The comma between columns: the one that PRIMARY KEY follows leads to no further column.
+struct ColumnCommas;
+
+impl Separator for ColumnCommas {
+    ghost use Rattle.hippo_stmt_reader.specs.StatementFinder.{after_column};
+
+    ghost after = { after_column };
+
+    fn pass(tokens: &[Token]) -> Option<&[Token]> {
         let behind = after_symbol(tokens, Symbol::Comma)?;
         match split(behind) {
             Some((TokenKind::Word(_), _)) => Some(behind),
@@ -91,8 +97,7 @@ impl Listed for ColumnDefs {
 
 #[tactic(auto, unfolding(crate::specs::StatementFinder::leading_subject))]
 fn subject(alloc: Global, tokens: &[Token]) -> Result<(Option<Name>, &[Token]), SyntaxFault>
-    ensures found { Gives (λ x. (x.0, kinds x.1.now)) result (leading_subject (kinds tokens.now)) }
-    ensures shorter { IfOk result (λ x. length x.1.now ≤ length tokens.now) }
+    ensures { Reads leading_subject tokens.now result }
 {
     let Some(behind) = after_symbol(tokens, Symbol::Comma) else {
         return Ok((None, tokens));
@@ -104,11 +109,11 @@ fn subject(alloc: Global, tokens: &[Token]) -> Result<(Option<Name>, &[Token]), 
 
 #[tactic(auto, unfolding(crate::specs::StatementFinder::create_table_of))]
 fn create_table(alloc: Global, tokens: &[Token]) -> Result<Stmt, SyntaxFault>
-    ensures { Gives (λ stmt. stmt) result (create_table_of (kinds tokens.now)) }
+    ensures { Gives (λ s. s) result (create_table_of (kinds tokens.now)) }
 {
     let (table, rest) = name(alloc, tokens)?;
     let rest = expect_symbol(rest, Symbol::LeftParen)?;
-    let (columns, rest) = list::<ColumnDefs>(alloc, rest)?;
+    let (columns, rest) = list::<ColumnDefPart, ColumnCommas>(alloc, rest)?;
     let rest = expect_symbol(rest, Symbol::Comma)?;
     let rest = expect_keyword(rest, Keyword::KPrimary)?;
     let rest = expect_keyword(rest, Keyword::KKey)?;
@@ -128,7 +133,7 @@ fn create_table(alloc: Global, tokens: &[Token]) -> Result<Stmt, SyntaxFault>
 
 #[tactic(auto, unfolding(crate::specs::StatementFinder::create_purpose_of))]
 fn create_purpose(alloc: Global, tokens: &[Token]) -> Result<Stmt, SyntaxFault>
-    ensures { Gives (λ stmt. stmt) result (create_purpose_of (kinds tokens.now)) }
+    ensures { Gives (λ s. s) result (create_purpose_of (kinds tokens.now)) }
 {
     let (purpose, rest) = name(alloc, tokens)?;
     with_end(Stmt::CreatePurpose(purpose), rest)
@@ -136,14 +141,14 @@ fn create_purpose(alloc: Global, tokens: &[Token]) -> Result<Stmt, SyntaxFault>
 
 #[tactic(auto, unfolding(crate::specs::StatementFinder::create_recipient_of))]
 fn create_recipient(alloc: Global, tokens: &[Token]) -> Result<Stmt, SyntaxFault>
-    ensures { Gives (λ stmt. stmt) result (create_recipient_of (kinds tokens.now)) }
+    ensures { Gives (λ s. s) result (create_recipient_of (kinds tokens.now)) }
 {
     let (recipient, rest) = name(alloc, tokens)?;
     with_end(Stmt::CreateRecipient(recipient), rest)
 }
 
 fn item_kind(tokens: &[Token]) -> Result<(ItemKind, &[Token]), SyntaxFault>
-    ensures { Gives (λ x. (x.0, kinds x.1.now)) result (leading_item_kind (kinds tokens.now)) }
+    ensures { Reads leading_item_kind tokens.now result }
 {
     if let Some(rest) = after_keyword(tokens, Keyword::KIn) {
         return Ok((ItemKind::OptIn, rest));
@@ -154,7 +159,7 @@ fn item_kind(tokens: &[Token]) -> Result<(ItemKind, &[Token]), SyntaxFault>
 
 #[tactic(auto, unfolding(crate::specs::StatementFinder::create_item_of))]
 fn create_item(alloc: Global, tokens: &[Token]) -> Result<Stmt, SyntaxFault>
-    ensures { Gives (λ stmt. stmt) result (create_item_of (kinds tokens.now)) }
+    ensures { Gives (λ s. s) result (create_item_of (kinds tokens.now)) }
 {
     let (item, rest) = name(alloc, tokens)?;
     let rest = expect_keyword(rest, Keyword::KOpt)?;
@@ -165,7 +170,7 @@ fn create_item(alloc: Global, tokens: &[Token]) -> Result<Stmt, SyntaxFault>
 /// The statement that the tokens behind CREATE have to be.
 #[tactic(auto, unfolding(crate::specs::StatementFinder::create_of))]
 pub fn create(alloc: Global, tokens: &[Token]) -> Result<Stmt, SyntaxFault>
-    ensures { Gives (λ stmt. stmt) result (create_of (kinds tokens.now)) }
+    ensures { Gives (λ s. s) result (create_of (kinds tokens.now)) }
 {
     if let Some(behind) = after_keyword(tokens, Keyword::KTable) {
         return create_table(alloc, behind);

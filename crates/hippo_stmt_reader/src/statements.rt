@@ -2,25 +2,24 @@
 ghost use Rattle.std.specs.Prelude.{◌≡◌, ◌<◌, length, is_some, IsTrue, IfOk, IfErr};
 ghost use Rattle.hippo_model.specs.declared.statement.Stmt.{Stmt};
 ghost use Rattle.hippo_lexer.specs.Words.{words_check};
-ghost use Rattle.hippo_spj_reader.specs.Answers.{Gives};
-ghost use Rattle.hippo_spj_reader.specs.Front.{kinds, after_keyword};
+ghost use Rattle.hippo_spj_reader.specs.Promises.{Gives};
+ghost use Rattle.hippo_spj_reader.specs.Front.{kinds, after_keyword, after_word};
 ghost use Rattle.hippo_stmt_reader.specs.StatementGrammar.{IsStatement, IsRefusal};
-ghost use Rattle.hippo_stmt_reader.specs.Words.{after_word};
 ghost use Rattle.hippo_stmt_reader.specs.StatementFinder.{console_behind, console_by_keyword, console_of, audit_of, begin_audit_of, watch_of, explain_of, placed_select_of, open_of, extract_of, select_of, statement_of};
 
 use crate::changes::{delete, insert, update};
-use crate::parts::{after_word, with_end, number};
+use crate::parts::{number, with_end};
 use crate::policies::{allow, authorize, choice, deauthorize, revoke};
 use crate::schemas::create;
 use hippo_audit_reader::audit;
 use hippo_lexer::{Keyword, SyntaxFault, Token, TokenKind, Tokens, check_words};
 use hippo_model::{RawSelect, Stmt};
-use hippo_spj_reader::{after_keyword, expect_keyword, select, split};
+use hippo_spj_reader::{after_keyword, after_word, expect_keyword, select, split};
 use std::alloc::Global;
 
 #[tactic(auto, unfolding(crate::specs::StatementFinder::audit_of))]
 fn audit_statement(alloc: Global, tokens: &[Token]) -> Result<Stmt, SyntaxFault>
-    ensures { Gives (λ stmt. stmt) result (audit_of (kinds tokens.now)) }
+    ensures { Gives (λ s. s) result (audit_of (kinds tokens.now)) }
 {
     let (audit, rest) = audit(alloc, tokens)?;
     with_end(Stmt::Audit(audit), rest)
@@ -28,7 +27,7 @@ fn audit_statement(alloc: Global, tokens: &[Token]) -> Result<Stmt, SyntaxFault>
 
 #[tactic(auto, unfolding(crate::specs::StatementFinder::begin_audit_of))]
 fn begin_audit(alloc: Global, tokens: &[Token]) -> Result<Stmt, SyntaxFault>
-    ensures { Gives (λ stmt. stmt) result (begin_audit_of (kinds tokens.now)) }
+    ensures { Gives (λ s. s) result (begin_audit_of (kinds tokens.now)) }
 {
     let rest = expect_keyword(tokens, Keyword::KAudit)?;
     let (audit, rest) = audit(alloc, rest)?;
@@ -37,7 +36,7 @@ fn begin_audit(alloc: Global, tokens: &[Token]) -> Result<Stmt, SyntaxFault>
 
 #[tactic(auto, unfolding(crate::specs::StatementFinder::watch_of))]
 fn watch(alloc: Global, tokens: &[Token]) -> Result<Stmt, SyntaxFault>
-    ensures { Gives (λ stmt. stmt) result (watch_of (kinds tokens.now)) }
+    ensures { Gives (λ s. s) result (watch_of (kinds tokens.now)) }
 {
     let (audit, rest) = audit(alloc, tokens)?;
     with_end(Stmt::Watch(audit), rest)
@@ -45,7 +44,7 @@ fn watch(alloc: Global, tokens: &[Token]) -> Result<Stmt, SyntaxFault>
 
 #[tactic(auto, unfolding(crate::specs::StatementFinder::explain_of))]
 fn explain(tokens: &[Token]) -> Result<Stmt, SyntaxFault>
-    ensures { Gives (λ stmt. stmt) result (explain_of (kinds tokens.now)) }
+    ensures { Gives (λ s. s) result (explain_of (kinds tokens.now)) }
 {
     let (number, rest) = number(tokens)?;
     with_end(Stmt::Explain(number), rest)
@@ -54,7 +53,7 @@ fn explain(tokens: &[Token]) -> Result<Stmt, SyntaxFault>
 // A statement of the console that begins with this keyword, from the tokens behind it.
 #[tactic(auto, unfolding(crate::specs::StatementFinder::console_behind))]
 fn console_behind(alloc: Global, keyword: Keyword, tokens: &[Token]) -> Result<Stmt, SyntaxFault>
-    ensures { Gives (λ stmt. stmt) result (console_behind keyword (kinds tokens.now)) }
+    ensures { Gives (λ s. s) result (console_behind keyword (kinds tokens.now)) }
 {
     match keyword {
         Keyword::KCreate => create(alloc, tokens),
@@ -73,7 +72,7 @@ fn console_behind(alloc: Global, keyword: Keyword, tokens: &[Token]) -> Result<S
 }
 
 fn console_by_keyword(alloc: Global, tokens: &[Token]) -> Result<Stmt, SyntaxFault>
-    ensures { Gives (λ stmt. stmt) result (console_by_keyword (kinds tokens.now)) }
+    ensures { Gives (λ s. s) result (console_by_keyword (kinds tokens.now)) }
 {
     match split(tokens) {
         Some((TokenKind::Keyword(keyword), rest)) => console_behind(alloc, *keyword, rest),
@@ -83,7 +82,7 @@ fn console_by_keyword(alloc: Global, tokens: &[Token]) -> Result<Stmt, SyntaxFau
 
 #[tactic(auto, unfolding(crate::specs::StatementFinder::console_of))]
 fn console(alloc: Global, tokens: &[Token]) -> Result<Stmt, SyntaxFault>
-    ensures { Gives (λ stmt. stmt) result (console_of (kinds tokens.now)) }
+    ensures { Gives (λ s. s) result (console_of (kinds tokens.now)) }
 {
     if begins_with(tokens, Keyword::KDuring) {
         return audit_statement(alloc, tokens);
@@ -138,7 +137,7 @@ fn placed_select(alloc: Global, tokens: &[Token]) -> Result<PlacedSelect, Syntax
 
 #[tactic(auto, unfolding(crate::specs::StatementFinder::open_of))]
 fn open_statement(alloc: Global, tokens: &[Token]) -> Result<Stmt, SyntaxFault>
-    ensures { Gives (λ stmt. stmt) result (open_of tokens.now) }
+    ensures { Gives (λ s. s) result (open_of tokens.now) }
 {
     let PlacedSelect { select, start, end } = placed_select(alloc, tokens)?;
     Ok(Stmt::Ask { select, start, end })
@@ -146,7 +145,7 @@ fn open_statement(alloc: Global, tokens: &[Token]) -> Result<Stmt, SyntaxFault>
 
 #[tactic(auto, unfolding(crate::specs::StatementFinder::extract_of))]
 fn extract_statement(alloc: Global, tokens: &[Token]) -> Result<Stmt, SyntaxFault>
-    ensures { Gives (λ stmt. stmt) result (extract_of tokens.now) }
+    ensures { Gives (λ s. s) result (extract_of tokens.now) }
 {
     let PlacedSelect { select, start, end } = placed_select(alloc, tokens)?;
     Ok(Stmt::Extract { select, start, end })
@@ -154,7 +153,7 @@ fn extract_statement(alloc: Global, tokens: &[Token]) -> Result<Stmt, SyntaxFaul
 
 #[tactic(auto, unfolding(crate::specs::StatementFinder::select_of))]
 fn select_statement(alloc: Global, tokens: &[Token]) -> Result<Stmt, SyntaxFault>
-    ensures { Gives (λ stmt. stmt) result (select_of tokens.now) }
+    ensures { Gives (λ s. s) result (select_of tokens.now) }
 {
     let PlacedSelect { select, start, end } = placed_select(alloc, tokens)?;
     Ok(Stmt::Select { select, start, end })
@@ -162,7 +161,7 @@ fn select_statement(alloc: Global, tokens: &[Token]) -> Result<Stmt, SyntaxFault
 
 #[tactic(auto, unfolding(crate::specs::StatementFinder::statement_of))]
 fn statement(alloc: Global, tokens: &[Token]) -> Result<Stmt, SyntaxFault>
-    ensures { Gives (λ stmt. stmt) result (statement_of tokens.now) }
+    ensures { Gives (λ s. s) result (statement_of tokens.now) }
 {
     if begins_with(tokens, Keyword::KOpen) {
         return open_statement(alloc, &tokens[1..]);
