@@ -8,21 +8,24 @@ import random
 import sys
 
 KEYWORDS = """and allow audit authorize begin between choice create date
-    deauthorize delete during explain for from in inner insert integer into is
-    item join key no not null on open opt otherthan out primary purpose
-    recipient revoke select set shown subject table text to update values
-    where with yes or""".split()
-UNSUPPORTED = """all alter any as avg case cast count cross distinct drop except
-    exists full group having intersect left like limit max min natural offset
-    order outer right sum union using window""".split()
+    deauthorize delete distinct during explain for from group in inner insert
+    integer into is item join key max min no not null on open opt otherthan out
+    primary purpose recipient revoke select set shown subject table text to
+    update values where with yes or""".split()
+UNSUPPORTED = """all alter any as avg case cast count cross drop except exists
+    full having intersect left like limit natural offset order outer right sum
+    union using window""".split()
+# words that stand for themselves in one place and are names in all others
+PLACED = "retain days by watch extract".split()
 SYMBOLS = "( ) , . * = <> != < <= > >= ;".split()
 COMPARES = "= <> != < <= > >=".split()
 
 NAMES = """a b c t u v w p q r i x y pid name phone zip ward visit patient seen
     vno site room ann bea treatment billing nurse clerk contact calls care
-    retain watch extract unwatch load at step login days
+    retain watch extract by days unwatch load at step login
     selects dates datex fromm nota orr in_ is_null ands nul no_ a1 b_2 c__ d9
-    o on1 tex integers key_ sums maxi counts lefty asc""".split()
+    o on1 tex integers key_ sums maxi counts lefty asc mins groups distinct_
+    retains day byy watcher extracts""".split()
 
 ODD = ["~", "!", "\"", "#", "$", "%", "&", "+", "-", "/", ":", "?", "@", "[",
        "\\", "]", "^", "_", "`", "{", "|", "}", "'", "''", "(", ")", ",", ".",
@@ -101,9 +104,11 @@ class Gen:
         style = self.rng.random()
         if style < 0.55:
             return self.pick("abctuvwpqrixy")
-        if style < 0.95:
+        if style < 0.9:
             word = self.pick(NAMES)
             return self.cased(word) if self.chance(0.3) else word
+        if style < 0.95:
+            return self.cased(self.pick(PLACED))
         if style < 0.975:
             return self.pick(KEYWORDS + UNSUPPORTED) + self.pick(("_", "1", "x_", "0z"))
         return self.long_word(self.some(60, 63))
@@ -239,10 +244,8 @@ class Gen:
             return [self.name(), ".", "*"]
         return self.column()
 
-    def select(self):
-        found = self.k("select")
-        found += ["*"] if self.chance(0.2) else self.listed(self.item)
-        found += self.k("from") + [self.name()]
+    def sources(self):
+        found = [self.name()]
         while self.chance(0.35):
             style = self.rng.random()
             if style < 0.4:
@@ -251,6 +254,26 @@ class Gen:
                 found += self.k("join" if style < 0.7 else "inner join")
                 found += [self.name()] + self.k("on") + self.condition()
         return found + self.where()
+
+    def group_item(self):
+        style = self.rng.random()
+        if style < 0.5:
+            return self.column()
+        return (self.k("min" if style < 0.75 else "max") + ["("] + self.column()
+                + [")"])
+
+    def grouped(self):
+        return (self.k("select") + self.listed(self.group_item) + self.k("from")
+                + self.sources() + self.k("group by") + self.listed(self.column))
+
+    def select(self):
+        if self.chance(0.3):
+            return self.grouped()
+        found = self.k("select")
+        if self.chance(0.25):
+            found += self.k("distinct")
+        found += ["*"] if self.chance(0.2) else self.listed(self.item)
+        return found + self.k("from") + self.sources()
 
     def pair(self):
         return ["(", self.name(), ",", self.name(), ")"]
@@ -262,7 +285,8 @@ class Gen:
         found = self.k("during") + self.moment() + self.k("to") + self.moment()
         if self.chance(0.4):
             found += self.k("otherthan") + self.listed(self.pair)
-        found += self.k("audit") + self.listed(self.column)
+        found += self.k("audit shown" if self.chance(0.3) else "audit")
+        found += self.listed(self.column)
         found += self.k("from") + self.listed(self.one_name, 4)
         return found + self.where()
 
@@ -279,8 +303,19 @@ class Gen:
         found = [self.name()] + self.k(self.pick(("integer", "text", "date")))
         return found + (self.k("not null") if self.chance(0.35) else [])
 
+    def days(self):
+        style = self.rng.random()
+        if style < 0.5:
+            return str(self.some(1, 400))
+        if style < 0.8:
+            return str(self.some(1, 36500))
+        return "0" * self.pick((0, 0, 1, 30)) + self.pick(("1", "2", "36499", "36500"))
+
+    def retention(self):
+        return self.k("retain") + [self.days()] + self.k("days")
+
     def console(self):
-        style = self.some(0, 17)
+        style = self.some(0, 18)
         if style <= 2:
             found = self.k("create table") + [self.name(), "("]
             found += self.listed(self.coldef)
@@ -303,7 +338,8 @@ class Gen:
             found = (self.k("allow") + [self.name()] + self.k("to")
                      + [self.name()] + self.k("on") + [self.name()]
                      + self.names_in_parens())
-            return found + (self.k("with") + [self.name()] if self.chance(0.5) else [])
+            found += self.k("with") + [self.name()] if self.chance(0.5) else []
+            return found + (self.retention() if self.chance(0.5) else [])
         if style == 10:
             return (self.k("revoke") + [self.name()] + self.k("to")
                     + [self.name()] + self.k("on") + [self.name()]
@@ -326,16 +362,18 @@ class Gen:
             return self.k("explain") + [self.number()]
         if style == 16:
             return self.audit()
-        return self.k("begin audit") + self.audit()
+        return self.k("begin audit" if style == 17 else "watch") + self.audit()
 
     def statement(self):
         style = self.rng.random()
         if style < 0.3:
             found = self.select()
-        elif style < 0.4:
+        elif style < 0.37:
             found = self.k("open") + self.select()
-        elif style < 0.5:
-            found = self.audit() if self.chance(0.6) else self.k("begin audit") + self.audit()
+        elif style < 0.44:
+            found = self.k("extract") + self.select()
+        elif style < 0.54:
+            found = self.k(self.pick(("", "begin audit", "watch"))) + self.audit()
         else:
             found = self.console()
         return found + ([";"] if self.chance(0.3) else [])
@@ -417,7 +455,9 @@ class Gen:
             return self.cased(self.pick(KEYWORDS))
         if style < 0.38:
             return self.cased(self.pick(UNSUPPORTED))
-        if style < 0.65:
+        if style < 0.44:
+            return self.cased(self.pick(PLACED))
+        if style < 0.67:
             return self.pick(SYMBOLS)
         if style < 0.8:
             return self.name()
@@ -432,7 +472,9 @@ class Gen:
         return self.cased(self.pick(("not", "and", "or", "null", "is", "in",
                                      "between", "where", "from", "on", "join",
                                      "inner", "select", "open", "shown", "date",
-                                     "audit", "with", "to", "for", "key")))
+                                     "audit", "with", "to", "for", "key",
+                                     "distinct", "group", "min", "max", "retain",
+                                     "days", "by", "watch", "extract")))
 
     def place(self, tokens):
         return self.some(0, len(tokens) - 1)
@@ -503,6 +545,10 @@ class Gen:
             return "select", (self.k("select") + [self.name()] + self.k("from")
                               + [self.name()] + self.k("join") + [self.name()]
                               + self.k("on") + self.deep())
+        if style < 0.7:
+            return "select", (self.k("select") + self.group_item() + self.k("from")
+                              + [self.name()] + self.k("where") + self.deep()
+                              + self.k("group by") + self.column())
         if style < 0.75:
             return "audit", (self.k("during") + ["'x'"] + self.k("to") + ["'y'"]
                              + self.k("audit") + ["c"] + self.k("from") + ["t"]
@@ -546,11 +592,75 @@ class Gen:
             return "condition", self.text(found)
         return "tokens", self.text([self.any_token() for _ in range(size // 8)])
 
+    def near_rule(self):
+        """What is nearly a rule with a retention."""
+        front = (self.k("allow") + [self.name()] + self.k("to") + [self.name()]
+                 + self.k("on") + [self.name()] + self.names_in_parens())
+        item = self.k("with") + [self.name()]
+        number = self.pick(("0", "-0", "-1", "-36500", "36501", "36500", "1", "00",
+                            "036500", "036501", "65536", "2147483648",
+                            "4294967296", "4294967297", "4294967326",
+                            "9223372036854775807", "-9223372036854775808",
+                            "9223372036854775808", "'30'", "30.", "NULL", "a"))
+        days = self.k("retain") + [number] + self.k("days")
+        return front + self.pick((
+            days, item + days, days + item, days + days, item + item,
+            item + days + item, days[:2], days[:1], days[1:], days[:1] + days[2:],
+            item[:1] + days, self.k("with retain") + days, self.k("with retain"),
+            self.k("with days"), self.k("with retain") + days[1:],
+            self.k("retain") + [number] + self.k("day"),
+            self.k("retain") + [number] + self.k("days days"),
+            self.k("retain") + [number, ","] + self.k("days"),
+            self.k("retain") + ["(", number] + self.k("days") + [")"]))
+
+    def near_group(self):
+        """What is nearly a distinct or a grouped select."""
+        columns = self.listed(self.column)
+        mixed = self.listed(self.group_item)
+        end = self.k("from") + self.sources()
+        by = self.k("group by") + self.listed(self.column)
+        table = [self.name(), ".", "*"]
+        least = self.k("min") + ["("]
+        return self.k("select") + self.pick((
+            self.k("distinct") + mixed + end + by, self.k("distinct") + mixed + end,
+            mixed + end, mixed + end + by[:1], mixed + end + by[1:],
+            mixed + end + by[:2], ["*"] + end + by, table + end + by,
+            columns + [","] + table + end + by, columns + end + by,
+            columns + end + self.k("group") + by[2:],
+            mixed + end + by + self.k("where") + self.condition(),
+            mixed + end + by + by, mixed + end + by + self.k("or by"),
+            mixed + end + by + [","] + self.group_item(),
+            mixed + self.k("from") + [self.name()] + by,
+            columns + self.k("distinct") + end,
+            columns + [","] + self.k("distinct") + columns + end,
+            self.k("distinct distinct") + columns + end,
+            self.k("distinct") + ["*"] + end, self.k("distinct") + table + end,
+            self.k("distinct") + ["("] + columns + [")"] + end,
+            self.k("distinct") + end, end + by,
+            least + self.k("distinct") + self.column() + [")"] + end + by,
+            least + ["*", ")"] + end + by, least + ["1", ")"] + end + by,
+            least + [")"] + end + by, least + columns + [")"] + end + by,
+            least + self.group_item() + [")"] + end + by,
+            self.k("min") + self.column() + end + by, self.k("max") + end + by,
+            ["count", "(", "*", ")"] + end + by, ["sum", "("] + mixed + [")"] + end + by,
+            mixed + end + self.k("group") + ["("] + columns + [")"],
+            mixed + end + by + self.k("having") + self.condition()))
+
+    def near_front(self):
+        """What is nearly a statement with a word before it."""
+        body = self.pick((self.select, self.audit, self.console))()
+        front = self.pick(("watch", "extract", "open", "begin audit", "begin",
+                           "watch audit", "watch watch", "extract extract",
+                           "open extract", "extract open", "begin watch",
+                           "watch extract", "retain", "by", "days", "unwatch"))
+        found = self.k(front) + (body if self.chance(0.85) else [])
+        return found + [";"] * self.pick((0, 0, 0, 1, 1, 2))
+
     def broken(self):
         what = self.pick(("statement",) * 7 + ("select", "select", "condition",
                                                "condition", "audit", "tokens"))
         tokens = self.of_rule(what)
-        style = self.some(0, 29)
+        style = self.some(0, 35)
         if style == 0:                                 # a token dropped
             del tokens[self.place(tokens)]
         elif style == 1:                               # doubled
@@ -651,6 +761,17 @@ class Gen:
             other = self.pick(("statement", "select", "condition", "audit"))
             tokens = self.of_rule(other)
             what = self.pick(("statement", "select", "condition", "audit", "tokens"))
+        elif style == 30 or style == 31:               # retentions
+            what, tokens = "statement", self.near_rule()
+        elif style == 32 or style == 33:               # groups
+            tokens = self.near_group()
+            what = self.pick(("select", "statement"))
+            if what == "statement":
+                tokens = self.k(self.pick(("", "", "open", "extract"))) + tokens
+        elif style == 34:                              # words in front
+            what, tokens = "statement", self.near_front()
+        elif style == 35:                              # words that are names but in one place
+            tokens[self.name_place(tokens)] = self.cased(self.pick(PLACED))
         else:
             if self.chance(0.12):
                 return self.long_text()

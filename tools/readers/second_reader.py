@@ -14,15 +14,16 @@ sys.setrecursionlimit(20000)
 
 KEYWORDS = frozenset("""
     and allow audit authorize begin between choice create date deauthorize
-    delete during explain for from in inner insert integer into is item join
-    key no not null on open opt otherthan out primary purpose recipient revoke
-    select set shown subject table text to update values where with yes or
+    delete distinct during explain for from group in inner insert integer into
+    is item join key max min no not null on open opt otherthan out primary
+    purpose recipient revoke select set shown subject table text to update
+    values where with yes or
 """.split())
 
 UNSUPPORTED = frozenset("""
-    all alter any as avg case cast count cross distinct drop except exists full
-    group having intersect left like limit max min natural offset order outer
-    right sum union using window
+    all alter any as avg case cast count cross drop except exists full having
+    intersect left like limit natural offset order outer right sum union using
+    window
 """.split())
 
 SYMBOLS = {
@@ -348,6 +349,10 @@ class Reader:
     def may_word(self, word):
         return self.may("keyword", word)
 
+    def may_name(self, name):
+        """A word that stands for itself here, though it is a name elsewhere."""
+        return self.may("word", name)
+
     def may_symbol(self, symbol):
         return self.may("symbol", symbol)
 
@@ -495,10 +500,17 @@ class Reader:
             return [Unit("All")]
         return self.listed(self.item)
 
-    def select(self):
-        self.word("select")
-        items = self.items()
-        self.word("from")
+    def group_item(self):
+        for word, shape in (("min", "Min"), ("max", "Max")):
+            if self.may_word(word):
+                self.symbol("LeftParen")
+                column = self.column()
+                self.symbol("RightParen")
+                return Tup(shape, column)
+        return Tup("Column", self.column())
+
+    def sources(self):
+        """The tables, and the conditions of ON and WHERE."""
         tables = [self.name()]
         conds = []
         while True:
@@ -514,8 +526,38 @@ class Reader:
                 break
         if self.may_word("where"):
             conds.append(self.cond())
+        return tables, whole(conds)
+
+    def grouped(self):
+        """The second form of a select, behind SELECT."""
+        outs = self.listed(self.group_item)
+        self.word("from")
+        tables, cond = self.sources()
+        self.word("group")
+        if not self.may_name("by"):
+            raise BadSyntax
+        by = self.listed(self.column)
+        form = Rec("Grouped", ("outs", outs), ("by", by))
+        return Rec("RawSelect", ("items", []), ("tables", tables),
+                   ("cond", cond), ("form", form))
+
+    def ungrouped(self):
+        """The first form of a select, behind SELECT."""
+        form = Unit("Distinct" if self.may_word("distinct") else "Plain")
+        items = self.items()
+        self.word("from")
+        tables, cond = self.sources()
         return Rec("RawSelect", ("items", items), ("tables", tables),
-                   ("cond", whole(conds)))
+                   ("cond", cond), ("form", form))
+
+    def select(self):
+        self.word("select")
+        behind = self.at
+        try:
+            return self.grouped()
+        except BadSyntax:
+            self.at = behind
+            return self.ungrouped()
 
     # audits
 
@@ -534,12 +576,13 @@ class Reader:
         end = self.quoted()
         exempt = self.listed(self.pair) if self.may_word("otherthan") else []
         self.word("audit")
+        shown = self.may_word("shown")
         columns = self.listed(self.column)
         self.word("from")
         tables = self.listed(self.name)
         conds = [self.cond()] if self.may_word("where") else []
         return Rec("RawAudit", ("from", begin), ("to", end), ("exempt", exempt),
-                   ("shown", False), ("columns", columns), ("tables", tables),
+                   ("shown", shown), ("columns", columns), ("tables", tables),
                    ("cond", whole(conds)))
 
     # statements
@@ -624,6 +667,15 @@ class Reader:
         return [("purpose", purpose), ("recipient", recipient),
                 ("table", table), ("columns", columns)]
 
+    def retention(self):
+        """[RETAIN n DAYS]"""
+        if not self.may_name("retain"):
+            return Unit("None")
+        days = self.number()
+        if not 1 <= days <= 36500 or not self.may_name("days"):
+            raise BadSyntax
+        return Tup("Some", days)
+
     def console(self):
         if self.may_word("create"):
             return self.create()
@@ -634,7 +686,7 @@ class Reader:
         if self.may_word("allow"):
             fields = self.rule()
             item = Tup("Some", self.name()) if self.may_word("with") else Unit("None")
-            return Rec("Allow", *fields, ("item", item))
+            return Rec("Allow", *fields, ("item", item), ("days", self.retention()))
         if self.may_word("revoke"):
             return Rec("Revoke", *self.rule())
         if self.may_word("choice"):
@@ -679,16 +731,24 @@ class Reader:
         if self.may_word("begin"):
             self.word("audit")
             return Tup("BeginAudit", self.audit())
+        if self.may_name("watch"):
+            return Tup("Watch", self.audit())
         raise BadSyntax
 
+    def with_text(self, shape):
+        """A select, and the places of its first byte and behind its last."""
+        start = self.peek()[2]
+        select = self.select()
+        end = self.tokens[self.at - 1][3]
+        return Rec(shape, ("select", select), ("start", start), ("end", end))
+
     def statement(self):
-        asked = self.may_word("open")
-        if asked or self.sees_word("select"):
-            start = self.peek()[2]
-            select = self.select()
-            end = self.tokens[self.at - 1][3]
-            shape = Rec("Ask" if asked else "Select", ("select", select),
-                        ("start", start), ("end", end))
+        if self.sees_word("select"):
+            shape = self.with_text("Select")
+        elif self.may_word("open"):
+            shape = self.with_text("Ask")
+        elif self.may_name("extract"):
+            shape = self.with_text("Extract")
         else:
             shape = self.console()
         self.may_symbol("Semicolon")

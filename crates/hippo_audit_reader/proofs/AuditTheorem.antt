@@ -4,7 +4,7 @@ use Rattle.std.proofs.lemmas.Option.{none-some, some_pair_parts}
 use Rattle.hippo_model.specs.declared.audit.Pair.{Pair}
 use Rattle.hippo_model.specs.declared.statement.RawAudit.{RawAudit}
 use Rattle.hippo_model.specs.declared.statement.RawColumn.{RawColumn}
-use Rattle.hippo_lexer.specs.declared.kinds.Keyword.TheVariants.{KAudit, KDuring, KFrom, KOtherthan, KShown, KTo, KWhere}
+use Rattle.hippo_values.specs.declared.keywords.Keyword.TheVariants.{KAudit, KDuring, KFrom, KOtherthan, KShown, KTo, KWhere}
 use Rattle.hippo_lexer.specs.declared.kinds.Symbol.TheVariants.{Comma, LeftParen, RightParen, Semicolon}
 use Rattle.hippo_lexer.specs.declared.kinds.TokenKind.{TokenKind}
 use Rattle.hippo_lexer.specs.declared.kinds.TokenKind.TheVariants.{Keyword, Quoted, Symbol}

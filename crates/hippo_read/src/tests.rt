@@ -30,12 +30,12 @@ fn read(
 
 #[test]
 fn texts_of_65536_bytes(rt: HostRuntime) -> Result<(), Fail> {
-    let cases: [(&'static str, Parts, Parts); 12] = [
+    let cases: [(&'static str, Parts, Parts); 13] = [
         (
             "statement",
             ("SELECT a FROM t WHERE a = ", "0", 65509, "7"),
             (
-                "Select { select: RawSelect { items: [One(RawColumn { table: None, column: \"a\" })], tables: [\"t\"], cond: All([Compare { op: Eq, left: Column(RawColumn { table: None, column: \"a\" }), right: Literal(Int(7)) }]) }, start: 0, end: 65536 }",
+                "Select { select: RawSelect { items: [One(RawColumn { table: None, column: \"a\" })], tables: [\"t\"], cond: All([Compare { op: Eq, left: Column(RawColumn { table: None, column: \"a\" }), right: Literal(Int(7)) }]), form: Plain }, start: 0, end: 65536 }",
                 "",
                 0,
                 "",
@@ -68,7 +68,17 @@ fn texts_of_65536_bytes(rt: HostRuntime) -> Result<(), Fail> {
                 "Select { select: RawSelect { items: [One(RawColumn { table: None, column: \"a\" })",
                 ", One(RawColumn { table: None, column: \"a\" })",
                 21840,
-                "], tables: [\"t\"], cond: All([]) }, start: 0, end: 65536 }",
+                "], tables: [\"t\"], cond: All([]), form: Plain }, start: 0, end: 65536 }",
+            ),
+        ),
+        (
+            "select",
+            ("SELECT MIN(a)", ", MIN(a)", 8188, "  FROM t GROUP BY a"),
+            (
+                "RawSelect { items: [], tables: [\"t\"], cond: All([]), form: Grouped { outs: [Min(RawColumn { table: None, column: \"a\" })",
+                ", Min(RawColumn { table: None, column: \"a\" })",
+                8188,
+                "], by: [RawColumn { table: None, column: \"a\" }] } }",
             ),
         ),
         (

@@ -6,8 +6,8 @@ use Rattle.hippo_model.specs.declared.statement.RawItem.{RawItem}
 use Rattle.hippo_model.specs.declared.statement.RawItem.TheVariants as item
 use Rattle.hippo_model.specs.declared.statement.RawOut.{RawOut}
 use Rattle.hippo_model.specs.declared.statement.RawOut.TheVariants as out
-use Rattle.hippo_lexer.specs.declared.kinds.Keyword as words
-use Rattle.hippo_lexer.specs.declared.kinds.Keyword.TheVariants.{KDistinct, KMax, KMin}
+use Rattle.hippo_values.specs.declared.keywords.Keyword as words
+use Rattle.hippo_values.specs.declared.keywords.Keyword.TheVariants.{KDistinct, KMax, KMin}
 use Rattle.hippo_lexer.specs.declared.kinds.Symbol.TheVariants.{Comma, Dot, LeftParen, RightParen, Star}
 use Rattle.hippo_lexer.specs.declared.kinds.TokenKind.{TokenKind}
 use Rattle.hippo_lexer.specs.declared.kinds.TokenKind.TheVariants.{Keyword, Symbol}

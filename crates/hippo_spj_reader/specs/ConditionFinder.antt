@@ -6,7 +6,7 @@ use Rattle.hippo_model.specs.declared.query.CondOf.{Not, Compare, Between, Among
 use Rattle.hippo_model.specs.declared.statement.RawColumn.{RawColumn}
 use Rattle.hippo_model.specs.declared.statement.RawOperand.{RawOperand}
 use Rattle.hippo_model.specs.declared.statement.RawOperand.TheVariants.{Column, Literal}
-use Rattle.hippo_lexer.specs.declared.kinds.Keyword.TheVariants.{KAnd, KBetween, KIn, KIs, KNot, KNull, KOr}
+use Rattle.hippo_values.specs.declared.keywords.Keyword.TheVariants.{KAnd, KBetween, KIn, KIs, KNot, KNull, KOr}
 use Rattle.hippo_lexer.specs.declared.kinds.Symbol as signs
 use Rattle.hippo_lexer.specs.declared.kinds.Symbol.TheVariants.{LeftParen, RightParen, Comma, Dot, Equal, NotEqual, Less, LessEqual, Greater, GreaterEqual}
 use Rattle.hippo_lexer.specs.declared.kinds.TokenKind.TheVariants.{Word, Symbol}

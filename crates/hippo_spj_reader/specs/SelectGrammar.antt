@@ -12,7 +12,7 @@ use Rattle.hippo_model.specs.declared.statement.RawForm.TheVariants.{Plain, Dist
 use Rattle.hippo_model.specs.declared.statement.RawOut.{RawOut}
 use Rattle.hippo_model.specs.declared.statement.RawOut.TheVariants as out
 use Rattle.hippo_model.specs.declared.statement.RawSelect.{RawSelect}
-use Rattle.hippo_lexer.specs.declared.kinds.Keyword.TheVariants.{KDistinct, KFrom, KGroup, KInner, KJoin, KMax, KMin, KOn, KSelect, KWhere}
+use Rattle.hippo_values.specs.declared.keywords.Keyword.TheVariants.{KDistinct, KFrom, KGroup, KInner, KJoin, KMax, KMin, KOn, KSelect, KWhere}
 use Rattle.hippo_lexer.specs.declared.kinds.Symbol.TheVariants.{Comma, Dot, LeftParen, RightParen, Star}
 use Rattle.hippo_lexer.specs.declared.kinds.TokenKind.TheVariants.{Word, Keyword, Symbol}
 use Rattle.hippo_spj_reader.specs.Front.{Kinds}

@@ -1,5 +1,5 @@
 -- The statement of the console that is found is the one of the grammar.
-use Rattle.std.proofs.Common.{◌≡◌, ℕ, List, [], ◌∷◌, Bool, true, false, Option, Some, None, refl, sym, ◌∙◌}
+use Rattle.std.proofs.Common.{◌≡◌, ℕ, codes, List, [], ◌∷◌, Bool, true, false, Option, Some, None, refl, sym, ◌∙◌}
 use Rattle.std.proofs.lemmas.Option.{none-some, same_Some, some_pair_parts}
 use Rattle.hippo_values.specs.declared.values.Value.{Value}
 use Rattle.hippo_model.specs.declared.entry.ItemKind.{ItemKind}
@@ -13,166 +13,174 @@ use Rattle.hippo_values.specs.declared.keywords.Keyword.TheVariants.{KAllow, KAn
 use Rattle.hippo_lexer.specs.declared.kinds.Symbol.TheVariants.{Comma, LeftParen, RightParen, Semicolon}
 use Rattle.hippo_lexer.specs.declared.kinds.TokenKind.{TokenKind}
 use Rattle.hippo_lexer.specs.declared.kinds.TokenKind.TheVariants.{Word, Keyword, Number, Symbol}
-use Rattle.hippo_spj_reader.specs.Conditions.{IsLiteral}
-use Rattle.hippo_spj_reader.specs.Front.{after_keyword, after_symbol, literal_at}
-use Rattle.hippo_spj_reader.specs.Lists.{IsListOf, list_at}
-use Rattle.hippo_spj_reader.proofs.FrontTheorem.{step, keyword_step, symbol_step, name_step, keyword_choice, after_keyword-some}
-use Rattle.hippo_audit_reader.specs.Audits as audits
-use Rattle.hippo_audit_reader.specs.Audits.{IsAudit}
-use Rattle.hippo_audit_reader.specs.Auditing.{audit_at}
+use Rattle.hippo_spj_reader.specs.ConditionGrammar.{IsLiteral}
+use Rattle.hippo_spj_reader.specs.Front.{after_keyword, after_symbol, after_word, leading_literal}
+use Rattle.hippo_spj_reader.specs.ListFinder.{leading_list}
+use Rattle.hippo_spj_reader.specs.ListGrammar.{IsListOf}
+use Rattle.hippo_spj_reader.proofs.FrontTheorem.{found_then, keyword_then, symbol_then, name_then, keyword_choice, word_choice}
+use Rattle.hippo_audit_reader.specs.AuditGrammar as audits
+use Rattle.hippo_audit_reader.specs.AuditGrammar.{IsAudit}
+use Rattle.hippo_audit_reader.specs.AuditFinder.{leading_audit}
 use Rattle.hippo_audit_reader.proofs.AuditTheorem as auditing
-use Rattle.hippo_stmt_reader.specs.Statements.{IsColumnDef, IsSubject, IsWith, AreKeys, AreSettings, AreNames, columns_of, values_of, IsConsole, create_table, create_purpose, create_recipient, create_opt_in, create_opt_out, authorize, deauthorize, allow, revoke, choice_yes, choice_no, insert, update, delete, explain, audit, begin_audit, IsEnd, nothing, semicolon}
-use Rattle.hippo_stmt_reader.specs.Stating.{end_at, column_def_at, next_column_at, names_at, subject_at, with_at, number_at, assignment_at, grant_at, rule_at, create_table_at, create_purpose_at, create_recipient_at, item_kind_at, create_item_at, create_at, authorize_at, deauthorize_at, allow_at, revoke_at, answer_at, choice_at, insert_at, update_at, delete_at, explain_at, audit_statement_at, begin_audit_at, console_behind, console_by, console_at}
-use Rattle.hippo_stmt_reader.proofs.PartTheorem.{end_found, end_complete, number_found, column_defs_found, column_defs_complete, names_step, names_whole, subject_found, subject_complete, with_found, with_complete, settings_found, settings_complete, keys_found, keys_complete, literals_found, literals_complete, grant_step, rule_step}
+use Rattle.hippo_stmt_reader.specs.StatementGrammar.{IsColumnDef, IsSubject, IsWith, AreKeys, AreSettings, AreNames, columns_of, values_of, IsConsole, create_table, create_purpose, create_recipient, create_opt_in, create_opt_out, authorize, deauthorize, allow, revoke, choice_yes, choice_no, insert, update, delete, explain, audit, begin_audit, watch, IsEnd, nothing, semicolon}
+use Rattle.hippo_stmt_reader.specs.StatementFinder.{end_left, leading_column_def, after_column, leading_names, leading_subject, leading_item, leading_retention, leading_number, leading_assignment, leading_grant, leading_disclosure, create_table_of, create_purpose_of, create_recipient_of, leading_item_kind, create_item_of, create_of, authorize_of, deauthorize_of, allow_of, revoke_of, leading_yes_or_no, choice_of, insert_of, update_of, delete_of, explain_of, audit_of, begin_audit_of, watch_of, console_behind, console_by_keyword, console_of}
+use Rattle.hippo_stmt_reader.proofs.PartTheorem.{end_found, end_complete, number_found, column_defs_found, column_defs_complete, names_then, names_whole, subject_found, subject_complete, with_found, with_complete, retention_found, retention_complete, retention-no_with, settings_found, settings_complete, keys_found, keys_complete, literals_found, literals_complete, grant_then, disclosure_then}
 
 -- the tokens are a statement of the console up to the end
 abbrev pub IsRead : List TokenKind → Stmt → Type 0
 IsRead tokens s = (rest : List TokenKind) × IsConsole tokens s rest × IsEnd rest
 
-create_table_found : (tokens : List TokenKind) (s : Stmt) → create_table_at tokens ≡ Some s → IsRead (Keyword KCreate ∷ Keyword KTable ∷ tokens) s
-unfolding create_table_at
+create_table_found : (tokens : List TokenKind) (s : Stmt) → create_table_of tokens ≡ Some s → IsRead (Keyword KCreate ∷ Keyword KTable ∷ tokens) s
+unfolding create_table_of
 create_table_found tokens s e =
-    name_step tokens _ _ e (λ table a is_table e.
-    symbol_step LeftParen a _ _ e (λ defs is_open e.
-    step (list_at column_def_at next_column_at defs) _ _ e (λ columns columns_is e.
-    symbol_step Comma columns.1 _ _ e (λ b is_comma e.
-    keyword_step KPrimary b _ _ e (λ c is_primary e.
-    keyword_step KKey c _ _ e (λ d is_key e.
-    step (names_at d) _ _ e (λ key key_is e.
-    step (subject_at key.1) _ _ e (λ subject subject_is e.
-    symbol_step RightParen subject.1 _ _ e (λ rest is_close e.
-    step (end_at rest) _ _ e (λ end is_end e.
-    names_step d key.0 key.1 key_is (λ keys is_inside are_names.
+    name_then tokens _ _ e (λ table a is_table e.
+    symbol_then LeftParen a _ _ e (λ defs is_open e.
+    found_then (leading_list leading_column_def after_column defs) _ _ e (λ columns columns_is e.
+    symbol_then Comma columns.1 _ _ e (λ b is_comma e.
+    keyword_then KPrimary b _ _ e (λ c is_primary e.
+    keyword_then KKey c _ _ e (λ d is_key e.
+    found_then (leading_names d) _ _ e (λ key key_is e.
+    found_then (leading_subject key.1) _ _ e (λ subject subject_is e.
+    symbol_then RightParen subject.1 _ _ e (λ rest is_close e.
+    found_then (end_left rest) _ _ e (λ end is_end e.
+    names_then d key.0 key.1 key_is (λ keys is_inside are_names.
     let are_defs : IsListOf IsColumnDef (Symbol Comma) defs columns.0 (Symbol Comma ∷ Keyword KPrimary ∷ Keyword KKey ∷ Symbol LeftParen ∷ keys) =
     rw (is_comma, is_primary, is_key, is_inside) at (column_defs_found defs columns.0 columns.1 columns_is) in
     let is_subject : IsSubject key.1 subject.0 (Symbol RightParen ∷ rest) = rw is_close at (subject_found key.1 subject.0 subject.1 subject_is) in
     rw (is_table, is_open, ← same_Some _ s e) (rest, create_table are_defs are_names is_subject, end_found rest end is_end))))))))))))
 
-item_kind_step : {P : Type 0} (tokens : List TokenKind) (k : ItemKind) (rest : List TokenKind) → item_kind_at tokens ≡ Some (k, rest) →
+item_kind_then : {P : Type 0} (tokens : List TokenKind) (k : ItemKind) (rest : List TokenKind) → leading_item_kind tokens ≡ Some (k, rest) →
     (tokens ≡ Keyword KIn ∷ rest → k ≡ OptIn → P) → (tokens ≡ Keyword KOut ∷ rest → k ≡ OptOut → P) → P
-item_kind_step tokens k rest e opt_in opt_out =
+item_kind_then tokens k rest e opt_in opt_out =
     keyword_choice KIn tokens _ _ _ e
     (λ left is_in e. let whole = some_pair_parts OptIn k left rest e in opt_in (rw (is_in, whole.1) refl) (sym whole.0))
-    (λ _ e. keyword_step KOut tokens _ _ e (λ left is_out e. let whole = some_pair_parts OptOut k left rest e in opt_out (rw (is_out, whole.1) refl) (sym whole.0)))
+    (λ _ e. keyword_then KOut tokens _ _ e (λ left is_out e. let whole = some_pair_parts OptOut k left rest e in opt_out (rw (is_out, whole.1) refl) (sym whole.0)))
 
-create_item_found : (tokens : List TokenKind) (s : Stmt) → create_item_at tokens ≡ Some s → IsRead (Keyword KCreate ∷ Keyword KItem ∷ tokens) s
-unfolding create_item_at
+create_item_found : (tokens : List TokenKind) (s : Stmt) → create_item_of tokens ≡ Some s → IsRead (Keyword KCreate ∷ Keyword KItem ∷ tokens) s
+unfolding create_item_of
 create_item_found tokens s e =
-    name_step tokens _ _ e (λ item a is_item e.
-    keyword_step KOpt a _ _ e (λ b is_opt e.
-    step (item_kind_at b) _ _ e (λ k k_is e.
-    step (end_at k.1) _ _ e (λ end is_end e.
-    item_kind_step b k.0 k.1 k_is
+    name_then tokens _ _ e (λ item a is_item e.
+    keyword_then KOpt a _ _ e (λ b is_opt e.
+    found_then (leading_item_kind b) _ _ e (λ k k_is e.
+    found_then (end_left k.1) _ _ e (λ end is_end e.
+    item_kind_then b k.0 k.1 k_is
     (λ is_in is_kind. rw (is_item, is_opt, is_in, ← same_Some _ s e, is_kind) (k.1, create_opt_in, end_found k.1 end is_end))
     (λ is_out is_kind. rw (is_item, is_opt, is_out, ← same_Some _ s e, is_kind) (k.1, create_opt_out, end_found k.1 end is_end))))))
 
-create_found : (tokens : List TokenKind) (s : Stmt) → create_at tokens ≡ Some s → IsRead (Keyword KCreate ∷ tokens) s
-unfolding create_at create_purpose_at create_recipient_at
+create_found : (tokens : List TokenKind) (s : Stmt) → create_of tokens ≡ Some s → IsRead (Keyword KCreate ∷ tokens) s
+unfolding create_of create_purpose_of create_recipient_of
 create_found tokens s e =
     keyword_choice KTable tokens _ _ _ e (λ behind is_table e. rw is_table (create_table_found behind s e))
     (λ _ e. keyword_choice KPurpose tokens _ _ _ e
-    (λ behind is_purpose e. name_step behind _ _ e (λ purpose rest is_name e. step (end_at rest) _ _ e (λ end is_end e.
+    (λ behind is_purpose e. name_then behind _ _ e (λ purpose rest is_name e. found_then (end_left rest) _ _ e (λ end is_end e.
     rw (is_purpose, is_name, ← same_Some _ s e) (rest, create_purpose, end_found rest end is_end))))
     (λ _ e. keyword_choice KRecipient tokens _ _ _ e
-    (λ behind is_recipient e. name_step behind _ _ e (λ recipient rest is_name e. step (end_at rest) _ _ e (λ end is_end e.
+    (λ behind is_recipient e. name_then behind _ _ e (λ recipient rest is_name e. found_then (end_left rest) _ _ e (λ end is_end e.
     rw (is_recipient, is_name, ← same_Some _ s e) (rest, create_recipient, end_found rest end is_end))))
-    (λ _ e. keyword_step KItem tokens _ _ e (λ behind is_item e. rw is_item (create_item_found behind s e)))))
+    (λ _ e. keyword_then KItem tokens _ _ e (λ behind is_item e. rw is_item (create_item_found behind s e)))))
 
-authorize_found : (tokens : List TokenKind) (s : Stmt) → authorize_at tokens ≡ Some s → IsRead (Keyword KAuthorize ∷ tokens) s
-unfolding authorize_at
+authorize_found : (tokens : List TokenKind) (s : Stmt) → authorize_of tokens ≡ Some s → IsRead (Keyword KAuthorize ∷ tokens) s
+unfolding authorize_of
 authorize_found tokens s e =
-    step (grant_at tokens) _ _ e (λ grant grant_is e. step (end_at grant.1) _ _ e (λ end is_end e.
-    grant_step tokens grant.0 grant.1 grant_is (λ is_grant. rw (is_grant, ← same_Some _ s e) (grant.1, authorize, end_found grant.1 end is_end))))
+    found_then (leading_grant tokens) _ _ e (λ grant grant_is e. found_then (end_left grant.1) _ _ e (λ end is_end e.
+    grant_then tokens grant.0 grant.1 grant_is (λ is_grant. rw (is_grant, ← same_Some _ s e) (grant.1, authorize, end_found grant.1 end is_end))))
 
-deauthorize_found : (tokens : List TokenKind) (s : Stmt) → deauthorize_at tokens ≡ Some s → IsRead (Keyword KDeauthorize ∷ tokens) s
-unfolding deauthorize_at
+deauthorize_found : (tokens : List TokenKind) (s : Stmt) → deauthorize_of tokens ≡ Some s → IsRead (Keyword KDeauthorize ∷ tokens) s
+unfolding deauthorize_of
 deauthorize_found tokens s e =
-    step (grant_at tokens) _ _ e (λ grant grant_is e. step (end_at grant.1) _ _ e (λ end is_end e.
-    grant_step tokens grant.0 grant.1 grant_is (λ is_grant. rw (is_grant, ← same_Some _ s e) (grant.1, deauthorize, end_found grant.1 end is_end))))
+    found_then (leading_grant tokens) _ _ e (λ grant grant_is e. found_then (end_left grant.1) _ _ e (λ end is_end e.
+    grant_then tokens grant.0 grant.1 grant_is (λ is_grant. rw (is_grant, ← same_Some _ s e) (grant.1, deauthorize, end_found grant.1 end is_end))))
 
-allow_found : (tokens : List TokenKind) (s : Stmt) → allow_at tokens ≡ Some s → IsRead (Keyword KAllow ∷ tokens) s
-unfolding allow_at
+allow_found : (tokens : List TokenKind) (s : Stmt) → allow_of tokens ≡ Some s → IsRead (Keyword KAllow ∷ tokens) s
+unfolding allow_of
 allow_found tokens s e =
-    step (rule_at tokens) _ _ e (λ rule rule_is e. step (with_at rule.1) _ _ e (λ item item_is e. step (end_at item.1) _ _ e (λ end is_end e.
-    rule_step tokens rule.0 rule.1 rule_is (λ named is_rule are_names.
-    rw (is_rule, ← same_Some _ s e) (item.1, allow are_names (with_found rule.1 item.0 item.1 item_is), end_found item.1 end is_end)))))
+    found_then (leading_disclosure tokens) _ _ e (λ rule rule_is e. found_then (leading_item rule.1) _ _ e (λ item item_is e.
+    found_then (leading_retention item.1) _ _ e (λ days days_is e. found_then (end_left days.1) _ _ e (λ end is_end e.
+    disclosure_then tokens rule.0 rule.1 rule_is (λ named is_rule are_names.
+    rw (is_rule, ← same_Some _ s e) (days.1, allow are_names (with_found rule.1 item.0 item.1 item_is) (retention_found item.1 days.0 days.1 days_is), end_found days.1 end is_end))))))
 
-revoke_found : (tokens : List TokenKind) (s : Stmt) → revoke_at tokens ≡ Some s → IsRead (Keyword KRevoke ∷ tokens) s
-unfolding revoke_at
+revoke_found : (tokens : List TokenKind) (s : Stmt) → revoke_of tokens ≡ Some s → IsRead (Keyword KRevoke ∷ tokens) s
+unfolding revoke_of
 revoke_found tokens s e =
-    step (rule_at tokens) _ _ e (λ rule rule_is e. step (end_at rule.1) _ _ e (λ end is_end e.
-    rule_step tokens rule.0 rule.1 rule_is (λ named is_rule are_names.
+    found_then (leading_disclosure tokens) _ _ e (λ rule rule_is e. found_then (end_left rule.1) _ _ e (λ end is_end e.
+    disclosure_then tokens rule.0 rule.1 rule_is (λ named is_rule are_names.
     rw (is_rule, ← same_Some _ s e) (rule.1, revoke are_names, end_found rule.1 end is_end))))
 
-answer_step : {P : Type 0} (tokens : List TokenKind) (yes_said : Bool) (rest : List TokenKind) → answer_at tokens ≡ Some (yes_said, rest) →
+yes_or_no_then : {P : Type 0} (tokens : List TokenKind) (yes_said : Bool) (rest : List TokenKind) → leading_yes_or_no tokens ≡ Some (yes_said, rest) →
     (tokens ≡ Keyword KYes ∷ rest → yes_said ≡ true → P) → (tokens ≡ Keyword KNo ∷ rest → yes_said ≡ false → P) → P
-answer_step tokens yes_said rest e agreed refused =
+yes_or_no_then tokens yes_said rest e agreed refused =
     keyword_choice KYes tokens _ _ _ e
     (λ left is_yes e. let whole = some_pair_parts true yes_said left rest e in agreed (rw (is_yes, whole.1) refl) (sym whole.0))
-    (λ _ e. keyword_step KNo tokens _ _ e (λ left is_no e. let whole = some_pair_parts false yes_said left rest e in refused (rw (is_no, whole.1) refl) (sym whole.0)))
+    (λ _ e. keyword_then KNo tokens _ _ e (λ left is_no e. let whole = some_pair_parts false yes_said left rest e in refused (rw (is_no, whole.1) refl) (sym whole.0)))
 
-choice_found : (tokens : List TokenKind) (s : Stmt) → choice_at tokens ≡ Some s → IsRead (Keyword KChoice ∷ tokens) s
-unfolding choice_at
+choice_found : (tokens : List TokenKind) (s : Stmt) → choice_of tokens ≡ Some s → IsRead (Keyword KChoice ∷ tokens) s
+unfolding choice_of
 choice_found tokens s e =
-    step (number_at tokens) _ _ e (λ n n_is e.
-    keyword_step KOn n.1 _ _ e (λ a is_on e.
-    name_step a _ _ e (λ item b is_item e.
-    keyword_step KIs b _ _ e (λ c is_is e.
-    step (answer_at c) _ _ e (λ answer answer_is e.
-    step (end_at answer.1) _ _ e (λ end is_end e.
+    found_then (leading_number tokens) _ _ e (λ n n_is e.
+    keyword_then KOn n.1 _ _ e (λ a is_on e.
+    name_then a _ _ e (λ item b is_item e.
+    keyword_then KIs b _ _ e (λ c is_is e.
+    found_then (leading_yes_or_no c) _ _ e (λ answer answer_is e.
+    found_then (end_left answer.1) _ _ e (λ end is_end e.
     let is_number = number_found tokens n.0 n.1 n_is in
-    answer_step c answer.0 answer.1 answer_is
+    yes_or_no_then c answer.0 answer.1 answer_is
     (λ is_yes is_true. rw (is_number, is_on, is_item, is_is, is_yes, ← same_Some _ s e, is_true) (answer.1, choice_yes, end_found answer.1 end is_end))
     (λ is_no is_false. rw (is_number, is_on, is_item, is_is, is_no, ← same_Some _ s e, is_false) (answer.1, choice_no, end_found answer.1 end is_end))))))))
 
-insert_found : (tokens : List TokenKind) (s : Stmt) → insert_at tokens ≡ Some s → IsRead (Keyword KInsert ∷ tokens) s
-unfolding insert_at
+insert_found : (tokens : List TokenKind) (s : Stmt) → insert_of tokens ≡ Some s → IsRead (Keyword KInsert ∷ tokens) s
+unfolding insert_of
 insert_found tokens s e =
-    keyword_step KInto tokens _ _ e (λ a is_into e.
-    name_step a _ _ e (λ table b is_table e.
-    keyword_step KValues b _ _ e (λ c is_values e.
-    symbol_step LeftParen c _ _ e (λ inside is_open e.
-    step (list_at literal_at (after_symbol Comma) inside) _ _ e (λ values values_is e.
-    symbol_step RightParen values.1 _ _ e (λ rest is_close e.
-    step (end_at rest) _ _ e (λ end is_end e.
+    keyword_then KInto tokens _ _ e (λ a is_into e.
+    name_then a _ _ e (λ table b is_table e.
+    keyword_then KValues b _ _ e (λ c is_values e.
+    symbol_then LeftParen c _ _ e (λ inside is_open e.
+    found_then (leading_list leading_literal (after_symbol Comma) inside) _ _ e (λ values values_is e.
+    symbol_then RightParen values.1 _ _ e (λ rest is_close e.
+    found_then (end_left rest) _ _ e (λ end is_end e.
     let are_values : IsListOf IsLiteral (Symbol Comma) inside values.0 (Symbol RightParen ∷ rest) = rw is_close at (literals_found inside values.0 values.1 values_is) in
     rw (is_into, is_table, is_values, is_open, ← same_Some _ s e) (rest, insert are_values, end_found rest end is_end))))))))
 
-update_found : (tokens : List TokenKind) (s : Stmt) → update_at tokens ≡ Some s → IsRead (Keyword KUpdate ∷ tokens) s
-unfolding update_at
+update_found : (tokens : List TokenKind) (s : Stmt) → update_of tokens ≡ Some s → IsRead (Keyword KUpdate ∷ tokens) s
+unfolding update_of
 update_found tokens s e =
-    name_step tokens _ _ e (λ table a is_table e.
-    keyword_step KSet a _ _ e (λ b is_set e.
-    step (list_at assignment_at (after_symbol Comma) b) _ _ e (λ settings settings_is e.
-    keyword_step KWhere settings.1 _ _ e (λ c is_where e.
-    step (list_at assignment_at (after_keyword KAnd) c) _ _ e (λ keys keys_is e.
-    step (end_at keys.1) _ _ e (λ end is_end e.
+    name_then tokens _ _ e (λ table a is_table e.
+    keyword_then KSet a _ _ e (λ b is_set e.
+    found_then (leading_list leading_assignment (after_symbol Comma) b) _ _ e (λ settings settings_is e.
+    keyword_then KWhere settings.1 _ _ e (λ c is_where e.
+    found_then (leading_list leading_assignment (after_keyword KAnd) c) _ _ e (λ keys keys_is e.
+    found_then (end_left keys.1) _ _ e (λ end is_end e.
     let are_settings : AreSettings b settings.0 (Keyword KWhere ∷ c) = rw is_where at (settings_found b settings.0 settings.1 settings_is) in
     rw (is_table, is_set) (keys.1, update are_settings (keys_found c keys.0 keys.1 keys_is) (sym (same_Some _ s e)), end_found keys.1 end is_end)))))))
 
-delete_found : (tokens : List TokenKind) (s : Stmt) → delete_at tokens ≡ Some s → IsRead (Keyword KDelete ∷ tokens) s
-unfolding delete_at
+delete_found : (tokens : List TokenKind) (s : Stmt) → delete_of tokens ≡ Some s → IsRead (Keyword KDelete ∷ tokens) s
+unfolding delete_of
 delete_found tokens s e =
-    keyword_step KFrom tokens _ _ e (λ a is_from e.
-    name_step a _ _ e (λ table b is_table e.
-    keyword_step KWhere b _ _ e (λ c is_where e.
-    step (list_at assignment_at (after_keyword KAnd) c) _ _ e (λ keys keys_is e.
-    step (end_at keys.1) _ _ e (λ end is_end e.
+    keyword_then KFrom tokens _ _ e (λ a is_from e.
+    name_then a _ _ e (λ table b is_table e.
+    keyword_then KWhere b _ _ e (λ c is_where e.
+    found_then (leading_list leading_assignment (after_keyword KAnd) c) _ _ e (λ keys keys_is e.
+    found_then (end_left keys.1) _ _ e (λ end is_end e.
     rw (is_from, is_table, is_where) (keys.1, delete (keys_found c keys.0 keys.1 keys_is) (sym (same_Some _ s e)), end_found keys.1 end is_end))))))
 
-explain_found : (tokens : List TokenKind) (s : Stmt) → explain_at tokens ≡ Some s → IsRead (Keyword KExplain ∷ tokens) s
-unfolding explain_at
+explain_found : (tokens : List TokenKind) (s : Stmt) → explain_of tokens ≡ Some s → IsRead (Keyword KExplain ∷ tokens) s
+unfolding explain_of
 explain_found tokens s e =
-    step (number_at tokens) _ _ e (λ n n_is e. step (end_at n.1) _ _ e (λ end is_end e.
+    found_then (leading_number tokens) _ _ e (λ n n_is e. found_then (end_left n.1) _ _ e (λ end is_end e.
     rw (number_found tokens n.0 n.1 n_is, ← same_Some _ s e) (n.1, explain, end_found n.1 end is_end)))
 
-begin_audit_found : (tokens : List TokenKind) (s : Stmt) → begin_audit_at tokens ≡ Some s → IsRead (Keyword KBegin ∷ tokens) s
-unfolding begin_audit_at
+begin_audit_found : (tokens : List TokenKind) (s : Stmt) → begin_audit_of tokens ≡ Some s → IsRead (Keyword KBegin ∷ tokens) s
+unfolding begin_audit_of
 begin_audit_found tokens s e =
-    keyword_step KAudit tokens _ _ e (λ behind is_audit e.
-    step (audit_at behind) _ _ e (λ a a_is e.
-    step (end_at a.1) _ _ e (λ end is_end e.
+    keyword_then KAudit tokens _ _ e (λ behind is_audit e.
+    found_then (leading_audit behind) _ _ e (λ a a_is e.
+    found_then (end_left a.1) _ _ e (λ end is_end e.
     rw (is_audit, ← same_Some _ s e) (a.1, begin_audit (auditing.found behind a.0 a.1 a_is), end_found a.1 end is_end))))
+
+watch_found : (tokens : List TokenKind) (s : Stmt) → watch_of tokens ≡ Some s → IsRead (Word (codes "watch") ∷ tokens) s
+unfolding watch_of
+watch_found tokens s e =
+    found_then (leading_audit tokens) _ _ e (λ a a_is e. found_then (end_left a.1) _ _ e (λ end is_end e.
+    rw (← same_Some _ s e) (a.1, watch (auditing.found tokens a.0 a.1 a_is), end_found a.1 end is_end)))
 
 console_behind_found : (word : words.Keyword) (tokens : List TokenKind) (s : Stmt) → console_behind word tokens ≡ Some s → IsRead (Keyword word ∷ tokens) s
 unfolding console_behind
@@ -189,35 +197,38 @@ console_behind_found KExplain tokens s e = explain_found tokens s e
 console_behind_found KBegin tokens s e = begin_audit_found tokens s e
 console_behind_found _ tokens s e = absurd (none-some s e)
 
-console_by_found : (tokens : List TokenKind) (s : Stmt) → console_by tokens ≡ Some s → IsRead tokens s
-console_by_found (Keyword word ∷ behind) s e = console_behind_found word behind s e
-console_by_found _ s e = absurd (none-some s e)
+console_by_keyword_found : (tokens : List TokenKind) (s : Stmt) → console_by_keyword tokens ≡ Some s → IsRead tokens s
+console_by_keyword_found (Keyword word ∷ behind) s e = console_behind_found word behind s e
+console_by_keyword_found _ s e = absurd (none-some s e)
 
 -- what is found is a statement of the console
-pub console_found : (tokens : List TokenKind) (s : Stmt) → console_at tokens ≡ Some s → IsRead tokens s
-unfolding console_at audit_statement_at
+pub console_found : (tokens : List TokenKind) (s : Stmt) → console_of tokens ≡ Some s → IsRead tokens s
+unfolding console_of audit_of
 console_found tokens s e =
     keyword_choice KDuring tokens _ _ _ e
-    (λ _ _ e. step (audit_at tokens) _ _ e (λ a a_is e. step (end_at a.1) _ _ e (λ end is_end e.
+    (λ _ _ e. found_then (leading_audit tokens) _ _ e (λ a a_is e. found_then (end_left a.1) _ _ e (λ end is_end e.
     rw (← same_Some _ s e) (a.1, audit (auditing.found tokens a.0 a.1 a_is), end_found a.1 end is_end))))
-    (λ _ e. console_by_found tokens s e)
+    (λ _ e. word_choice (codes "watch") tokens _ _ _ e
+    (λ behind is_watch e. rw is_watch (watch_found behind s e))
+    (λ _ e. console_by_keyword_found tokens s e))
 
 -- what the end of a statement is not
 pub record Follows (rest : List TokenKind) : Type 0 where
   pub audit_ends : auditing.AuditEnds rest
   pub no_and : after_keyword KAnd rest ≡ None
   pub no_with : after_keyword KWith rest ≡ None
+  pub no_retain : after_word (codes "retain") rest ≡ None
 
 pub end_follows : (rest : List TokenKind) → IsEnd rest → Follows rest
-end_follows rest nothing = record { audit_ends = record { condition_ends = record { no_dot = refl; no_and = refl; no_or = refl }; no_comma = refl; no_where = refl }; no_and = refl; no_with = refl }
-end_follows rest semicolon = record { audit_ends = record { condition_ends = record { no_dot = refl; no_and = refl; no_or = refl }; no_comma = refl; no_where = refl }; no_and = refl; no_with = refl }
+end_follows rest nothing = record { audit_ends = record { condition_ends = record { no_dot = refl; no_and = refl; no_or = refl }; no_comma = refl; no_where = refl }; no_and = refl; no_with = refl; no_retain = refl }
+end_follows rest semicolon = record { audit_ends = record { condition_ends = record { no_dot = refl; no_and = refl; no_or = refl }; no_comma = refl; no_where = refl }; no_and = refl; no_with = refl; no_retain = refl }
 
 audit_during : (tokens : List TokenKind) (a : RawAudit) (rest : List TokenKind) → IsAudit tokens a rest → (behind : List TokenKind) × (after_keyword KDuring tokens ≡ Some behind)
-audit_during _ a rest (audits.audit e cs ts w is) = (_, refl)
+audit_during _ a rest (audits.audit e s cs ts w is) = (_, refl)
 
 -- each statement of the console is found
-pub console_complete : (tokens : List TokenKind) (s : Stmt) (rest : List TokenKind) → IsConsole tokens s rest → IsEnd rest → console_at tokens ≡ Some s
-unfolding console_at console_behind create_at create_table_at create_purpose_at create_recipient_at create_item_at authorize_at deauthorize_at grant_at allow_at revoke_at rule_at choice_at insert_at update_at delete_at explain_at audit_statement_at begin_audit_at
+pub console_complete : (tokens : List TokenKind) (s : Stmt) (rest : List TokenKind) → IsConsole tokens s rest → IsEnd rest → console_of tokens ≡ Some s
+unfolding console_of console_behind create_of create_table_of create_purpose_of create_recipient_of create_item_of authorize_of deauthorize_of leading_grant allow_of revoke_of leading_disclosure choice_of insert_of update_of delete_of explain_of audit_of begin_audit_of watch_of
 console_complete _ _ rest (create_table {columns = columns} {key = key} {subject = subject} {defs = defs} {keys = keys} {behind = behind} are_defs are_names is_subject) end =
     rw (column_defs_complete defs columns _ are_defs refl refl, names_whole keys key behind are_names, subject_complete behind subject (Symbol RightParen ∷ rest) is_subject refl, end_complete rest end) refl
 console_complete _ _ rest create_purpose end = rw (end_complete rest end) refl
@@ -226,8 +237,9 @@ console_complete _ _ rest create_opt_in end = rw (end_complete rest end) refl
 console_complete _ _ rest create_opt_out end = rw (end_complete rest end) refl
 console_complete _ _ rest authorize end = rw (end_complete rest end) refl
 console_complete _ _ rest deauthorize end = rw (end_complete rest end) refl
-console_complete _ _ rest (allow {columns = columns} {item = item} {named = named} {behind = behind} are_names is_with) end =
-    rw (names_whole named columns behind are_names, with_complete behind item rest is_with (end_follows rest end).no_with, end_complete rest end) refl
+console_complete _ _ rest (allow {columns = columns} {item = item} {days = days} {named = named} {behind = behind} {kept = kept} are_names is_with is_retention) end =
+    let follows = end_follows rest end in
+    rw (names_whole named columns behind are_names, with_complete behind item kept is_with (retention-no_with kept days rest is_retention follows.no_with), retention_complete kept days rest is_retention follows.no_retain, end_complete rest end) refl
 console_complete _ _ rest (revoke {columns = columns} {named = named} are_names) end = rw (names_whole named columns rest are_names, end_complete rest end) refl
 console_complete _ _ rest choice_yes end = rw (end_complete rest end) refl
 console_complete _ _ rest choice_no end = rw (end_complete rest end) refl
@@ -242,26 +254,35 @@ console_complete tokens _ rest (audit {a = a} is_audit) end =
     rw (during.1, auditing.complete tokens a rest is_audit (end_follows rest end).audit_ends, end_complete rest end) refl
 console_complete _ _ rest (begin_audit {a = a} {tokens = tokens} is_audit) end =
     rw (auditing.complete tokens a rest is_audit (end_follows rest end).audit_ends, end_complete rest end) refl
+console_complete _ _ rest (watch {a = a} {tokens = tokens} is_audit) end =
+    rw (auditing.complete tokens a rest is_audit (end_follows rest end).audit_ends, end_complete rest end) refl
 
-audit-no_open : (tokens : List TokenKind) (a : RawAudit) (rest : List TokenKind) → IsAudit tokens a rest → (after_keyword KOpen tokens ≡ None) × (after_keyword KSelect tokens ≡ None)
-audit-no_open _ a rest (audits.audit e cs ts w is) = (refl, refl)
+-- the tokens begin neither with OPEN nor with SELECT nor with EXTRACT
+pub record NoSelect (tokens : List TokenKind) : Type 0 where
+  pub no_open : after_keyword KOpen tokens ≡ None
+  pub no_select : after_keyword KSelect tokens ≡ None
+  pub no_extract : after_word (codes "extract") tokens ≡ None
 
--- a statement of the console begins neither with OPEN nor with SELECT
-pub console-no_open : (tokens : List TokenKind) (s : Stmt) (rest : List TokenKind) → IsConsole tokens s rest → (after_keyword KOpen tokens ≡ None) × (after_keyword KSelect tokens ≡ None)
-console-no_open tokens s rest (create_table a b c) = (refl, refl)
-console-no_open tokens s rest create_purpose = (refl, refl)
-console-no_open tokens s rest create_recipient = (refl, refl)
-console-no_open tokens s rest create_opt_in = (refl, refl)
-console-no_open tokens s rest create_opt_out = (refl, refl)
-console-no_open tokens s rest authorize = (refl, refl)
-console-no_open tokens s rest deauthorize = (refl, refl)
-console-no_open tokens s rest (allow a b) = (refl, refl)
-console-no_open tokens s rest (revoke a) = (refl, refl)
-console-no_open tokens s rest choice_yes = (refl, refl)
-console-no_open tokens s rest choice_no = (refl, refl)
-console-no_open tokens s rest (insert a) = (refl, refl)
-console-no_open tokens s rest (update a b e) = (refl, refl)
-console-no_open tokens s rest (delete a e) = (refl, refl)
-console-no_open tokens s rest explain = (refl, refl)
-console-no_open tokens s rest (audit {a = a} is_audit) = audit-no_open tokens a rest is_audit
-console-no_open tokens s rest (begin_audit is_audit) = (refl, refl)
+audit-no_select : (tokens : List TokenKind) (a : RawAudit) (rest : List TokenKind) → IsAudit tokens a rest → NoSelect tokens
+audit-no_select _ a rest (audits.audit e s cs ts w is) = record { no_open = refl; no_select = refl; no_extract = refl }
+
+-- no statement of the console begins so
+pub console-no_select : (tokens : List TokenKind) (s : Stmt) (rest : List TokenKind) → IsConsole tokens s rest → NoSelect tokens
+console-no_select _ s rest (create_table a b c) = record { no_open = refl; no_select = refl; no_extract = refl }
+console-no_select _ s rest create_purpose = record { no_open = refl; no_select = refl; no_extract = refl }
+console-no_select _ s rest create_recipient = record { no_open = refl; no_select = refl; no_extract = refl }
+console-no_select _ s rest create_opt_in = record { no_open = refl; no_select = refl; no_extract = refl }
+console-no_select _ s rest create_opt_out = record { no_open = refl; no_select = refl; no_extract = refl }
+console-no_select _ s rest authorize = record { no_open = refl; no_select = refl; no_extract = refl }
+console-no_select _ s rest deauthorize = record { no_open = refl; no_select = refl; no_extract = refl }
+console-no_select _ s rest (allow a b c) = record { no_open = refl; no_select = refl; no_extract = refl }
+console-no_select _ s rest (revoke a) = record { no_open = refl; no_select = refl; no_extract = refl }
+console-no_select _ s rest choice_yes = record { no_open = refl; no_select = refl; no_extract = refl }
+console-no_select _ s rest choice_no = record { no_open = refl; no_select = refl; no_extract = refl }
+console-no_select _ s rest (insert a) = record { no_open = refl; no_select = refl; no_extract = refl }
+console-no_select _ s rest (update a b e) = record { no_open = refl; no_select = refl; no_extract = refl }
+console-no_select _ s rest (delete a e) = record { no_open = refl; no_select = refl; no_extract = refl }
+console-no_select _ s rest explain = record { no_open = refl; no_select = refl; no_extract = refl }
+console-no_select tokens s rest (audit {a = a} is_audit) = audit-no_select tokens a rest is_audit
+console-no_select _ s rest (begin_audit is_audit) = record { no_open = refl; no_select = refl; no_extract = refl }
+console-no_select _ s rest (watch is_audit) = record { no_open = refl; no_select = refl; no_extract = refl }

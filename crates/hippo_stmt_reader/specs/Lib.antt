@@ -1,2 +1,2 @@
-pub mod Statements
-pub mod Stating
+pub mod StatementGrammar
+pub mod StatementFinder

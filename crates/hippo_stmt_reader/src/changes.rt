@@ -1,46 +1,39 @@
+//! INSERT, UPDATE and DELETE.
 ghost use Rattle.std.specs.Prelude.{◌≡◌, ◌<◌, length, map, IfOk};
-ghost use Rattle.hippo_spj_reader.specs.Answers.{Gives};
+ghost use Rattle.hippo_spj_reader.specs.Promises.{Gives, Reads};
 ghost use Rattle.hippo_spj_reader.specs.Front.{kinds};
-ghost use Rattle.hippo_stmt_reader.specs.Statements.{columns_of, values_of};
-ghost use Rattle.hippo_stmt_reader.specs.Stating.{assignment_at, insert_at, update_at, delete_at};
+ghost use Rattle.hippo_stmt_reader.specs.StatementGrammar.{columns_of, values_of};
+ghost use Rattle.hippo_stmt_reader.specs.StatementFinder.{leading_assignment, insert_of, update_of, delete_of};
 
-use crate::parts::ended;
+use crate::parts::with_end;
 use hippo_lexer::{Keyword, Symbol, SyntaxFault, Token};
 use hippo_model::{Cells, Names, Stmt};
 use hippo_spj_reader::{
-    Listed, after_keyword, after_symbol, expect_keyword, expect_symbol, list, literal, name,
+    Commas, Part, Separator, after_keyword, expect_keyword, expect_symbol, list, literal, name,
 };
 use hippo_values::{Memory, Name, Sequence, Value};
 use std::alloc::Global;
 
-/// The rule of the values of INSERT.
-struct LiteralList;
+// The rule of a literal.
+struct LiteralPart;
 
-impl Listed for LiteralList {
-    ghost use Rattle.hippo_lexer.specs.declared.kinds.Symbol.TheVariants.{Comma};
-    ghost use Rattle.hippo_spj_reader.specs.Front.{after_symbol, literal_at};
+impl Part for LiteralPart {
+    ghost use Rattle.hippo_spj_reader.specs.Front.{leading_literal};
 
-    type Part = Value;
+    type Reading = Value;
 
-    ghost part_at = { literal_at };
+    ghost leading = { leading_literal };
 
-    ghost next_at = { after_symbol Comma };
-
-    fn part(alloc: Global, tokens: &[Token]) -> Result<(Value, &[Token]), SyntaxFault> {
+    fn read(alloc: Global, tokens: &[Token]) -> Result<(Value, &[Token]), SyntaxFault> {
         literal(alloc, tokens)
-    }
-
-    fn next(tokens: &[Token]) -> Option<&[Token]> {
-        after_symbol(tokens, Symbol::Comma)
     }
 }
 
 type Assignment = (Name, Value);
 
-#[tactic(auto, unfolding(crate::specs::Stating::assignment_at))]
+#[tactic(auto, unfolding(crate::specs::StatementFinder::leading_assignment))]
 fn assignment(alloc: Global, tokens: &[Token]) -> Result<(Assignment, &[Token]), SyntaxFault>
-    ensures found { Gives (λ x. (x.0, kinds x.1.now)) result (assignment_at (kinds tokens.now)) }
-    ensures shorter { IfOk result (λ x. length x.1.now < length tokens.now) }
+    ensures { Reads leading_assignment tokens.now result }
 {
     let (column, rest) = name(alloc, tokens)?;
     let rest = expect_symbol(rest, Symbol::Equal)?;
@@ -48,48 +41,31 @@ fn assignment(alloc: Global, tokens: &[Token]) -> Result<(Assignment, &[Token]),
     Ok(((column, value), rest))
 }
 
-/// The rule of what SET writes.
-struct SettingList;
+// The rule of `c = literal`.
+struct AssignmentPart;
 
-impl Listed for SettingList {
-    ghost use Rattle.hippo_lexer.specs.declared.kinds.Symbol.TheVariants.{Comma};
-    ghost use Rattle.hippo_spj_reader.specs.Front.{after_symbol};
-    ghost use Rattle.hippo_stmt_reader.specs.Stating.{assignment_at};
+impl Part for AssignmentPart {
+    ghost use Rattle.hippo_stmt_reader.specs.StatementFinder.{leading_assignment};
 
-    type Part = Assignment;
+    type Reading = Assignment;
 
-    ghost part_at = { assignment_at };
+    ghost leading = { leading_assignment };
 
-    ghost next_at = { after_symbol Comma };
-
-    fn part(alloc: Global, tokens: &[Token]) -> Result<(Assignment, &[Token]), SyntaxFault> {
+    fn read(alloc: Global, tokens: &[Token]) -> Result<(Assignment, &[Token]), SyntaxFault> {
         assignment(alloc, tokens)
-    }
-
-    fn next(tokens: &[Token]) -> Option<&[Token]> {
-        after_symbol(tokens, Symbol::Comma)
     }
 }
 
-/// The rule of the keys behind WHERE.
-struct KeyList;
+// AND between keys.
+struct Ands;
 
-impl Listed for KeyList {
+impl Separator for Ands {
     ghost use Rattle.hippo_values.specs.declared.keywords.Keyword.TheVariants.{KAnd};
     ghost use Rattle.hippo_spj_reader.specs.Front.{after_keyword};
-    ghost use Rattle.hippo_stmt_reader.specs.Stating.{assignment_at};
 
-    type Part = Assignment;
+    ghost after = { after_keyword KAnd };
 
-    ghost part_at = { assignment_at };
-
-    ghost next_at = { after_keyword KAnd };
-
-    fn part(alloc: Global, tokens: &[Token]) -> Result<(Assignment, &[Token]), SyntaxFault> {
-        assignment(alloc, tokens)
-    }
-
-    fn next(tokens: &[Token]) -> Option<&[Token]> {
+    fn pass(tokens: &[Token]) -> Option<&[Token]> {
         after_keyword(tokens, Keyword::KAnd)
     }
 }
@@ -111,32 +87,32 @@ fn columns_and_values(
 }
 
 /// The statement that the tokens behind INSERT have to be.
-#[tactic(auto, unfolding(crate::specs::Stating::insert_at))]
+#[tactic(auto, unfolding(crate::specs::StatementFinder::insert_of))]
 pub fn insert(alloc: Global, tokens: &[Token]) -> Result<Stmt, SyntaxFault>
-    ensures { Gives (λ stmt. stmt) result (insert_at (kinds tokens.now)) }
+    ensures { Gives (λ s. s) result (insert_of (kinds tokens.now)) }
 {
     let rest = expect_keyword(tokens, Keyword::KInto)?;
     let (table, rest) = name(alloc, rest)?;
     let rest = expect_keyword(rest, Keyword::KValues)?;
     let rest = expect_symbol(rest, Symbol::LeftParen)?;
-    let (values, rest) = list::<LiteralList>(alloc, rest)?;
+    let (values, rest) = list::<LiteralPart, Commas>(alloc, rest)?;
     let rest = expect_symbol(rest, Symbol::RightParen)?;
-    ended(Stmt::Insert { table, values }, rest)
+    with_end(Stmt::Insert { table, values }, rest)
 }
 
 /// The statement that the tokens behind UPDATE have to be.
-#[tactic(auto, unfolding(crate::specs::Stating::update_at))]
+#[tactic(auto, unfolding(crate::specs::StatementFinder::update_of))]
 pub fn update(alloc: Global, tokens: &[Token]) -> Result<Stmt, SyntaxFault>
-    ensures { Gives (λ stmt. stmt) result (update_at (kinds tokens.now)) }
+    ensures { Gives (λ s. s) result (update_of (kinds tokens.now)) }
 {
     let (table, rest) = name(alloc, tokens)?;
     let rest = expect_keyword(rest, Keyword::KSet)?;
-    let (settings, rest) = list::<SettingList>(alloc, rest)?;
+    let (settings, rest) = list::<AssignmentPart, Commas>(alloc, rest)?;
     let rest = expect_keyword(rest, Keyword::KWhere)?;
-    let (keys, rest) = list::<KeyList>(alloc, rest)?;
+    let (keys, rest) = list::<AssignmentPart, Ands>(alloc, rest)?;
     let (columns, values) = columns_and_values(alloc, settings)?;
     let (key_columns, key_values) = columns_and_values(alloc, keys)?;
-    ended(
+    with_end(
         Stmt::Update {
             table,
             columns,
@@ -149,16 +125,16 @@ pub fn update(alloc: Global, tokens: &[Token]) -> Result<Stmt, SyntaxFault>
 }
 
 /// The statement that the tokens behind DELETE have to be.
-#[tactic(auto, unfolding(crate::specs::Stating::delete_at))]
+#[tactic(auto, unfolding(crate::specs::StatementFinder::delete_of))]
 pub fn delete(alloc: Global, tokens: &[Token]) -> Result<Stmt, SyntaxFault>
-    ensures { Gives (λ stmt. stmt) result (delete_at (kinds tokens.now)) }
+    ensures { Gives (λ s. s) result (delete_of (kinds tokens.now)) }
 {
     let rest = expect_keyword(tokens, Keyword::KFrom)?;
     let (table, rest) = name(alloc, rest)?;
     let rest = expect_keyword(rest, Keyword::KWhere)?;
-    let (keys, rest) = list::<KeyList>(alloc, rest)?;
+    let (keys, rest) = list::<AssignmentPart, Ands>(alloc, rest)?;
     let (key_columns, key_values) = columns_and_values(alloc, keys)?;
-    ended(
+    with_end(
         Stmt::Delete {
             table,
             key_columns,

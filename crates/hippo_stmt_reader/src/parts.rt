@@ -1,29 +1,28 @@
+//! Parts that several statements have.
 ghost use Rattle.std.specs.Prelude.{◌≡◌, ◌<◌, ◌≤◌, length, option_map, IfOk, IfSome};
-ghost use Rattle.hippo_spj_reader.specs.Answers.{Gives};
+ghost use Rattle.hippo_spj_reader.specs.Promises.{Gives, Reads};
 ghost use Rattle.hippo_spj_reader.specs.Front.{kinds};
-ghost use Rattle.hippo_stmt_reader.specs.Stating.{names_at, number_at, nothing_at, end_at, ended_at};
+ghost use Rattle.hippo_stmt_reader.specs.StatementFinder.{leading_names, leading_number, nothing_left, end_left, with_end};
 
 use hippo_lexer::{Symbol, SyntaxFault, Token, TokenKind};
 use hippo_model::Names;
-use hippo_spj_reader::{NameList, after_symbol, expect_symbol, list, split};
+use hippo_spj_reader::{Commas, NamePart, after_symbol, expect_symbol, list, split};
 use std::alloc::Global;
 
 /// The names in parentheses that have to stand first, and the tokens behind them.
-#[tactic(auto, unfolding(crate::specs::Stating::names_at))]
+#[tactic(auto, unfolding(crate::specs::StatementFinder::leading_names))]
 pub fn names(alloc: Global, tokens: &[Token]) -> Result<(Names, &[Token]), SyntaxFault>
-    ensures found { Gives (λ x. (x.0, kinds x.1.now)) result (names_at (kinds tokens.now)) }
-    ensures shorter { IfOk result (λ x. length x.1.now < length tokens.now) }
+    ensures { Reads leading_names tokens.now result }
 {
     let inside = expect_symbol(tokens, Symbol::LeftParen)?;
-    let (names, rest) = list::<NameList>(alloc, inside)?;
+    let (names, rest) = list::<NamePart, Commas>(alloc, inside)?;
     let rest = expect_symbol(rest, Symbol::RightParen)?;
     Ok((names, rest))
 }
 
 /// The number that has to stand first, and the tokens behind it.
 pub fn number(tokens: &[Token]) -> Result<(i64, &[Token]), SyntaxFault>
-    ensures found { Gives (λ x. (x.0, kinds x.1.now)) result (number_at (kinds tokens.now)) }
-    ensures shorter { IfOk result (λ x. length x.1.now < length tokens.now) }
+    ensures { Reads leading_number tokens.now result }
 {
     match split(tokens) {
         Some((TokenKind::Number(number), rest)) => Ok((*number, rest)),
@@ -32,7 +31,7 @@ pub fn number(tokens: &[Token]) -> Result<(i64, &[Token]), SyntaxFault>
 }
 
 fn nothing(tokens: &[Token]) -> Result<(), SyntaxFault>
-    ensures { Gives (λ x. x) result (nothing_at (kinds tokens.now)) }
+    ensures { Gives (λ x. x) result (nothing_left (kinds tokens.now)) }
 {
     if tokens.is_empty() {
         Ok(())
@@ -43,7 +42,7 @@ fn nothing(tokens: &[Token]) -> Result<(), SyntaxFault>
 
 // The end of a statement, with or without a `;` before it.
 fn end(tokens: &[Token]) -> Result<(), SyntaxFault>
-    ensures { Gives (λ x. x) result (end_at (kinds tokens.now)) }
+    ensures { Gives (λ x. x) result (end_left (kinds tokens.now)) }
 {
     match after_symbol(tokens, Symbol::Semicolon) {
         Some(rest) => nothing(rest),
@@ -52,8 +51,8 @@ fn end(tokens: &[Token]) -> Result<(), SyntaxFault>
 }
 
 /// What was read, where the statement ends behind it.
-pub fn ended<T: Drop>(read: T, tokens: &[Token]) -> Result<T, SyntaxFault>
-    ensures { Gives (λ x. x) result (ended_at read (kinds tokens.now)) }
+pub fn with_end<T: Drop>(read: T, tokens: &[Token]) -> Result<T, SyntaxFault>
+    ensures { Gives (λ x. x) result (with_end read (kinds tokens.now)) }
 {
     end(tokens)?;
     Ok(read)

@@ -1,12 +1,15 @@
+//! AUTHORIZE, DEAUTHORIZE, ALLOW, REVOKE and CHOICE.
 ghost use Rattle.std.specs.Prelude.{◌≡◌, ◌<◌, ◌≤◌, length, IfOk};
-ghost use Rattle.hippo_spj_reader.specs.Answers.{Gives};
+ghost use Rattle.hippo_spj_reader.specs.Promises.{Gives, Reads};
 ghost use Rattle.hippo_spj_reader.specs.Front.{kinds};
-ghost use Rattle.hippo_stmt_reader.specs.Stating.{grant_at, authorize_at, deauthorize_at, rule_at, with_at, allow_at, revoke_at, answer_at, choice_at};
+ghost use Rattle.hippo_stmt_reader.specs.StatementFinder.{leading_grant, authorize_of, deauthorize_of, leading_disclosure, leading_item, days_of, leading_retention, allow_of, revoke_of, leading_yes_or_no, choice_of};
 
-use crate::parts::{ended, names, number};
+use crate::parts::{names, number, with_end};
 use hippo_lexer::{Keyword, Symbol, SyntaxFault, Token};
 use hippo_model::{Names, Stmt};
-use hippo_spj_reader::{after_keyword, expect_keyword, expect_symbol, name};
+use hippo_spj_reader::{
+    after_keyword, after_word, expect_keyword, expect_symbol, expect_word, name,
+};
 use hippo_values::Name;
 use std::alloc::Global;
 
@@ -18,10 +21,9 @@ struct Grant {
     recipient: Name,
 }
 
-#[tactic(auto, unfolding(crate::specs::Stating::grant_at))]
+#[tactic(auto, unfolding(crate::specs::StatementFinder::leading_grant))]
 fn authorization(alloc: Global, tokens: &[Token]) -> Result<(Grant, &[Token]), SyntaxFault>
-    ensures found { Gives (λ x. ((x.0.user, x.0.purpose, x.0.recipient), kinds x.1.now)) result (grant_at (kinds tokens.now)) }
-    ensures shorter { IfOk result (λ x. length x.1.now < length tokens.now) }
+    ensures { Reads leading_grant tokens.now result }
 {
     let (user, rest) = name(alloc, tokens)?;
     let rest = expect_keyword(rest, Keyword::KFor)?;
@@ -39,9 +41,9 @@ fn authorization(alloc: Global, tokens: &[Token]) -> Result<(Grant, &[Token]), S
 }
 
 /// The statement that the tokens behind AUTHORIZE have to be.
-#[tactic(auto, unfolding(crate::specs::Stating::authorize_at))]
+#[tactic(auto, unfolding(crate::specs::StatementFinder::authorize_of))]
 pub fn authorize(alloc: Global, tokens: &[Token]) -> Result<Stmt, SyntaxFault>
-    ensures { Gives (λ stmt. stmt) result (authorize_at (kinds tokens.now)) }
+    ensures { Gives (λ s. s) result (authorize_of (kinds tokens.now)) }
 {
     let (grant, rest) = authorization(alloc, tokens)?;
     let Grant {
@@ -49,7 +51,7 @@ pub fn authorize(alloc: Global, tokens: &[Token]) -> Result<Stmt, SyntaxFault>
         purpose,
         recipient,
     } = grant;
-    ended(
+    with_end(
         Stmt::Authorize {
             user,
             purpose,
@@ -60,9 +62,9 @@ pub fn authorize(alloc: Global, tokens: &[Token]) -> Result<Stmt, SyntaxFault>
 }
 
 /// The statement that the tokens behind DEAUTHORIZE have to be.
-#[tactic(auto, unfolding(crate::specs::Stating::deauthorize_at))]
+#[tactic(auto, unfolding(crate::specs::StatementFinder::deauthorize_of))]
 pub fn deauthorize(alloc: Global, tokens: &[Token]) -> Result<Stmt, SyntaxFault>
-    ensures { Gives (λ stmt. stmt) result (deauthorize_at (kinds tokens.now)) }
+    ensures { Gives (λ s. s) result (deauthorize_of (kinds tokens.now)) }
 {
     let (grant, rest) = authorization(alloc, tokens)?;
     let Grant {
@@ -70,7 +72,7 @@ pub fn deauthorize(alloc: Global, tokens: &[Token]) -> Result<Stmt, SyntaxFault>
         purpose,
         recipient,
     } = grant;
-    ended(
+    with_end(
         Stmt::Deauthorize {
             user,
             purpose,
@@ -82,17 +84,16 @@ pub fn deauthorize(alloc: Global, tokens: &[Token]) -> Result<Stmt, SyntaxFault>
 
 // What ALLOW and REVOKE speak of.
 #[derive(Drop)]
-struct Rule {
+struct Disclosure {
     purpose: Name,
     recipient: Name,
     table: Name,
     columns: Names,
 }
 
-#[tactic(auto, unfolding(crate::specs::Stating::rule_at))]
-fn rule_on(alloc: Global, tokens: &[Token]) -> Result<(Rule, &[Token]), SyntaxFault>
-    ensures found { Gives (λ x. ((x.0.purpose, x.0.recipient, x.0.table, x.0.columns), kinds x.1.now)) result (rule_at (kinds tokens.now)) }
-    ensures shorter { IfOk result (λ x. length x.1.now < length tokens.now) }
+#[tactic(auto, unfolding(crate::specs::StatementFinder::leading_disclosure))]
+fn disclosed(alloc: Global, tokens: &[Token]) -> Result<(Disclosure, &[Token]), SyntaxFault>
+    ensures { Reads leading_disclosure tokens.now result }
 {
     let (purpose, rest) = name(alloc, tokens)?;
     let rest = expect_keyword(rest, Keyword::KTo)?;
@@ -101,7 +102,7 @@ fn rule_on(alloc: Global, tokens: &[Token]) -> Result<(Rule, &[Token]), SyntaxFa
     let (table, rest) = name(alloc, rest)?;
     let (columns, rest) = names(alloc, rest)?;
     Ok((
-        Rule {
+        Disclosure {
             purpose,
             recipient,
             table,
@@ -111,10 +112,9 @@ fn rule_on(alloc: Global, tokens: &[Token]) -> Result<(Rule, &[Token]), SyntaxFa
     ))
 }
 
-#[tactic(auto, unfolding(crate::specs::Stating::with_at))]
+#[tactic(auto, unfolding(crate::specs::StatementFinder::leading_item))]
 fn with_item(alloc: Global, tokens: &[Token]) -> Result<(Option<Name>, &[Token]), SyntaxFault>
-    ensures found { Gives (λ x. (x.0, kinds x.1.now)) result (with_at (kinds tokens.now)) }
-    ensures shorter { IfOk result (λ x. length x.1.now ≤ length tokens.now) }
+    ensures { Reads leading_item tokens.now result }
 {
     let Some(behind) = after_keyword(tokens, Keyword::KWith) else {
         return Ok((None, tokens));
@@ -123,44 +123,71 @@ fn with_item(alloc: Global, tokens: &[Token]) -> Result<(Option<Name>, &[Token])
     Ok((Some(item), rest))
 }
 
-/// The statement that the tokens behind ALLOW have to be.
-#[tactic(auto, unfolding(crate::specs::Stating::allow_at))]
-pub fn allow(alloc: Global, tokens: &[Token]) -> Result<Stmt, SyntaxFault>
-    ensures { Gives (λ stmt. stmt) result (allow_at (kinds tokens.now)) }
+/// For how many days a rule may show a row at the most.
+const MOST_DAYS: u32 = 36500;
+
+fn days_of(number: &i64) -> Option<u32>
+    ensures { result ≡ days_of number.now }
 {
-    let (rule, rest) = rule_on(alloc, tokens)?;
+    match u32::try_from(*number) {
+        Ok(days) if 0 < days && days <= MOST_DAYS => Some(days),
+        _ => None,
+    }
+}
+
+#[tactic(auto, unfolding(crate::specs::StatementFinder::leading_retention))]
+fn retention(tokens: &[Token]) -> Result<(Option<u32>, &[Token]), SyntaxFault>
+    ensures { Reads leading_retention tokens.now result }
+{
+    let Some(behind) = after_word(tokens, "retain") else {
+        return Ok((None, tokens));
+    };
+    let (number, rest) = number(behind)?;
+    let days = days_of(&number).ok_or(SyntaxFault::BadSyntax)?;
+    let rest = expect_word(rest, "days")?;
+    Ok((Some(days), rest))
+}
+
+/// The statement that the tokens behind ALLOW have to be.
+#[tactic(auto, unfolding(crate::specs::StatementFinder::allow_of))]
+pub fn allow(alloc: Global, tokens: &[Token]) -> Result<Stmt, SyntaxFault>
+    ensures { Gives (λ s. s) result (allow_of (kinds tokens.now)) }
+{
+    let (disclosure, rest) = disclosed(alloc, tokens)?;
     let (item, rest) = with_item(alloc, rest)?;
-    let Rule {
+    let (days, rest) = retention(rest)?;
+    let Disclosure {
         purpose,
         recipient,
         table,
         columns,
-    } = rule;
-    ended(
+    } = disclosure;
+    with_end(
         Stmt::Allow {
             purpose,
             recipient,
             table,
             columns,
             item,
+            days,
         },
         rest,
     )
 }
 
 /// The statement that the tokens behind REVOKE have to be.
-#[tactic(auto, unfolding(crate::specs::Stating::revoke_at))]
+#[tactic(auto, unfolding(crate::specs::StatementFinder::revoke_of))]
 pub fn revoke(alloc: Global, tokens: &[Token]) -> Result<Stmt, SyntaxFault>
-    ensures { Gives (λ stmt. stmt) result (revoke_at (kinds tokens.now)) }
+    ensures { Gives (λ s. s) result (revoke_of (kinds tokens.now)) }
 {
-    let (rule, rest) = rule_on(alloc, tokens)?;
-    let Rule {
+    let (disclosure, rest) = disclosed(alloc, tokens)?;
+    let Disclosure {
         purpose,
         recipient,
         table,
         columns,
-    } = rule;
-    ended(
+    } = disclosure;
+    with_end(
         Stmt::Revoke {
             purpose,
             recipient,
@@ -171,9 +198,8 @@ pub fn revoke(alloc: Global, tokens: &[Token]) -> Result<Stmt, SyntaxFault>
     )
 }
 
-fn answer(tokens: &[Token]) -> Result<(bool, &[Token]), SyntaxFault>
-    ensures found { Gives (λ x. (x.0, kinds x.1.now)) result (answer_at (kinds tokens.now)) }
-    ensures shorter { IfOk result (λ x. length x.1.now < length tokens.now) }
+fn yes_or_no(tokens: &[Token]) -> Result<(bool, &[Token]), SyntaxFault>
+    ensures { Reads leading_yes_or_no tokens.now result }
 {
     if let Some(rest) = after_keyword(tokens, Keyword::KYes) {
         return Ok((true, rest));
@@ -183,14 +209,14 @@ fn answer(tokens: &[Token]) -> Result<(bool, &[Token]), SyntaxFault>
 }
 
 /// The statement that the tokens behind CHOICE have to be.
-#[tactic(auto, unfolding(crate::specs::Stating::choice_at))]
+#[tactic(auto, unfolding(crate::specs::StatementFinder::choice_of))]
 pub fn choice(alloc: Global, tokens: &[Token]) -> Result<Stmt, SyntaxFault>
-    ensures { Gives (λ stmt. stmt) result (choice_at (kinds tokens.now)) }
+    ensures { Gives (λ s. s) result (choice_of (kinds tokens.now)) }
 {
     let (subject, rest) = number(tokens)?;
     let rest = expect_keyword(rest, Keyword::KOn)?;
     let (item, rest) = name(alloc, rest)?;
     let rest = expect_keyword(rest, Keyword::KIs)?;
-    let (yes, rest) = answer(rest)?;
-    ended(Stmt::Choice { subject, item, yes }, rest)
+    let (yes, rest) = yes_or_no(rest)?;
+    with_end(Stmt::Choice { subject, item, yes }, rest)
 }

@@ -1,13 +1,14 @@
+//! CREATE TABLE, PURPOSE, RECIPIENT and ITEM.
 ghost use Rattle.std.specs.Prelude.{◌≡◌, ◌<◌, ◌≤◌, length, option_map, IfOk, IfSome};
-ghost use Rattle.hippo_spj_reader.specs.Answers.{Gives};
+ghost use Rattle.hippo_spj_reader.specs.Promises.{Gives, Reads};
 ghost use Rattle.hippo_spj_reader.specs.Front.{kinds};
-ghost use Rattle.hippo_stmt_reader.specs.Stating.{column_kind_of, column_kind_at, column_def_at, next_column_at, subject_at, create_table_at, create_purpose_at, create_recipient_at, item_kind_at, create_item_at, create_at};
+ghost use Rattle.hippo_stmt_reader.specs.StatementFinder.{column_kind_of, leading_column_kind, leading_column_def, after_column, leading_subject, create_table_of, create_purpose_of, create_recipient_of, leading_item_kind, create_item_of, create_of};
 
-use crate::parts::{ended, names};
+use crate::parts::{with_end, names};
 use hippo_lexer::{Keyword, Symbol, SyntaxFault, Token, TokenKind};
 use hippo_model::{Column, ColumnKind, ItemKind, Stmt};
 use hippo_spj_reader::{
-    Listed, after_keyword, after_symbol, expect_keyword, expect_symbol, list, name, split,
+    Part, Separator, after_keyword, after_symbol, expect_keyword, expect_symbol, list, name, split,
 };
 use hippo_values::Name;
 use std::alloc::Global;
@@ -24,7 +25,7 @@ fn column_kind_of(keyword: Keyword) -> Option<ColumnKind>
 }
 
 fn column_kind(tokens: &[Token]) -> Option<(ColumnKind, &[Token])>
-    ensures found { option_map (λ x. (x.0, kinds x.1.now)) result ≡ column_kind_at (kinds tokens.now) }
+    ensures found { option_map (λ x. (x.0, kinds x.1.now)) result ≡ leading_column_kind (kinds tokens.now) }
     ensures shorter { IfSome result (λ x. length x.1.now < length tokens.now) }
 {
     match split(tokens)? {
@@ -33,10 +34,9 @@ fn column_kind(tokens: &[Token]) -> Option<(ColumnKind, &[Token])>
     }
 }
 
-#[tactic(auto, unfolding(crate::specs::Stating::column_def_at))]
+#[tactic(auto, unfolding(crate::specs::StatementFinder::leading_column_def))]
 fn column_def(alloc: Global, tokens: &[Token]) -> Result<(Column, &[Token]), SyntaxFault>
-    ensures found { Gives (λ x. (x.0, kinds x.1.now)) result (column_def_at (kinds tokens.now)) }
-    ensures shorter { IfOk result (λ x. length x.1.now < length tokens.now) }
+    ensures { Reads leading_column_def tokens.now result }
 {
     let (name, rest) = name(alloc, tokens)?;
     let (kind, rest) = column_kind(rest).ok_or(SyntaxFault::BadSyntax)?;
@@ -63,23 +63,30 @@ fn column_def(alloc: Global, tokens: &[Token]) -> Result<(Column, &[Token]), Syn
     ))
 }
 
-/// The rule of the columns of CREATE TABLE: the comma that PRIMARY KEY follows leads to no further one.
-struct ColumnList;
+// The rule of a column of CREATE TABLE.
+struct ColumnDefPart;
 
-impl Listed for ColumnList {
-    ghost use Rattle.hippo_stmt_reader.specs.Stating.{column_def_at, next_column_at};
+impl Part for ColumnDefPart {
+    ghost use Rattle.hippo_stmt_reader.specs.StatementFinder.{leading_column_def};
 
-    type Part = Column;
+    type Reading = Column;
 
-    ghost part_at = { column_def_at };
+    ghost leading = { leading_column_def };
 
-    ghost next_at = { next_column_at };
-
-    fn part(alloc: Global, tokens: &[Token]) -> Result<(Column, &[Token]), SyntaxFault> {
+    fn read(alloc: Global, tokens: &[Token]) -> Result<(Column, &[Token]), SyntaxFault> {
         column_def(alloc, tokens)
     }
+}
 
-    fn next(tokens: &[Token]) -> Option<&[Token]> {
+// The comma between columns: the one that PRIMARY KEY follows leads to no further column.
+struct ColumnCommas;
+
+impl Separator for ColumnCommas {
+    ghost use Rattle.hippo_stmt_reader.specs.StatementFinder.{after_column};
+
+    ghost after = { after_column };
+
+    fn pass(tokens: &[Token]) -> Option<&[Token]> {
         let behind = after_symbol(tokens, Symbol::Comma)?;
         match split(behind) {
             Some((TokenKind::Word(_), _)) => Some(behind),
@@ -88,10 +95,9 @@ impl Listed for ColumnList {
     }
 }
 
-#[tactic(auto, unfolding(crate::specs::Stating::subject_at))]
+#[tactic(auto, unfolding(crate::specs::StatementFinder::leading_subject))]
 fn subject(alloc: Global, tokens: &[Token]) -> Result<(Option<Name>, &[Token]), SyntaxFault>
-    ensures found { Gives (λ x. (x.0, kinds x.1.now)) result (subject_at (kinds tokens.now)) }
-    ensures shorter { IfOk result (λ x. length x.1.now ≤ length tokens.now) }
+    ensures { Reads leading_subject tokens.now result }
 {
     let Some(behind) = after_symbol(tokens, Symbol::Comma) else {
         return Ok((None, tokens));
@@ -101,20 +107,20 @@ fn subject(alloc: Global, tokens: &[Token]) -> Result<(Option<Name>, &[Token]), 
     Ok((Some(column), rest))
 }
 
-#[tactic(auto, unfolding(crate::specs::Stating::create_table_at))]
+#[tactic(auto, unfolding(crate::specs::StatementFinder::create_table_of))]
 fn create_table(alloc: Global, tokens: &[Token]) -> Result<Stmt, SyntaxFault>
-    ensures { Gives (λ stmt. stmt) result (create_table_at (kinds tokens.now)) }
+    ensures { Gives (λ s. s) result (create_table_of (kinds tokens.now)) }
 {
     let (table, rest) = name(alloc, tokens)?;
     let rest = expect_symbol(rest, Symbol::LeftParen)?;
-    let (columns, rest) = list::<ColumnList>(alloc, rest)?;
+    let (columns, rest) = list::<ColumnDefPart, ColumnCommas>(alloc, rest)?;
     let rest = expect_symbol(rest, Symbol::Comma)?;
     let rest = expect_keyword(rest, Keyword::KPrimary)?;
     let rest = expect_keyword(rest, Keyword::KKey)?;
     let (key, rest) = names(alloc, rest)?;
     let (subject, rest) = subject(alloc, rest)?;
     let rest = expect_symbol(rest, Symbol::RightParen)?;
-    ended(
+    with_end(
         Stmt::CreateTable {
             table,
             columns,
@@ -125,24 +131,24 @@ fn create_table(alloc: Global, tokens: &[Token]) -> Result<Stmt, SyntaxFault>
     )
 }
 
-#[tactic(auto, unfolding(crate::specs::Stating::create_purpose_at))]
+#[tactic(auto, unfolding(crate::specs::StatementFinder::create_purpose_of))]
 fn create_purpose(alloc: Global, tokens: &[Token]) -> Result<Stmt, SyntaxFault>
-    ensures { Gives (λ stmt. stmt) result (create_purpose_at (kinds tokens.now)) }
+    ensures { Gives (λ s. s) result (create_purpose_of (kinds tokens.now)) }
 {
     let (purpose, rest) = name(alloc, tokens)?;
-    ended(Stmt::CreatePurpose(purpose), rest)
+    with_end(Stmt::CreatePurpose(purpose), rest)
 }
 
-#[tactic(auto, unfolding(crate::specs::Stating::create_recipient_at))]
+#[tactic(auto, unfolding(crate::specs::StatementFinder::create_recipient_of))]
 fn create_recipient(alloc: Global, tokens: &[Token]) -> Result<Stmt, SyntaxFault>
-    ensures { Gives (λ stmt. stmt) result (create_recipient_at (kinds tokens.now)) }
+    ensures { Gives (λ s. s) result (create_recipient_of (kinds tokens.now)) }
 {
     let (recipient, rest) = name(alloc, tokens)?;
-    ended(Stmt::CreateRecipient(recipient), rest)
+    with_end(Stmt::CreateRecipient(recipient), rest)
 }
 
 fn item_kind(tokens: &[Token]) -> Result<(ItemKind, &[Token]), SyntaxFault>
-    ensures { Gives (λ x. (x.0, kinds x.1.now)) result (item_kind_at (kinds tokens.now)) }
+    ensures { Reads leading_item_kind tokens.now result }
 {
     if let Some(rest) = after_keyword(tokens, Keyword::KIn) {
         return Ok((ItemKind::OptIn, rest));
@@ -151,20 +157,20 @@ fn item_kind(tokens: &[Token]) -> Result<(ItemKind, &[Token]), SyntaxFault>
     Ok((ItemKind::OptOut, rest))
 }
 
-#[tactic(auto, unfolding(crate::specs::Stating::create_item_at))]
+#[tactic(auto, unfolding(crate::specs::StatementFinder::create_item_of))]
 fn create_item(alloc: Global, tokens: &[Token]) -> Result<Stmt, SyntaxFault>
-    ensures { Gives (λ stmt. stmt) result (create_item_at (kinds tokens.now)) }
+    ensures { Gives (λ s. s) result (create_item_of (kinds tokens.now)) }
 {
     let (item, rest) = name(alloc, tokens)?;
     let rest = expect_keyword(rest, Keyword::KOpt)?;
     let (kind, rest) = item_kind(rest)?;
-    ended(Stmt::CreateItem { item, kind }, rest)
+    with_end(Stmt::CreateItem { item, kind }, rest)
 }
 
 /// The statement that the tokens behind CREATE have to be.
-#[tactic(auto, unfolding(crate::specs::Stating::create_at))]
+#[tactic(auto, unfolding(crate::specs::StatementFinder::create_of))]
 pub fn create(alloc: Global, tokens: &[Token]) -> Result<Stmt, SyntaxFault>
-    ensures { Gives (λ stmt. stmt) result (create_at (kinds tokens.now)) }
+    ensures { Gives (λ s. s) result (create_of (kinds tokens.now)) }
 {
     if let Some(behind) = after_keyword(tokens, Keyword::KTable) {
         return create_table(alloc, behind);

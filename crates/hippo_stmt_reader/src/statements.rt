@@ -1,50 +1,59 @@
+//! Which statement the tokens are.
 ghost use Rattle.std.specs.Prelude.{◌≡◌, ◌<◌, length, is_some, IsTrue, IfOk, IfErr};
 ghost use Rattle.hippo_model.specs.declared.statement.Stmt.{Stmt};
 ghost use Rattle.hippo_lexer.specs.Words.{words_check};
-ghost use Rattle.hippo_spj_reader.specs.Answers.{Gives};
-ghost use Rattle.hippo_spj_reader.specs.Front.{kinds, after_keyword};
-ghost use Rattle.hippo_stmt_reader.specs.Statements.{IsStatement, IsRefusal};
-ghost use Rattle.hippo_stmt_reader.specs.Stating.{console_behind, console_by, console_at, audit_statement_at, begin_audit_at, explain_at, query_at, open_at, select_statement_at, statement_at};
+ghost use Rattle.hippo_spj_reader.specs.Promises.{Gives};
+ghost use Rattle.hippo_spj_reader.specs.Front.{kinds, after_keyword, after_word};
+ghost use Rattle.hippo_stmt_reader.specs.StatementGrammar.{IsStatement, IsRefusal};
+ghost use Rattle.hippo_stmt_reader.specs.StatementFinder.{console_behind, console_by_keyword, console_of, audit_of, begin_audit_of, watch_of, explain_of, placed_select_of, open_of, extract_of, select_of, statement_of};
 
 use crate::changes::{delete, insert, update};
-use crate::parts::{ended, number};
+use crate::parts::{number, with_end};
 use crate::policies::{allow, authorize, choice, deauthorize, revoke};
 use crate::schemas::create;
 use hippo_audit_reader::audit;
 use hippo_lexer::{Keyword, SyntaxFault, Token, TokenKind, Tokens, check_words};
 use hippo_model::{RawSelect, Stmt};
-use hippo_spj_reader::{after_keyword, expect_keyword, select, split};
+use hippo_spj_reader::{after_keyword, after_word, expect_keyword, select, split};
 use std::alloc::Global;
 
-#[tactic(auto, unfolding(crate::specs::Stating::audit_statement_at))]
+#[tactic(auto, unfolding(crate::specs::StatementFinder::audit_of))]
 fn audit_statement(alloc: Global, tokens: &[Token]) -> Result<Stmt, SyntaxFault>
-    ensures { Gives (λ stmt. stmt) result (audit_statement_at (kinds tokens.now)) }
+    ensures { Gives (λ s. s) result (audit_of (kinds tokens.now)) }
 {
     let (audit, rest) = audit(alloc, tokens)?;
-    ended(Stmt::Audit(audit), rest)
+    with_end(Stmt::Audit(audit), rest)
 }
 
-#[tactic(auto, unfolding(crate::specs::Stating::begin_audit_at))]
+#[tactic(auto, unfolding(crate::specs::StatementFinder::begin_audit_of))]
 fn begin_audit(alloc: Global, tokens: &[Token]) -> Result<Stmt, SyntaxFault>
-    ensures { Gives (λ stmt. stmt) result (begin_audit_at (kinds tokens.now)) }
+    ensures { Gives (λ s. s) result (begin_audit_of (kinds tokens.now)) }
 {
     let rest = expect_keyword(tokens, Keyword::KAudit)?;
     let (audit, rest) = audit(alloc, rest)?;
-    ended(Stmt::BeginAudit(audit), rest)
+    with_end(Stmt::BeginAudit(audit), rest)
 }
 
-#[tactic(auto, unfolding(crate::specs::Stating::explain_at))]
+#[tactic(auto, unfolding(crate::specs::StatementFinder::watch_of))]
+fn watch(alloc: Global, tokens: &[Token]) -> Result<Stmt, SyntaxFault>
+    ensures { Gives (λ s. s) result (watch_of (kinds tokens.now)) }
+{
+    let (audit, rest) = audit(alloc, tokens)?;
+    with_end(Stmt::Watch(audit), rest)
+}
+
+#[tactic(auto, unfolding(crate::specs::StatementFinder::explain_of))]
 fn explain(tokens: &[Token]) -> Result<Stmt, SyntaxFault>
-    ensures { Gives (λ stmt. stmt) result (explain_at (kinds tokens.now)) }
+    ensures { Gives (λ s. s) result (explain_of (kinds tokens.now)) }
 {
     let (number, rest) = number(tokens)?;
-    ended(Stmt::Explain(number), rest)
+    with_end(Stmt::Explain(number), rest)
 }
 
 // A statement of the console that begins with this keyword, from the tokens behind it.
-#[tactic(auto, unfolding(crate::specs::Stating::console_behind))]
+#[tactic(auto, unfolding(crate::specs::StatementFinder::console_behind))]
 fn console_behind(alloc: Global, keyword: Keyword, tokens: &[Token]) -> Result<Stmt, SyntaxFault>
-    ensures { Gives (λ stmt. stmt) result (console_behind keyword (kinds tokens.now)) }
+    ensures { Gives (λ s. s) result (console_behind keyword (kinds tokens.now)) }
 {
     match keyword {
         Keyword::KCreate => create(alloc, tokens),
@@ -62,8 +71,8 @@ fn console_behind(alloc: Global, keyword: Keyword, tokens: &[Token]) -> Result<S
     }
 }
 
-fn console_by(alloc: Global, tokens: &[Token]) -> Result<Stmt, SyntaxFault>
-    ensures { Gives (λ stmt. stmt) result (console_by (kinds tokens.now)) }
+fn console_by_keyword(alloc: Global, tokens: &[Token]) -> Result<Stmt, SyntaxFault>
+    ensures { Gives (λ s. s) result (console_by_keyword (kinds tokens.now)) }
 {
     match split(tokens) {
         Some((TokenKind::Keyword(keyword), rest)) => console_behind(alloc, *keyword, rest),
@@ -71,14 +80,17 @@ fn console_by(alloc: Global, tokens: &[Token]) -> Result<Stmt, SyntaxFault>
     }
 }
 
-#[tactic(auto, unfolding(crate::specs::Stating::console_at))]
+#[tactic(auto, unfolding(crate::specs::StatementFinder::console_of))]
 fn console(alloc: Global, tokens: &[Token]) -> Result<Stmt, SyntaxFault>
-    ensures { Gives (λ stmt. stmt) result (console_at (kinds tokens.now)) }
+    ensures { Gives (λ s. s) result (console_of (kinds tokens.now)) }
 {
     if begins_with(tokens, Keyword::KDuring) {
         return audit_statement(alloc, tokens);
     }
-    console_by(alloc, tokens)
+    if let Some(behind) = after_word(tokens, "watch") {
+        return watch(alloc, behind);
+    }
+    console_by_keyword(alloc, tokens)
 }
 
 fn begins_with(tokens: &[Token], keyword: Keyword) -> bool
@@ -88,17 +100,24 @@ fn begins_with(tokens: &[Token], keyword: Keyword) -> bool
     after_keyword(tokens, keyword).is_some()
 }
 
+fn begins_with_word(tokens: &[Token], word: &str) -> bool
+    ensures first { result ≡ is_some (after_word word.now (kinds tokens.now)) }
+    ensures some { IsTrue result → 0 < length tokens.now }
+{
+    after_word(tokens, word).is_some()
+}
+
 // A select and where its text begins and ends.
 #[derive(Drop)]
-struct Asked {
+struct PlacedSelect {
     select: RawSelect,
     start: usize,
     end: usize,
 }
 
-#[tactic(auto, unfolding(crate::specs::Stating::query_at))]
-fn query(alloc: Global, tokens: &[Token]) -> Result<Asked, SyntaxFault>
-    ensures { Gives (λ x. (x.select, x.start, x.end)) result (query_at tokens.now) }
+#[tactic(auto, unfolding(crate::specs::StatementFinder::placed_select_of))]
+fn placed_select(alloc: Global, tokens: &[Token]) -> Result<PlacedSelect, SyntaxFault>
+    ensures { Gives (λ x. (x.select, x.start, x.end)) result (placed_select_of tokens.now) }
 {
     let (select, rest) = select(alloc, tokens)?;
     let text = &tokens[..tokens.len() - rest.len()];
@@ -106,8 +125,8 @@ fn query(alloc: Global, tokens: &[Token]) -> Result<Asked, SyntaxFault>
         drop(select);
         return Err(SyntaxFault::BadSyntax);
     };
-    ended(
-        Asked {
+    with_end(
+        PlacedSelect {
             select,
             start: first.start,
             end: last.end,
@@ -116,31 +135,42 @@ fn query(alloc: Global, tokens: &[Token]) -> Result<Asked, SyntaxFault>
     )
 }
 
-#[tactic(auto, unfolding(crate::specs::Stating::open_at))]
+#[tactic(auto, unfolding(crate::specs::StatementFinder::open_of))]
 fn open_statement(alloc: Global, tokens: &[Token]) -> Result<Stmt, SyntaxFault>
-    ensures { Gives (λ stmt. stmt) result (open_at tokens.now) }
+    ensures { Gives (λ s. s) result (open_of tokens.now) }
 {
-    let Asked { select, start, end } = query(alloc, tokens)?;
+    let PlacedSelect { select, start, end } = placed_select(alloc, tokens)?;
     Ok(Stmt::Ask { select, start, end })
 }
 
-#[tactic(auto, unfolding(crate::specs::Stating::select_statement_at))]
-fn select_statement(alloc: Global, tokens: &[Token]) -> Result<Stmt, SyntaxFault>
-    ensures { Gives (λ stmt. stmt) result (select_statement_at tokens.now) }
+#[tactic(auto, unfolding(crate::specs::StatementFinder::extract_of))]
+fn extract_statement(alloc: Global, tokens: &[Token]) -> Result<Stmt, SyntaxFault>
+    ensures { Gives (λ s. s) result (extract_of tokens.now) }
 {
-    let Asked { select, start, end } = query(alloc, tokens)?;
+    let PlacedSelect { select, start, end } = placed_select(alloc, tokens)?;
+    Ok(Stmt::Extract { select, start, end })
+}
+
+#[tactic(auto, unfolding(crate::specs::StatementFinder::select_of))]
+fn select_statement(alloc: Global, tokens: &[Token]) -> Result<Stmt, SyntaxFault>
+    ensures { Gives (λ s. s) result (select_of tokens.now) }
+{
+    let PlacedSelect { select, start, end } = placed_select(alloc, tokens)?;
     Ok(Stmt::Select { select, start, end })
 }
 
-#[tactic(auto, unfolding(crate::specs::Stating::statement_at))]
+#[tactic(auto, unfolding(crate::specs::StatementFinder::statement_of))]
 fn statement(alloc: Global, tokens: &[Token]) -> Result<Stmt, SyntaxFault>
-    ensures { Gives (λ stmt. stmt) result (statement_at tokens.now) }
+    ensures { Gives (λ s. s) result (statement_of tokens.now) }
 {
     if begins_with(tokens, Keyword::KOpen) {
         return open_statement(alloc, &tokens[1..]);
     }
     if begins_with(tokens, Keyword::KSelect) {
         return select_statement(alloc, tokens);
+    }
+    if begins_with_word(tokens, "extract") {
+        return extract_statement(alloc, &tokens[1..]);
     }
     console(alloc, tokens)
 }

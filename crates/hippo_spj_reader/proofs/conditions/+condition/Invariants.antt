@@ -1,7 +1,7 @@
 -- Each reader of the cycle takes what is read by the next after it; the parts so far and the list that is left make the
 -- whole list.
 use Rattle.std.proofs.Common.{ℕ, ◌+◌, ◌*◌, ◌<◌, ◌≤◌, length}
-use Rattle.hippo_lexer.specs.declared.kinds.Keyword.TheVariants.{KAnd, KOr}
+use Rattle.hippo_values.specs.declared.keywords.Keyword.TheVariants.{KAnd, KOr}
 use Rattle.hippo_spj_reader.specs.Front.{kinds, after_keyword}
 use Rattle.hippo_spj_reader.specs.ListFinder.{leading_list}
 use Rattle.hippo_spj_reader.specs.ConditionFinder.{conjunction_with, leading_negation}

@@ -1,7 +1,7 @@
 -- What was taken apart and what is left make the whole lists.
 use Rattle.std.proofs.Common.{◌≡◌, ◌++◌}
 use Rattle.std.specs.Vec.Iter.{into_iter_items}
-use Rattle.hippo_stmt_reader.specs.Statements.{columns_of, values_of}
+use Rattle.hippo_stmt_reader.specs.StatementGrammar.{columns_of, values_of}
 use Rattle.hippo_stmt_reader.proofs.changes.columns_and_values.Given as goal
 
 abbrev pub invariant-loop-column : goal.invariant-loop-column

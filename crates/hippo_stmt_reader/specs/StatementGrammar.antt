@@ -1,5 +1,5 @@
 -- The grammar of statements. Each relation says that the tokens begin with such a part, how it reads, and what follows it.
-use Rattle.std.specs.Prelude.{◌≡◌, ℕ, ℤ, ◌-◌, true, false, List, [], ◌∷◌, ◌++◌, length, map, Option, Some, None, Ok, Err, slice_get}
+use Rattle.std.specs.Prelude.{◌≡◌, ℕ, ◌<◌, ◌≤◌, ℤ, pos, ◌-◌, true, false, List, [], ◌∷◌, ◌++◌, length, map, Option, Some, None, Ok, Err, slice_get, codes}
 use Rattle.hippo_values.specs.declared.values.Value.{Value}
 use Rattle.hippo_model.specs.declared.entry.ItemKind.TheVariants.{OptIn, OptOut}
 use Rattle.hippo_model.specs.declared.schema.Column.{Column}
@@ -18,11 +18,11 @@ use Rattle.hippo_lexer.specs.declared.kinds.Symbol.TheVariants.{Comma, Equal, Le
 use Rattle.hippo_lexer.specs.declared.kinds.Token.{Token}
 use Rattle.hippo_lexer.specs.declared.kinds.TokenKind.{TokenKind}
 use Rattle.hippo_lexer.specs.declared.kinds.TokenKind.TheVariants.{Word, Keyword, Number, Symbol}
-use Rattle.hippo_spj_reader.specs.Conditions.{IsLiteral}
+use Rattle.hippo_spj_reader.specs.ConditionGrammar.{IsLiteral}
 use Rattle.hippo_spj_reader.specs.Front.{kinds}
-use Rattle.hippo_spj_reader.specs.Lists.{IsName, IsListOf}
-use Rattle.hippo_spj_reader.specs.Selects.{IsSelect}
-use Rattle.hippo_audit_reader.specs.Audits.{IsAudit}
+use Rattle.hippo_spj_reader.specs.ListGrammar.{IsName, IsListOf}
+use Rattle.hippo_spj_reader.specs.SelectGrammar.{IsSelect}
+use Rattle.hippo_audit_reader.specs.AuditGrammar.{IsAudit}
 
 -- INTEGER | TEXT | DATE
 pub data IsColumnKind : words.Keyword → ColumnKind → Type 0 where
@@ -46,6 +46,16 @@ pub data IsSubject : List TokenKind → Option (List ℕ) → List TokenKind →
 pub data IsWith : List TokenKind → Option (List ℕ) → List TokenKind → Type 0 where
   no_item : {rest : List TokenKind} → IsWith rest None rest
   with_item : {i : List ℕ} {rest : List TokenKind} → IsWith (Keyword KWith ∷ Word i ∷ rest) (Some i) rest
+
+-- for how many days a rule may show a row
+abbrev pub most_days : ℕ
+most_days = 36500
+
+-- [RETAIN n DAYS], from one day to the most
+pub data IsRetention : List TokenKind → Option ℕ → List TokenKind → Type 0 where
+  no_retention : {rest : List TokenKind} → IsRetention rest None rest
+  retain : {days : ℕ} {rest : List TokenKind} → 0 < days → days ≤ most_days →
+      IsRetention (Word (codes "retain") ∷ Number (pos days) ∷ Word (codes "days") ∷ rest) (Some days) rest
 
 -- c "=" literal
 pub data IsAssignment : List TokenKind → List ℕ × Value → List TokenKind → Type 0 where
@@ -93,11 +103,12 @@ pub data IsConsole : List TokenKind → Stmt → List TokenKind → Type 0 where
       IsConsole (Keyword KAuthorize ∷ Word user ∷ Keyword KFor ∷ Word purpose ∷ Symbol Comma ∷ Word recipient ∷ rest) (stmt.Authorize user purpose recipient) rest
   deauthorize : {user purpose recipient : List ℕ} {rest : List TokenKind} →
       IsConsole (Keyword KDeauthorize ∷ Word user ∷ Keyword KFor ∷ Word purpose ∷ Symbol Comma ∷ Word recipient ∷ rest) (stmt.Deauthorize user purpose recipient) rest
-  -- ALLOW p TO r ON t "(" c {"," c} ")" [WITH i]
-  allow : {purpose recipient table : List ℕ} {columns : List (List ℕ)} {item : Option (List ℕ)} {named behind rest : List TokenKind} →
+  -- ALLOW p TO r ON t "(" c {"," c} ")" [WITH i] [RETAIN n DAYS]
+  allow : {purpose recipient table : List ℕ} {columns : List (List ℕ)} {item : Option (List ℕ)} {days : Option ℕ} {named behind kept rest : List TokenKind} →
       AreNames named columns (Symbol RightParen ∷ behind) →
-      IsWith behind item rest →
-      IsConsole (Keyword KAllow ∷ Word purpose ∷ Keyword KTo ∷ Word recipient ∷ Keyword KOn ∷ Word table ∷ Symbol LeftParen ∷ named) (stmt.Allow purpose recipient table columns item) rest
+      IsWith behind item kept →
+      IsRetention kept days rest →
+      IsConsole (Keyword KAllow ∷ Word purpose ∷ Keyword KTo ∷ Word recipient ∷ Keyword KOn ∷ Word table ∷ Symbol LeftParen ∷ named) (stmt.Allow purpose recipient table columns item days) rest
   -- REVOKE p TO r ON t "(" c {"," c} ")"
   revoke : {purpose recipient table : List ℕ} {columns : List (List ℕ)} {named rest : List TokenKind} →
       AreNames named columns (Symbol RightParen ∷ rest) →
@@ -124,9 +135,10 @@ pub data IsConsole : List TokenKind → Stmt → List TokenKind → Type 0 where
       IsConsole (Keyword KDelete ∷ Keyword KFrom ∷ Word table ∷ Keyword KWhere ∷ tokens) s rest
   -- EXPLAIN number
   explain : {n : ℤ} {rest : List TokenKind} → IsConsole (Keyword KExplain ∷ Number n ∷ rest) (stmt.Explain n) rest
-  -- audit | BEGIN AUDIT audit
+  -- audit | BEGIN AUDIT audit | WATCH audit
   audit : {a : RawAudit} {tokens rest : List TokenKind} → IsAudit tokens a rest → IsConsole tokens (stmt.Audit a) rest
   begin_audit : {a : RawAudit} {tokens rest : List TokenKind} → IsAudit tokens a rest → IsConsole (Keyword KBegin ∷ Keyword KAudit ∷ tokens) (stmt.BeginAudit a) rest
+  watch : {a : RawAudit} {tokens rest : List TokenKind} → IsAudit tokens a rest → IsConsole (Word (codes "watch") ∷ tokens) (stmt.Watch a) rest
 
 -- [";"], and then nothing
 pub data IsEnd : List TokenKind → Type 0 where
@@ -134,21 +146,23 @@ pub data IsEnd : List TokenKind → Type 0 where
   semicolon : IsEnd (Symbol Semicolon ∷ [])
 
 -- a select up to the end; its text goes from the first byte of its first token to the last of its last
-pub data IsQuery : List Token → RawSelect → ℕ → ℕ → Type 0 where
-  query : {select : RawSelect} {tokens : List Token} {first last : Token} (text rest : List Token) →
+pub data IsPlacedSelect : List Token → RawSelect → ℕ → ℕ → Type 0 where
+  placed : {select : RawSelect} {tokens : List Token} {first last : Token} (text rest : List Token) →
       tokens ≡ text ++ rest →
       IsSelect (kinds tokens) select (kinds rest) →
       IsEnd (kinds rest) →
       slice_get text 0 ≡ Some first →
       slice_get text (length text - 1) ≡ Some last →
-      IsQuery tokens select first.start last.end
+      IsPlacedSelect tokens select first.start last.end
 
--- statement = console [";"] | select [";"] | OPEN select [";"]
+-- statement = console [";"] | select [";"] | OPEN select [";"] | EXTRACT select [";"]
 pub data IsStatement : List Token → Stmt → Type 0 where
   console : {s : Stmt} {tokens : List Token} {rest : List TokenKind} → IsConsole (kinds tokens) s rest → IsEnd rest → IsStatement tokens s
-  select : {select : RawSelect} {start end : ℕ} {tokens : List Token} → IsQuery tokens select start end → IsStatement tokens (stmt.Select select start end)
+  select : {select : RawSelect} {start end : ℕ} {tokens : List Token} → IsPlacedSelect tokens select start end → IsStatement tokens (stmt.Select select start end)
   open_select : {select : RawSelect} {start end : ℕ} {first : Token} {tokens : List Token} →
-      first.kind ≡ Keyword KOpen → IsQuery tokens select start end → IsStatement (first ∷ tokens) (stmt.Ask select start end)
+      first.kind ≡ Keyword KOpen → IsPlacedSelect tokens select start end → IsStatement (first ∷ tokens) (stmt.Ask select start end)
+  extract_select : {select : RawSelect} {start end : ℕ} {first : Token} {tokens : List Token} →
+      first.kind ≡ Word (codes "extract") → IsPlacedSelect tokens select start end → IsStatement (first ∷ tokens) (stmt.Extract select start end)
 
 -- what the words are refused for; else BadSyntax where the tokens are no statement; want of memory at any time where the
 -- words are fit to be read

@@ -1,0 +1,332 @@
+-- The statement that can be found in a list of tokens, part by part.
+use Rattle.std.specs.Prelude.{ℕ, ℤ, pos, ◌-◌, Bool, true, false, ◌&&◌, nat_lt, nat_le, List, [], ◌∷◌, length, take, drop, Option, Some, None, slice_get, if◌then◌else◌, codes}
+use Rattle.hippo_values.specs.declared.values.Value.{Value}
+use Rattle.hippo_model.specs.declared.entry.ItemKind.{ItemKind}
+use Rattle.hippo_model.specs.declared.entry.ItemKind.TheVariants.{OptIn, OptOut}
+use Rattle.hippo_model.specs.declared.schema.Column.{Column}
+use Rattle.hippo_model.specs.declared.schema.ColumnKind.{ColumnKind}
+use Rattle.hippo_model.specs.declared.schema.ColumnKind.TheVariants as kind
+use Rattle.hippo_model.specs.declared.statement.RawSelect.{RawSelect}
+use Rattle.hippo_model.specs.declared.statement.Stmt.{Stmt}
+use Rattle.hippo_model.specs.declared.statement.Stmt.TheVariants as stmt
+use Rattle.hippo_values.specs.declared.keywords.Keyword as words
+use Rattle.hippo_values.specs.declared.keywords.Keyword.TheVariants.{KAllow, KAnd, KAudit, KAuthorize, KBegin, KChoice, KCreate, KDate, KDeauthorize, KDelete, KDuring, KExplain, KFor, KFrom, KIn, KInsert, KInteger, KInto, KIs, KItem, KKey, KNo, KNot, KNull, KOn, KOpen, KOpt, KOut, KPrimary, KPurpose, KRecipient, KRevoke, KSelect, KSet, KSubject, KTable, KText, KTo, KUpdate, KValues, KWhere, KWith, KYes}
+use Rattle.hippo_lexer.specs.declared.kinds.Symbol.TheVariants.{Comma, Equal, LeftParen, RightParen, Semicolon}
+use Rattle.hippo_lexer.specs.declared.kinds.Token.{Token}
+use Rattle.hippo_lexer.specs.declared.kinds.TokenKind.{TokenKind}
+use Rattle.hippo_lexer.specs.declared.kinds.TokenKind.TheVariants.{Keyword, Number}
+use Rattle.hippo_spj_reader.specs.Promises.{◌>>=◌, either}
+use Rattle.hippo_spj_reader.specs.ConditionFinder.{begins_with_name}
+use Rattle.hippo_spj_reader.specs.Front.{Finds, kinds, after_keyword, after_symbol, after_word, leading_name, leading_literal}
+use Rattle.hippo_spj_reader.specs.ListFinder.{leading_list}
+use Rattle.hippo_spj_reader.specs.SelectFinder.{leading_select}
+use Rattle.hippo_audit_reader.specs.AuditFinder.{leading_audit}
+use Rattle.hippo_stmt_reader.specs.declared.policies.Disclosure.{Disclosure}
+use Rattle.hippo_stmt_reader.specs.declared.policies.Grant.{Grant}
+use Rattle.hippo_stmt_reader.specs.StatementGrammar.{most_days, columns_of, values_of}
+
+abbrev pub nothing_left : List TokenKind → Option (Unit {0})
+nothing_left [] = Some tt
+nothing_left (first ∷ rest) = None
+
+-- [";"], and then nothing
+abbrev pub end_left : List TokenKind → Option (Unit {0})
+end_left tokens = either (after_symbol Semicolon tokens) nothing_left (nothing_left tokens)
+
+-- what was read, where the statement ends behind it
+abbrev pub with_end : {A : Type 0} → A → List TokenKind → Option A
+with_end read tokens = end_left tokens >>= λ end. Some read
+
+abbrev pub column_kind_of : words.Keyword → Option ColumnKind
+column_kind_of KInteger = Some kind.Integer
+column_kind_of KText = Some kind.Text
+column_kind_of KDate = Some kind.Date
+column_kind_of keyword = None
+
+abbrev pub leading_column_kind : Finds ColumnKind
+leading_column_kind (Keyword keyword ∷ rest) = column_kind_of keyword >>= λ k. Some (k, rest)
+leading_column_kind tokens = None
+
+unfoldable pub leading_column_def : Finds Column
+leading_column_def tokens = do
+  name ← leading_name tokens
+  k ← leading_column_kind name.1
+  either (after_keyword KNot k.1) (λ behind. do
+    rest ← after_keyword KNull behind
+    Some (record { name = name.0; kind = k.0; not_null = true }, rest)) (Some (record { name = name.0; kind = k.0; not_null = false }, k.1))
+
+-- behind a comma that a further column follows
+abbrev pub after_column : List TokenKind → Option (List TokenKind)
+after_column tokens = after_symbol Comma tokens >>= λ behind. if begins_with_name behind then Some behind else None
+
+-- "(" c {"," c} ")"
+unfoldable pub leading_names : Finds (List (List ℕ))
+leading_names tokens = do
+  inside ← after_symbol LeftParen tokens
+  names ← leading_list leading_name (after_symbol Comma) inside
+  rest ← after_symbol RightParen names.1
+  Some (names.0, rest)
+
+unfoldable pub leading_subject : Finds (Option (List ℕ))
+leading_subject tokens =
+    either (after_symbol Comma tokens) (λ behind. do
+      named ← after_keyword KSubject behind
+      c ← leading_name named
+      Some (Some c.0, c.1)) (Some (None, tokens))
+
+unfoldable pub leading_item : Finds (Option (List ℕ))
+leading_item tokens = either (after_keyword KWith tokens) (λ behind. leading_name behind >>= λ i. Some (Some i.0, i.1)) (Some (None, tokens))
+
+-- the number that stands first
+abbrev pub leading_number : Finds ℤ
+leading_number (Number n ∷ rest) = Some (n, rest)
+leading_number tokens = None
+
+-- so many days, from one to the most
+abbrev pub days_of : ℤ → Option ℕ
+days_of (pos days) = if nat_lt 0 days && nat_le days most_days then Some days else None
+days_of number = None
+
+unfoldable pub leading_retention : Finds (Option ℕ)
+leading_retention tokens =
+    either (after_word (codes "retain") tokens) (λ behind. do
+      number ← leading_number behind
+      days ← days_of number.0
+      rest ← after_word (codes "days") number.1
+      Some (Some days, rest)) (Some (None, tokens))
+
+unfoldable pub leading_assignment : Finds (List ℕ × Value)
+leading_assignment tokens = do
+  c ← leading_name tokens
+  behind ← after_symbol Equal c.1
+  v ← leading_literal behind
+  Some ((c.0, v.0), v.1)
+
+-- behind CREATE TABLE
+unfoldable pub create_table_of : List TokenKind → Option Stmt
+create_table_of tokens = do
+  table ← leading_name tokens
+  defs ← after_symbol LeftParen table.1
+  columns ← leading_list leading_column_def after_column defs
+  a ← after_symbol Comma columns.1
+  b ← after_keyword KPrimary a
+  c ← after_keyword KKey b
+  key ← leading_names c
+  subject ← leading_subject key.1
+  rest ← after_symbol RightParen subject.1
+  end ← end_left rest
+  Some (stmt.CreateTable table.0 columns.0 key.0 subject.0)
+
+-- behind CREATE PURPOSE
+unfoldable pub create_purpose_of : List TokenKind → Option Stmt
+create_purpose_of tokens = do
+  purpose ← leading_name tokens
+  end ← end_left purpose.1
+  Some (stmt.CreatePurpose purpose.0)
+
+-- behind CREATE RECIPIENT
+unfoldable pub create_recipient_of : List TokenKind → Option Stmt
+create_recipient_of tokens = do
+  recipient ← leading_name tokens
+  end ← end_left recipient.1
+  Some (stmt.CreateRecipient recipient.0)
+
+-- IN | OUT
+abbrev pub leading_item_kind : Finds ItemKind
+leading_item_kind tokens = either (after_keyword KIn tokens) (λ rest. Some (OptIn, rest)) (after_keyword KOut tokens >>= λ rest. Some (OptOut, rest))
+
+-- behind CREATE ITEM
+unfoldable pub create_item_of : List TokenKind → Option Stmt
+create_item_of tokens = do
+  item ← leading_name tokens
+  behind ← after_keyword KOpt item.1
+  k ← leading_item_kind behind
+  end ← end_left k.1
+  Some (stmt.CreateItem item.0 k.0)
+
+-- behind CREATE
+unfoldable pub create_of : List TokenKind → Option Stmt
+create_of tokens =
+    either (after_keyword KTable tokens) create_table_of
+    (either (after_keyword KPurpose tokens) create_purpose_of
+    (either (after_keyword KRecipient tokens) create_recipient_of
+    (after_keyword KItem tokens >>= create_item_of)))
+
+-- u FOR p "," r
+unfoldable pub leading_grant : Finds Grant
+leading_grant tokens = do
+  user ← leading_name tokens
+  a ← after_keyword KFor user.1
+  purpose ← leading_name a
+  b ← after_symbol Comma purpose.1
+  recipient ← leading_name b
+  Some (record { user = user.0; purpose = purpose.0; recipient = recipient.0 }, recipient.1)
+
+-- behind AUTHORIZE
+unfoldable pub authorize_of : List TokenKind → Option Stmt
+authorize_of tokens = do
+  grant ← leading_grant tokens
+  end ← end_left grant.1
+  Some (stmt.Authorize grant.0.user grant.0.purpose grant.0.recipient)
+
+-- behind DEAUTHORIZE
+unfoldable pub deauthorize_of : List TokenKind → Option Stmt
+deauthorize_of tokens = do
+  grant ← leading_grant tokens
+  end ← end_left grant.1
+  Some (stmt.Deauthorize grant.0.user grant.0.purpose grant.0.recipient)
+
+-- p TO r ON t "(" c {"," c} ")"
+unfoldable pub leading_disclosure : Finds Disclosure
+leading_disclosure tokens = do
+  purpose ← leading_name tokens
+  a ← after_keyword KTo purpose.1
+  recipient ← leading_name a
+  b ← after_keyword KOn recipient.1
+  table ← leading_name b
+  columns ← leading_names table.1
+  Some (record { purpose = purpose.0; recipient = recipient.0; table = table.0; columns = columns.0 }, columns.1)
+
+-- behind ALLOW
+unfoldable pub allow_of : List TokenKind → Option Stmt
+allow_of tokens = do
+  disclosure ← leading_disclosure tokens
+  item ← leading_item disclosure.1
+  days ← leading_retention item.1
+  end ← end_left days.1
+  Some (stmt.Allow disclosure.0.purpose disclosure.0.recipient disclosure.0.table disclosure.0.columns item.0 days.0)
+
+-- behind REVOKE
+unfoldable pub revoke_of : List TokenKind → Option Stmt
+revoke_of tokens = do
+  disclosure ← leading_disclosure tokens
+  end ← end_left disclosure.1
+  Some (stmt.Revoke disclosure.0.purpose disclosure.0.recipient disclosure.0.table disclosure.0.columns)
+
+-- YES | NO
+abbrev pub leading_yes_or_no : Finds Bool
+leading_yes_or_no tokens = either (after_keyword KYes tokens) (λ rest. Some (true, rest)) (after_keyword KNo tokens >>= λ rest. Some (false, rest))
+
+-- behind CHOICE
+unfoldable pub choice_of : List TokenKind → Option Stmt
+choice_of tokens = do
+  n ← leading_number tokens
+  a ← after_keyword KOn n.1
+  item ← leading_name a
+  b ← after_keyword KIs item.1
+  yes ← leading_yes_or_no b
+  end ← end_left yes.1
+  Some (stmt.Choice n.0 item.0 yes.0)
+
+-- behind INSERT
+unfoldable pub insert_of : List TokenKind → Option Stmt
+insert_of tokens = do
+  a ← after_keyword KInto tokens
+  table ← leading_name a
+  b ← after_keyword KValues table.1
+  inside ← after_symbol LeftParen b
+  values ← leading_list leading_literal (after_symbol Comma) inside
+  rest ← after_symbol RightParen values.1
+  end ← end_left rest
+  Some (stmt.Insert table.0 values.0)
+
+-- behind UPDATE
+unfoldable pub update_of : List TokenKind → Option Stmt
+update_of tokens = do
+  table ← leading_name tokens
+  a ← after_keyword KSet table.1
+  settings ← leading_list leading_assignment (after_symbol Comma) a
+  b ← after_keyword KWhere settings.1
+  keys ← leading_list leading_assignment (after_keyword KAnd) b
+  end ← end_left keys.1
+  Some (stmt.Update table.0 (columns_of settings.0) (values_of settings.0) (columns_of keys.0) (values_of keys.0))
+
+-- behind DELETE
+unfoldable pub delete_of : List TokenKind → Option Stmt
+delete_of tokens = do
+  a ← after_keyword KFrom tokens
+  table ← leading_name a
+  b ← after_keyword KWhere table.1
+  keys ← leading_list leading_assignment (after_keyword KAnd) b
+  end ← end_left keys.1
+  Some (stmt.Delete table.0 (columns_of keys.0) (values_of keys.0))
+
+-- behind EXPLAIN
+unfoldable pub explain_of : List TokenKind → Option Stmt
+explain_of tokens = do
+  n ← leading_number tokens
+  end ← end_left n.1
+  Some (stmt.Explain n.0)
+
+unfoldable pub audit_of : List TokenKind → Option Stmt
+audit_of tokens = do
+  a ← leading_audit tokens
+  end ← end_left a.1
+  Some (stmt.Audit a.0)
+
+-- behind BEGIN
+unfoldable pub begin_audit_of : List TokenKind → Option Stmt
+begin_audit_of tokens = do
+  behind ← after_keyword KAudit tokens
+  a ← leading_audit behind
+  end ← end_left a.1
+  Some (stmt.BeginAudit a.0)
+
+-- behind WATCH
+unfoldable pub watch_of : List TokenKind → Option Stmt
+watch_of tokens = do
+  a ← leading_audit tokens
+  end ← end_left a.1
+  Some (stmt.Watch a.0)
+
+-- a statement of the console that begins with this keyword, behind it
+unfoldable pub console_behind : words.Keyword → List TokenKind → Option Stmt
+console_behind KCreate tokens = create_of tokens
+console_behind KAuthorize tokens = authorize_of tokens
+console_behind KDeauthorize tokens = deauthorize_of tokens
+console_behind KAllow tokens = allow_of tokens
+console_behind KRevoke tokens = revoke_of tokens
+console_behind KChoice tokens = choice_of tokens
+console_behind KInsert tokens = insert_of tokens
+console_behind KUpdate tokens = update_of tokens
+console_behind KDelete tokens = delete_of tokens
+console_behind KExplain tokens = explain_of tokens
+console_behind KBegin tokens = begin_audit_of tokens
+console_behind keyword tokens = None
+
+abbrev pub console_by_keyword : List TokenKind → Option Stmt
+console_by_keyword (Keyword keyword ∷ rest) = console_behind keyword rest
+console_by_keyword tokens = None
+
+unfoldable pub console_of : List TokenKind → Option Stmt
+console_of tokens =
+    either (after_keyword KDuring tokens) (λ _. audit_of tokens)
+    (either (after_word (codes "watch") tokens) watch_of (console_by_keyword tokens))
+
+-- a select up to the end, with the places where its text begins and ends
+unfoldable pub placed_select_of : List Token → Option (RawSelect × ℕ × ℕ)
+placed_select_of tokens = do
+  found ← leading_select (kinds tokens)
+  let text = take (length tokens - length found.1) tokens
+  first ← slice_get text 0
+  last ← slice_get text (length text - 1)
+  end ← end_left found.1
+  Some (found.0, first.start, last.end)
+
+-- behind OPEN
+unfoldable pub open_of : List Token → Option Stmt
+open_of tokens = placed_select_of tokens >>= λ q. Some (stmt.Ask q.0 q.1 q.2)
+
+-- behind EXTRACT
+unfoldable pub extract_of : List Token → Option Stmt
+extract_of tokens = placed_select_of tokens >>= λ q. Some (stmt.Extract q.0 q.1 q.2)
+
+unfoldable pub select_of : List Token → Option Stmt
+select_of tokens = placed_select_of tokens >>= λ q. Some (stmt.Select q.0 q.1 q.2)
+
+unfoldable pub statement_of : List Token → Option Stmt
+statement_of tokens =
+    either (after_keyword KOpen (kinds tokens)) (λ _. open_of (drop 1 tokens))
+    (either (after_keyword KSelect (kinds tokens)) (λ _. select_of tokens)
+    (either (after_word (codes "extract") (kinds tokens)) (λ _. extract_of (drop 1 tokens))
+    (console_of (kinds tokens))))
