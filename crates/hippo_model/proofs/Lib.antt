@@ -7,9 +7,3 @@ pub mod KeysInOrder
 pub mod LastWords
 pub mod RowsAfter
 pub mod TableRows
-mod AnswerExamples
-mod ExampleHistories
-mod DayExamples
-mod AuditExamples
-mod DamageExamples
-mod StoreExamples

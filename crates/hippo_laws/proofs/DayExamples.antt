@@ -17,13 +17,15 @@ use Rattle.hippo_model.specs.declared.query.CondOf.TheVariants.{All, Compare}
 use Rattle.hippo_model.specs.declared.query.Operand.{Operand}
 use Rattle.hippo_model.specs.declared.query.Operand.TheVariants.{Column as ColumnOperand, Literal}
 use Rattle.hippo_model.specs.declared.query.Query.{Query}
+use Rattle.hippo_model.specs.Terms.{History, Meaning}
+use Rattle.hippo_model.specs.Verdicts.{Context}
 use Rattle.hippo_model.specs.Answers.{answer}
 use Rattle.hippo_model.specs.Audits.{shared}
 use Rattle.hippo_model.specs.Denials.{denials}
 use Rattle.hippo_model.specs.Validity.{damage}
 use Rattle.hippo_model.proofs.NamedColumns.{named_columns}
 use Rattle.hippo_model.proofs.Truths.{truths}
-use Rattle.hippo_model.proofs.ExampleHistories.{treatment, nurse, ann, patient, patients, number_column, text_column, required, column, column_of, select, always, words_and_texts}
+use Rattle.hippo_laws.proofs.ExampleHistories.{treatment, nurse, ann, patient, patients, number_column, text_column, required, column, column_of, nursing, select, always, words_and_texts}
 
 abbrev billing : List ℕ
 billing = codes "billing"
@@ -52,7 +54,7 @@ early number act = record { seq = number; moment = pos 1709535600; act = act }
 abbrev later : ℕ → Act → Entry
 later number act = record { seq = number; moment = pos 1709544600; act = act }
 
-abbrev morning : List Entry
+abbrev morning : History
 morning =
     early 1 (Create patients) ∷ early 2 (Create visits) ∷ early 3 (Purpose treatment) ∷ early 4 (Purpose billing)
     ∷ early 5 (Recipient nurse) ∷ early 6 (Recipient clerk) ∷ early 7 (Item (codes "contact") OptOut)
@@ -79,8 +81,8 @@ names_and_zips = select (column 1 ∷ column 3 ∷ []) always
 abbrev wards : Query
 wards = record { items = column 2 ∷ []; tables = visit ∷ []; cond = always; form = Plain }
 
-abbrev reading : List Entry → List ℕ → Option Query
-reading history text = if bytes_eq text (codes "south") then Some south else (if bytes_eq text (codes "names") then Some names_and_zips else Some wards)
+abbrev meaning : Meaning
+meaning history text = if bytes_eq text (codes "south") then Some south else (if bytes_eq text (codes "names") then Some names_and_zips else Some wards)
 
 abbrev ann_asks : Entry
 ann_asks = later 20 (Asked ann treatment nurse (codes "south"))
@@ -91,23 +93,27 @@ carl_asks = later 21 (Asked carl billing clerk (codes "names"))
 abbrev carl_asks_again : Entry
 carl_asks_again = later 23 (Asked carl billing clerk (codes "wards"))
 
-abbrev day : List Entry
+abbrev day : History
 day = morning ++ ann_asks ∷ carl_asks ∷ later 22 (Update patient (Int (pos 2) ∷ Text (codes "Bob") ∷ Text (codes "555-9") ∷ Int (pos 90210) ∷ [])) ∷ carl_asks_again ∷ []
 
-the_day_is_not_damaged : damage reading day ≡ None
+the_day_is_not_damaged : damage meaning day ≡ None
 unfolding words_and_texts
 the_day_is_not_damaged = refl
 
-two_tables_join_in_key_order : answer morning (pos 1709544600) treatment nurse south
+-- a clerk's question at 09:30:00
+abbrev billed : Context
+billed = record { purpose = billing; recipient = clerk; moment = pos 1709544600 }
+
+two_tables_join_in_key_order : answer morning (nursing (pos 1709544600)) south
     ≡ (Shown (Text (codes "Ada")) ∷ Shown (Text (codes "555-1")) ∷ Shown (Text (codes "south")) ∷ Shown Null ∷ [])
     ∷ (Shown (Text (codes "Bob")) ∷ Denied 11 ∷ Shown (Text (codes "south")) ∷ Shown (Day (pos 19784)) ∷ []) ∷ []
 two_tables_join_in_key_order = simp truths
 
-each_pair_has_its_own_rules : answer morning (pos 1709544600) billing clerk names_and_zips
+each_pair_has_its_own_rules : answer morning billed names_and_zips
     ≡ (Denied 0 ∷ Shown (Int (pos 95120)) ∷ []) ∷ (Denied 0 ∷ Shown (Int (pos 90210)) ∷ []) ∷ []
 each_pair_has_its_own_rules = simp truths
 
-table_without_rules_shows_no_row : answer day (pos 1709544600) billing clerk wards ≡ []
+table_without_rules_shows_no_row : answer day billed wards ≡ []
 table_without_rules_shows_no_row = refl
 
 -- who saw the name of a patient in the south ward on 2024-03-04
@@ -122,15 +128,15 @@ names_in_south = record {
   cond = in_south;
 }
 
-first_shared_tuple_of_two_tables : shared reading day names_in_south 20 ann_asks
+first_shared_tuple_of_two_tables : shared meaning day names_in_south ann_asks
     ≡ Some (record { table = patient; key = Int (pos 1) ∷ [] } ∷ record { table = visit; key = Int (pos 12) ∷ [] } ∷ [])
 first_shared_tuple_of_two_tables = simp truths
 
-shared_tuple_of_the_one_common_table : shared reading day names_in_south 21 carl_asks ≡ Some (record { table = patient; key = Int (pos 1) ∷ [] } ∷ [])
+shared_tuple_of_the_one_common_table : shared meaning day names_in_south carl_asks ≡ Some (record { table = patient; key = Int (pos 1) ∷ [] } ∷ [])
 shared_tuple_of_the_one_common_table = simp truths
 
-query_without_the_column_is_not_flagged : shared reading day names_in_south 23 carl_asks_again ≡ None
+query_without_the_column_is_not_flagged : shared meaning day names_in_south carl_asks_again ≡ None
 query_without_the_column_is_not_flagged = simp named_columns
 
-denials_as_they_were : denials reading day 20 ann_asks ≡ record { table = patient; key = Int (pos 2) ∷ []; column = codes "phone"; rule = 11 } ∷ []
+denials_as_they_were : denials meaning day ann_asks ≡ record { table = patient; key = Int (pos 2) ∷ []; column = codes "phone"; rule = 11 } ∷ []
 denials_as_they_were = simp named_columns

@@ -3,7 +3,7 @@ use Rattle.hippo_model.specs.declared.query.Form.TheVariants.{Plain}
 use Rattle.std.proofs.Common.{ℕ, ℤ, pos, true, false, List, [], ◌∷◌, Some, None, codes}
 use Rattle.hippo_values.specs.declared.values.Value.{Value}
 use Rattle.hippo_values.specs.declared.values.Value.TheVariants.{Null, Int, Text}
-use Rattle.hippo_model.specs.declared.cells.Cell.{Cell}
+use Rattle.hippo_model.specs.declared.born_row.BornRow.{BornRow}
 use Rattle.hippo_model.specs.declared.schema.Column.{Column}
 use Rattle.hippo_model.specs.declared.schema.ColumnKind.TheVariants.{Integer, Text as TextColumn}
 use Rattle.hippo_model.specs.declared.schema.Schema.{Schema}
@@ -17,6 +17,8 @@ use Rattle.hippo_model.specs.declared.query.Operand.TheVariants.{Column as Colum
 use Rattle.hippo_values.specs.declared.truths.CompareOp.TheVariants.{Eq}
 use Rattle.hippo_model.specs.declared.query.Ref.{Ref}
 use Rattle.hippo_model.specs.declared.query.Query.{Query}
+use Rattle.hippo_model.specs.Terms.{History, Row, ShownRow, Place}
+use Rattle.hippo_model.specs.Verdicts.{Context}
 use Rattle.hippo_model.specs.Answers.{answer}
 use Rattle.std.specs.Prelude.{⊤}
 use Rattle.std.specs.Str.{is_utf8, chars}
@@ -64,25 +66,28 @@ morning = pos 1704182400
 abbrev pub entry : ℕ → Act → Entry
 entry number act = record { seq = number; moment = morning; act = act }
 
-abbrev pub ada : List Value
+abbrev pub ada : Row
 ada = Int (pos 1) ∷ Text (codes "Ada") ∷ Text (codes "555-1") ∷ Int (pos 95120) ∷ []
 
-abbrev pub bob : List Value
+abbrev pub bob : Row
 bob = Int (pos 2) ∷ Text (codes "Bob") ∷ Text (codes "555-2") ∷ Null ∷ []
 
+abbrev pub born_in_the_morning : Row → BornRow
+born_in_the_morning row = record { row = row; born = morning }
+
 -- a nurse may see the number and the name of two patients
-abbrev pub clinic : List Entry
+abbrev pub clinic : History
 clinic =
     entry 1 (Create patients) ∷ entry 2 (Purpose treatment) ∷ entry 3 (Recipient nurse) ∷ entry 4 (Authorize ann treatment nurse)
     ∷ entry 5 (Allow treatment nurse patient (0 ∷ 1 ∷ []) None None) ∷ entry 6 (Insert patient ada) ∷ entry 7 (Insert patient bob) ∷ []
 
-abbrev pub column : ℕ → Ref
+abbrev pub column : Place → Ref
 column place = record { table = 0; column = place }
 
-abbrev pub column_of : ℕ → ℕ → Ref
+abbrev pub column_of : Place → Place → Ref
 column_of table place = record { table = table; column = place }
 
-abbrev pub equals : ℕ → Value → CondOf Operand
+abbrev pub equals : Place → Value → CondOf Operand
 equals place value = Compare Eq (ColumnOperand (column place)) (Literal value)
 
 -- columns of the patients for which a condition is true
@@ -92,8 +97,12 @@ select items condition = record { items = items; tables = patient ∷ []; cond =
 abbrev pub always : CondOf Operand
 always = All []
 
-abbrev pub ask : List Entry → Query → List (List Cell)
-ask history query = answer history morning treatment nurse query
+-- a nurse's question, at a moment
+abbrev pub nursing : ℤ → Context
+nursing moment = record { purpose = treatment; recipient = nurse; moment = moment }
+
+abbrev pub ask : History → Query → List ShownRow
+ask history query = answer history (nursing morning) query
 
 abbrev pub asked : ℕ → Entry
 asked number = entry number (Asked ann treatment nurse (codes "q"))

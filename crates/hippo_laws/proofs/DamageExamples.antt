@@ -6,16 +6,17 @@ use Rattle.hippo_model.specs.declared.entry.Entry.{Entry}
 use Rattle.hippo_model.specs.declared.entry.ItemKind.TheVariants.{OptIn}
 use Rattle.hippo_model.specs.declared.query.Query.{Query}
 use Rattle.hippo_model.specs.declared.schema.Schema.{Schema}
+use Rattle.hippo_model.specs.Terms.{History, Meaning}
 use Rattle.hippo_model.specs.Validity.{damage}
-use Rattle.hippo_model.proofs.ExampleHistories.{treatment, nurse, ann, patient, patients, number_column, required, entry, ada, bob, clinic, column, select, always, asked, words_and_texts}
+use Rattle.hippo_laws.proofs.ExampleHistories.{treatment, nurse, ann, patient, patients, number_column, required, entry, ada, bob, clinic, column, select, always, asked, words_and_texts}
 
 -- every question is this one
-abbrev pub reading : List Entry → List ℕ → Option Query
-reading history text = Some (select (column 1 ∷ []) always)
+abbrev pub meaning : Meaning
+meaning history text = Some (select (column 1 ∷ []) always)
 
 -- the damage of the clinic's history with one entry more
 abbrev damage_by : Entry → Option ℕ
-damage_by next = damage reading (clinic ++ next ∷ [])
+damage_by next = damage meaning (clinic ++ next ∷ [])
 
 -- a table with no subject
 abbrev wards : Schema
@@ -25,12 +26,12 @@ history_without_damage : damage_by (asked 8) ≡ None
 unfolding words_and_texts
 history_without_damage = refl
 
-missing_entry : damage reading (entry 1 (Create patients) ∷ entry 3 (Recipient nurse) ∷ []) ≡ Some 2
+missing_entry : damage meaning (entry 1 (Create patients) ∷ entry 3 (Recipient nurse) ∷ []) ≡ Some 2
 unfolding words_and_texts
 missing_entry = refl
 
 -- one second before the entries that stand
-falling_moment : damage reading (take 6 clinic ++ record { seq = 7; moment = pos 1704182399; act = Insert patient bob } ∷ []) ≡ Some 7
+falling_moment : damage meaning (take 6 clinic ++ record { seq = 7; moment = pos 1704182399; act = Insert patient bob } ∷ []) ≡ Some 7
 unfolding words_and_texts
 falling_moment = refl
 
@@ -42,7 +43,7 @@ cell_that_does_not_fit : damage_by (entry 8 (Insert patient (Int (pos 3) ∷ Nul
 unfolding words_and_texts
 cell_that_does_not_fit = refl
 
-insert_of_a_live_key : damage reading (take 6 clinic ++ entry 7 (Insert patient ada) ∷ []) ≡ Some 7
+insert_of_a_live_key : damage meaning (take 6 clinic ++ entry 7 (Insert patient ada) ∷ []) ≡ Some 7
 unfolding words_and_texts
 insert_of_a_live_key = refl
 
@@ -62,11 +63,11 @@ user_who_is_not_authorized : damage_by (entry 8 (Asked (codes "bea") treatment n
 unfolding words_and_texts
 user_who_is_not_authorized = refl
 
-user_whose_authorization_ended : damage reading (clinic ++ entry 8 (Deauthorize ann treatment nurse) ∷ asked 9 ∷ []) ≡ Some 9
+user_whose_authorization_ended : damage meaning (clinic ++ entry 8 (Deauthorize ann treatment nurse) ∷ asked 9 ∷ []) ≡ Some 9
 unfolding words_and_texts
 user_whose_authorization_ended = refl
 
-item_on_a_table_without_subject : damage reading (clinic ++ entry 8 (Create wards) ∷ entry 9 (Item (codes "calls") OptIn) ∷ entry 10 (Allow treatment nurse (codes "ward") (0 ∷ []) (Some (codes "calls")) None) ∷ [])
+item_on_a_table_without_subject : damage meaning (clinic ++ entry 8 (Create wards) ∷ entry 9 (Item (codes "calls") OptIn) ∷ entry 10 (Allow treatment nurse (codes "ward") (0 ∷ []) (Some (codes "calls")) None) ∷ [])
     ≡ Some 10
 unfolding words_and_texts
 item_on_a_table_without_subject = refl
@@ -75,7 +76,7 @@ table_that_is_created_twice : damage_by (entry 8 (Create patients)) ≡ Some 8
 unfolding words_and_texts
 table_that_is_created_twice = refl
 
-damage_is_the_first : damage reading (clinic ++ entry 8 (Insert patient ada) ∷ entry 8 (Create patients) ∷ []) ≡ Some 8
+damage_is_the_first : damage meaning (clinic ++ entry 8 (Insert patient ada) ∷ entry 8 (Create patients) ∷ []) ≡ Some 8
 unfolding words_and_texts
 damage_is_the_first = refl
 

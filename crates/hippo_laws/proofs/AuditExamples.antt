@@ -17,10 +17,11 @@ use Rattle.hippo_model.specs.declared.query.Operand.TheVariants.{Column, Literal
 use Rattle.hippo_model.specs.declared.query.Query.{Query}
 use Rattle.hippo_model.specs.declared.query.Ref.{Ref}
 use Rattle.hippo_model.specs.declared.schema.Schema.{Schema}
+use Rattle.hippo_model.specs.Terms.{History, Meaning}
 use Rattle.hippo_model.specs.Audits.{shared}
 use Rattle.hippo_model.proofs.NamedColumns.{named_columns}
 use Rattle.hippo_model.proofs.Truths.{truths}
-use Rattle.hippo_model.proofs.ExampleHistories.{treatment, nurse, ann, patient, number_column, text_column, required, entry, clinic, column, equals, select, always, ask, asked}
+use Rattle.hippo_laws.proofs.ExampleHistories.{treatment, nurse, ann, patient, number_column, text_column, required, entry, clinic, column, equals, select, always, ask, asked}
 
 -- who saw a column of the patients on 2024-01-02
 abbrev audit : List ℕ → List Ref → CondOf Operand → Audit
@@ -35,11 +36,11 @@ audit table columns condition = record {
 }
 
 -- every question is this one
-abbrev asks : Query → List Entry → List ℕ → Option Query
+abbrev asks : Query → Meaning
 asks query history text = Some query
 
-abbrev flag_of : Query → List Entry → Audit → ℕ → Option (List SharedRow)
-flag_of query history expression number = shared (asks query) history expression number (asked number)
+abbrev flag_of : Query → History → Audit → ℕ → Option (List SharedRow)
+flag_of query history expression number = shared (asks query) history expression (asked number)
 
 abbrev row_of : List ℕ → List Value → Option (List SharedRow)
 row_of table key = Some (record { table = table; key = key } ∷ [])
@@ -57,7 +58,7 @@ names_seen = audit patient (column 1 ∷ []) always
 abbrev names_by_zip : Query
 names_by_zip = select (column 1 ∷ []) (equals 3 (Int (pos 95120)))
 
-abbrev zips_asked : List Entry
+abbrev zips_asked : History
 zips_asked = clinic ++ entry 8 (Allow treatment nurse patient (3 ∷ []) None None) ∷ asked 9 ∷ []
 
 column_named_in_WHERE_alone_is_flagged : flag_of names_by_zip zips_asked (audit patient (column 3 ∷ []) (equals 1 (Text (codes "Ada")))) 9 ≡ first_patient
@@ -67,7 +68,7 @@ column_named_nowhere_is_not_flagged : flag_of names_by_zip zips_asked (audit pat
 column_named_nowhere_is_not_flagged = simp named_columns
 
 -- the first patient moves between two equal questions
-abbrev moved : List Entry
+abbrev moved : History
 moved =
     clinic ++ asked 8 ∷ entry 9 (Update patient (Int (pos 1) ∷ Text (codes "Ada") ∷ Text (codes "555-1") ∷ Int (pos 90210) ∷ [])) ∷ asked 10 ∷ []
 
@@ -84,7 +85,7 @@ rows_are_those_of_the_query : flag_of first_name moved names_after_the_move 10 �
 rows_are_those_of_the_query = simp truths
 
 -- the second patient is deleted, and then the numbers are forbidden
-abbrev gone : List Entry
+abbrev gone : History
 gone = clinic ++ asked 8 ∷ entry 9 (Delete patient (Int (pos 2) ∷ [])) ∷ asked 10 ∷ entry 11 (Revoke treatment nurse patient (0 ∷ [])) ∷ []
 
 abbrev second_name : Query
@@ -100,7 +101,7 @@ deleted_row_is_not_shared : flag_of second_name gone names_of_the_second 10 ≡ 
 deleted_row_is_not_shared = simp truths
 
 -- a patient's number and name are shown unless the patient said NO, as the second one does between two equal questions
-abbrev refused : List Entry
+abbrev refused : History
 refused =
     clinic ++ entry 8 (Item (codes "contact") OptOut) ∷ entry 9 (Allow treatment nurse patient (0 ∷ 1 ∷ []) (Some (codes "contact")) None)
     ∷ asked 10 ∷ entry 11 (Choice (pos 2) (codes "contact") false) ∷ asked 12 ∷ []
@@ -118,32 +119,32 @@ asked_at number moment = record { seq = number; moment = moment; act = Asked ann
 abbrev seconds : Audit
 seconds = record names_seen { from = pos 1704182401; to = pos 1704182402 }
 
-before_the_period : shared (asks names) clinic seconds 8 (asked_at 8 (pos 1704182400)) ≡ None
+before_the_period : shared (asks names) clinic seconds (asked_at 8 (pos 1704182400)) ≡ None
 before_the_period = refl
 
-at_the_beginning_of_the_period : shared (asks names) clinic seconds 9 (asked_at 9 (pos 1704182401)) ≡ first_patient
+at_the_beginning_of_the_period : shared (asks names) clinic seconds (asked_at 9 (pos 1704182401)) ≡ first_patient
 at_the_beginning_of_the_period = simp truths
 
-at_the_end_of_the_period : shared (asks names) clinic seconds 10 (asked_at 10 (pos 1704182402)) ≡ first_patient
+at_the_end_of_the_period : shared (asks names) clinic seconds (asked_at 10 (pos 1704182402)) ≡ first_patient
 at_the_end_of_the_period = simp truths
 
-after_the_period : shared (asks names) clinic seconds 11 (asked_at 11 (pos 1704182403)) ≡ None
+after_the_period : shared (asks names) clinic seconds (asked_at 11 (pos 1704182403)) ≡ None
 after_the_period = refl
 
 -- the same names are asked for two recipients, of which one is exempt
 abbrev clerk : List ℕ
 clerk = codes "clerk"
 
-abbrev two_recipients : List Entry
+abbrev two_recipients : History
 two_recipients = clinic ++ entry 8 (Recipient clerk) ∷ entry 9 (Authorize ann treatment clerk) ∷ entry 10 (Allow treatment clerk patient (0 ∷ 1 ∷ []) None None) ∷ []
 
 abbrev but_for_nurses : Audit
 but_for_nurses = record names_seen { exempt = record { purpose = treatment; recipient = nurse } ∷ [] }
 
-exempt_pair_is_not_flagged : shared (asks names) two_recipients but_for_nurses 11 (asked 11) ≡ None
+exempt_pair_is_not_flagged : shared (asks names) two_recipients but_for_nurses (asked 11) ≡ None
 exempt_pair_is_not_flagged = refl
 
-other_pair_is_flagged : shared (asks names) two_recipients but_for_nurses 12 (entry 12 (Asked ann treatment clerk (codes "q"))) ≡ first_patient
+other_pair_is_flagged : shared (asks names) two_recipients but_for_nurses (entry 12 (Asked ann treatment clerk (codes "q"))) ≡ first_patient
 other_pair_is_flagged = simp truths
 
 -- a table whose key has two columns
@@ -158,7 +159,7 @@ wards = record {
   subject = None;
 }
 
-abbrev rooms : List Entry
+abbrev rooms : History
 rooms =
     clinic
     ++ entry 8 (Create wards) ∷ entry 9 (Allow treatment nurse ward (0 ∷ 1 ∷ []) None None) ∷ entry 10 (Insert ward (Text (codes "b") ∷ Int (pos 1) ∷ []))

@@ -1,5 +1,5 @@
 -- Entries as they are kept, and stores whose damage shows in their bytes alone.
-use Rattle.std.proofs.Common.{◌≡◌, ℕ, pos, negsuc, true, false, Bool, ◌&&◌, List, [], ◌∷◌, ◌++◌, Some, refl, sym, ap, ◌∙◌, codes, take}
+use Rattle.std.proofs.Common.{◌≡◌, ℕ, pos, negsuc, true, false, Bool, ◌&&◌, List, [], ◌∷◌, ◌++◌, Some, refl, sym, ap, ◌∙◌, codes, take, drop}
 use Rattle.std.specs.Prelude.{None, nat_le, map}
 use Rattle.std.specs.List.{list_all}
 use Rattle.std.specs.Str.{bytes_eq}
@@ -10,11 +10,12 @@ use Rattle.hippo_model.specs.declared.entry.Act.{Act}
 use Rattle.hippo_model.specs.declared.entry.Act.TheVariants.{Create, Insert, Update, Delete, Purpose, Recipient, Item, Authorize, Deauthorize, Allow, Revoke, Choice, Asked}
 use Rattle.hippo_model.specs.declared.entry.Entry.{Entry}
 use Rattle.hippo_model.specs.declared.stored.StoredEntry.{StoredEntry}
+use Rattle.hippo_model.specs.Terms.{History}
 use Rattle.hippo_model.specs.StoredForms.{stored, number_bytes, act_kind, act_bytes, list_bytes, value_bytes}
 use Rattle.hippo_model.specs.Keepable.{is_keepable}
 use Rattle.hippo_model.specs.Stores.{IsStoreOf, IsDamagedAt}
-use Rattle.hippo_model.proofs.DamageExamples.{reading}
-use Rattle.hippo_model.proofs.ExampleHistories.{entry, clinic, morning, patient, ada, bob, number_column, text_column, required, words_and_texts}
+use Rattle.hippo_laws.proofs.DamageExamples.{meaning}
+use Rattle.hippo_laws.proofs.ExampleHistories.{entry, clinic, morning, patient, ada, bob, number_column, text_column, required, words_and_texts}
 
 care_is_kept_in_23_bytes : stored (entry 1 (Purpose (codes "care")))
     ≡ record {
@@ -52,7 +53,7 @@ reserved_word_cannot_be_kept = refl
 
 -- the kind is one of the thirteen, and the body tells the number that stands beside it
 abbrev agrees_with_itself : StoredEntry → Bool
-agrees_with_itself kept = nat_le kept.kind 13 && bytes_eq (take 9 kept.body) (1 ∷ number_bytes kept.seq)
+agrees_with_itself kept = nat_le kept.kind 13 && bytes_eq (take 8 (drop 1 kept.body)) (number_bytes kept.seq)
 
 is_one_of_thirteen : (act : Act) → nat_le (act_kind act) 13 ≡ true
 is_one_of_thirteen (Create schema) = refl
@@ -70,14 +71,14 @@ is_one_of_thirteen (Choice subject item agreed) = refl
 is_one_of_thirteen (Asked user purpose recipient text) = refl
 
 stored_agrees_with_itself : (entry : Entry) → agrees_with_itself (stored entry) ≡ true
-stored_agrees_with_itself entry = rw (is_one_of_thirteen entry.act) (nat_list_eq_equiv.refl (1 ∷ number_bytes entry.seq))
+stored_agrees_with_itself entry = rw (is_one_of_thirteen entry.act) (nat_list_eq_equiv.refl (number_bytes entry.seq))
 
-all_agree : (history : List Entry) → list_all agrees_with_itself (map stored history) ≡ true
+all_agree : (history : History) → list_all agrees_with_itself (map stored history) ≡ true
 all_agree [] = refl
 all_agree (entry ∷ later) = rw (stored_agrees_with_itself entry) (all_agree later)
 
 -- a store in which some entry does not agree with itself is that of no history
-of_no_history : (store : List StoredEntry) → list_all agrees_with_itself store ≡ false → (history : List Entry) → ¬ (IsStoreOf reading store history)
+of_no_history : (store : List StoredEntry) → list_all agrees_with_itself store ≡ false → (history : History) → ¬ (IsStoreOf meaning store history)
 of_no_history store wrong history is_store = false≢true (sym wrong ∙ sym (ap (list_all agrees_with_itself) is_store.forms) ∙ all_agree history)
 
 -- the clinic's store with its last two entries, or one entry more, as they are given
@@ -99,27 +100,27 @@ ada_entry = entry 6 (Insert patient ada)
 abbrev bob_entry : Entry
 bob_entry = entry 7 (Insert patient bob)
 
-number_beside_the_body : IsDamagedAt reading (six ++ with_number 8 (stored bob_entry) ∷ []) 7
+number_beside_the_body : IsDamagedAt meaning (six ++ with_number 8 (stored bob_entry) ∷ []) 7
 unfolding words_and_texts
 number_beside_the_body = record {
-  sound = take 6 clinic;
+  front = take 6 clinic;
   before = record { forms = refl; valid = refl };
   beyond = of_no_history _ refl;
 }
 
-bodies_that_changed_places : IsDamagedAt reading
+bodies_that_changed_places : IsDamagedAt meaning
     (map stored (take 5 clinic) ++ with_body_of (stored bob_entry) (stored ada_entry) ∷ with_body_of (stored ada_entry) (stored bob_entry) ∷ []) 6
 unfolding words_and_texts
 bodies_that_changed_places = record {
-  sound = take 5 clinic;
+  front = take 5 clinic;
   before = record { forms = refl; valid = refl };
   beyond = of_no_history _ refl;
 }
 
-kind_that_is_none : IsDamagedAt reading (map stored clinic ++ with_kind 99 (stored (entry 8 (Purpose (codes "billing")))) ∷ []) 8
+kind_that_is_none : IsDamagedAt meaning (map stored clinic ++ with_kind 99 (stored (entry 8 (Purpose (codes "billing")))) ∷ []) 8
 unfolding words_and_texts
 kind_that_is_none = record {
-  sound = clinic;
+  front = clinic;
   before = record { forms = refl; valid = refl };
   beyond = of_no_history _ refl;
 }

@@ -1,0 +1,8 @@
+mod AnswerExamples
+mod ExampleHistories
+mod DayExamples
+mod AuditExamples
+mod DamageExamples
+mod StoreExamples
+pub mod Codes
+pub mod ValidFronts
