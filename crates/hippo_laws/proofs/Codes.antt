@@ -27,7 +27,7 @@ pub split_alike : {A : Type 0} (a b r s : List A) → length a ≡ length b → 
 split_alike [] [] r s l e = (refl, e)
 split_alike [] (y ∷ b) r s l e = absurd cc
 split_alike (x ∷ a) [] r s l e = absurd cc
-split_alike (x ∷ a) (y ∷ b) r s l e =
+split_alike {A = A} (x ∷ a) (y ∷ b) r s l e =
     let same_length : length a ≡ length b = omega (arith, l) in
     let same_rest : a ++ r ≡ b ++ s = cc in
     let both = split_alike a b r s same_length same_rest in
@@ -36,12 +36,12 @@ split_alike (x ∷ a) (y ∷ b) r s l e =
 
 -- nothing is behind the parts
 pub last : {A : Type 0} {fits : A → Bool} {write : A → List ℕ} → IsReadOnce fits write → (x y : A) → fits x ≡ true → fits y ≡ true → write x ≡ write y → x ≡ y
-last {A} {fits} {write} read x y f g e = (read.once x y [] [] f g (ap (λ (bytes : List ℕ). bytes ++ []) e)).0
+last {A = A} {fits = fits} {write = write} read x y f g e = (read.once x y [] [] f g (ap (λ (bytes : List ℕ). bytes ++ []) e)).0
 
 -- one part behind another
 pub pair : {A B : Type 0} {fits : A → Bool} {fits_too : B → Bool} {write : A → List ℕ} {write_too : B → List ℕ} → IsReadOnce fits write → IsReadOnce fits_too write_too
     → IsReadOnce (both_fit fits fits_too) (one_then_other write write_too)
-pair {A} {B} {fits} {fits_too} {write} {write_too} first second = record {
+pair {A = A} {B = B} {fits = fits} {fits_too = fits_too} {write = write} {write_too = write_too} first second = record {
   once = λ x y r s f g e.
       let fx = and_parts (fits x.0) (fits_too x.1) f in
       let fy = and_parts (fits y.0) (fits_too y.1) g in
@@ -51,7 +51,7 @@ pair {A} {B} {fits} {fits_too} {write} {write_too} first second = record {
 }
 
 -- a byte
-pub a_byte : IsReadOnce {ℕ} any (λ n. n ∷ [])
+pub a_byte : IsReadOnce {A = ℕ} any (λ n. n ∷ [])
 a_byte = record { once = λ x y r s f g e. (cc, cc) }
 
 -- so many bytes, of which the number can be had again
@@ -74,7 +74,7 @@ members : {A : Type 0} (fits : A → Bool) (write : A → List ℕ) → IsReadOn
 members fits write read [] [] r s l f g e = (refl, e)
 members fits write read [] (y ∷ ys) r s l f g e = absurd cc
 members fits write read (x ∷ xs) [] r s l f g e = absurd cc
-members {A} fits write read (x ∷ xs) (y ∷ ys) r s l f g e =
+members {A = A} fits write read (x ∷ xs) (y ∷ ys) r s l f g e =
     let fx = and_parts (fits x) (list_all fits xs) f in
     let fy = and_parts (fits y) (list_all fits ys) g in
     let left : flat_map write (x ∷ xs) ++ r ≡ write x ++ (flat_map write xs ++ r) = ap (λ (b : List ℕ). b ++ r) (flat_map-cons write x xs) ∙ append_assoc (write x) (flat_map write xs) r in
@@ -89,7 +89,9 @@ all_fit has_room fits xs = has_room xs && list_all fits xs
 
 -- a count and so many members
 pub a_list : {A : Type 0} (has_room : List A → Bool) {fits : A → Bool} {write : A → List ℕ} → IsReadOnce fits write → IsReadOnce (all_fit has_room fits) (list_bytes write)
-a_list has_room {fits} {write} read = record {
+a_list has_room {fits = fits} {write = write} read = record {
   once = λ xs ys r s f g e.
-      members fits write read xs ys r s cc (and_parts (has_room xs) (list_all fits xs) f).1 (and_parts (has_room ys) (list_all fits ys) g).1 cc;
+      let same_length : length xs ≡ length ys = cc in
+      let same_members : flat_map write xs ++ r ≡ flat_map write ys ++ s = cc in
+      members fits write read xs ys r s same_length (and_parts (has_room xs) (list_all fits xs) f).1 (and_parts (has_room ys) (list_all fits ys) g).1 same_members;
 }

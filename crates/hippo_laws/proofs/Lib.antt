@@ -5,4 +5,6 @@ mod AuditExamples
 mod DamageExamples
 mod StoreExamples
 pub mod Codes
+pub mod ActCodes
+pub mod ChangedOperands
 pub mod ValidFronts
