@@ -183,12 +183,19 @@ item_again x y r s f g e = absurd cc
 pub an_item : IsReadOnce item_is_keepable item_bytes
 an_item = record { once = item_again }
 
--- the days stand at the end
-days_again : (x y : Option ℕ) → days_are_keepable x ≡ true → days_are_keepable y ≡ true → days_bytes x ≡ days_bytes y → x ≡ y
-days_again None None f g e = refl
-days_again (Some x) (Some y) f g e = ap Some (four_bytes x y [] [] (ltb-true _ _ f) (ltb-true _ _ g) (ap (λ (bytes : List ℕ). bytes ++ []) e)).0
-days_again None (Some y) f g e = absurd cc
-days_again (Some x) None f g e = absurd cc
+-- the format tells whether days stand at the end
+abbrev days_format : Option ℕ → ℕ
+days_format None = 1
+days_format (Some days) = 2
+
+days_again : (x y : Option ℕ) (r s : List ℕ) → days_are_keepable x ≡ true → days_are_keepable y ≡ true → days_format x ≡ days_format y → days_bytes x ++ r ≡ days_bytes y ++ s → (x ≡ y) × (r ≡ s)
+days_again None None r s f g formats e = (refl, e)
+days_again (Some x) (Some y) r s f g formats e = let both = four_bytes x y r s (ltb-true _ _ f) (ltb-true _ _ g) e in (ap Some both.0, both.1)
+days_again x y r s f g formats e = absurd cc
+
+format_of_rule : (p r t : Name) (c : List Place) (i : Option Name) (d : Option ℕ) → act_format (Allow p r t c i d) ≡ days_format d
+format_of_rule p r t c i None = refl
+format_of_rule p r t c i (Some days) = refl
 
 same_item_kind : (x y : ItemKind) → item_kind x ≡ item_kind y → x ≡ y
 same_item_kind OptIn OptIn e = refl
@@ -205,49 +212,65 @@ an_agreement = record { once = λ x y r s f g e. let bytes : from_bool x ≡ fro
 three_names : IsReadOnce (both_fit (both_fit is_folded_name is_folded_name) is_folded_name) (one_then_other (one_then_other name_bytes name_bytes) name_bytes)
 three_names = pair (pair a_name a_name) a_name
 
-act_again : (x y : Act) → act_is_keepable x ≡ true → act_is_keepable y ≡ true → act_kind x ≡ act_kind y → act_bytes x ≡ act_bytes y → x ≡ y
-act_again (Create x) (Create y) f g k e = ap Create (last a_schema x y f g e)
-act_again (Insert t x) (Insert u y) f g k e = ap (λ (p : Name × Row). Insert p.0 p.1) (last (pair a_name a_row) (t, x) (u, y) f g e)
-act_again (Update t x) (Update u y) f g k e = ap (λ (p : Name × Row). Update p.0 p.1) (last (pair a_name a_row) (t, x) (u, y) f g e)
-act_again (Delete t x) (Delete u y) f g k e = ap (λ (p : Name × Row). Delete p.0 p.1) (last (pair a_name a_row) (t, x) (u, y) f g e)
-act_again (Purpose x) (Purpose y) f g k e = ap Purpose (last a_name x y f g e)
-act_again (Recipient x) (Recipient y) f g k e = ap Recipient (last a_name x y f g e)
-act_again (Item x a) (Item y b) f g k e = ap (λ (p : Name × ItemKind). Item p.0 p.1) (last (pair a_name a_kind) (x, a) (y, b) (and_from _ true f refl) (and_from _ true g refl) e)
-act_again (Authorize u p r) (Authorize v q s) f g k e =
-    ap (λ (p : (Name × Name) × Name). Authorize p.0.0 p.0.1 p.1) (last three_names ((u, p), r) ((v, q), s) f g e)
-act_again (Deauthorize u p r) (Deauthorize v q s) f g k e =
-    ap (λ (p : (Name × Name) × Name). Deauthorize p.0.0 p.0.1 p.1) (last three_names ((u, p), r) ((v, q), s) f g e)
-act_again (Allow p r t c i d) (Allow p2 r2 t2 c2 i2 d2) f g k e =
-    let fits = and_parts (rule_is_keepable p r t c && item_is_keepable i) (days_are_keepable d) f in
-    let fits2 = and_parts (rule_is_keepable p2 r2 t2 c2 && item_is_keepable i2) (days_are_keepable d2) g in
-    let front = (pair (pair three_names some_places) an_item).once ((((p, r), t), c), i) ((((p2, r2), t2), c2), i2) (days_bytes d) (days_bytes d2) fits.0 fits2.0 e in
-    let days = days_again d d2 fits.1 fits2.1 front.1 in
-    λ j. Allow (front.0 j).0.0.0.0 (front.0 j).0.0.0.1 (front.0 j).0.0.1 (front.0 j).0.1 (front.0 j).1 (days j)
-act_again (Revoke p r t c) (Revoke p2 r2 t2 c2) f g k e =
-    ap (λ (p : ((Name × Name) × Name) × List Place). Revoke p.0.0.0 p.0.0.1 p.0.1 p.1) (last (pair three_names some_places) (((p, r), t), c) (((p2, r2), t2), c2) f g e)
-act_again (Choice n x a) (Choice m y b) f g k e =
-    ap (λ (p : (ℤ × Name) × Bool). Choice p.0.0 p.0.1 p.1) (last (pair (pair a_signed_number a_name) an_agreement) ((n, x), a) ((m, y), b) (and_from _ true f refl) (and_from _ true g refl) e)
-act_again (Asked u p r x) (Asked v q s y) f g k e =
-    ap (λ (p : ((Name × Name) × Name) × Txt). Asked p.0.0.0 p.0.0.1 p.0.1 p.1) (last (pair three_names a_question) (((u, p), r), x) (((v, q), s), y) f g e)
-act_again x y f g k e = absurd cc
+-- what an act is made of, and what stands behind it
+made : {A : Type 0} {x y : A} {r s : List ℕ} (make : A → Act) → (x ≡ y) × (r ≡ s) → (make x ≡ make y) × (r ≡ s)
+made make both = (ap make both.0, both.1)
+
+act_again : (x y : Act) (r s : List ℕ) → act_is_keepable x ≡ true → act_is_keepable y ≡ true → act_format x ≡ act_format y → act_kind x ≡ act_kind y → act_bytes x ++ r ≡ act_bytes y ++ s → (x ≡ y) × (r ≡ s)
+act_again (Create x) (Create y) r s f g o k e = made Create (a_schema.once x y r s f g e)
+act_again (Insert t x) (Insert u y) r s f g o k e = made (λ (p : Name × Row). Insert p.0 p.1) ((pair a_name a_row).once (t, x) (u, y) r s f g e)
+act_again (Update t x) (Update u y) r s f g o k e = made (λ (p : Name × Row). Update p.0 p.1) ((pair a_name a_row).once (t, x) (u, y) r s f g e)
+act_again (Delete t x) (Delete u y) r s f g o k e = made (λ (p : Name × Row). Delete p.0 p.1) ((pair a_name a_row).once (t, x) (u, y) r s f g e)
+act_again (Purpose x) (Purpose y) r s f g o k e = made Purpose (a_name.once x y r s f g e)
+act_again (Recipient x) (Recipient y) r s f g o k e = made Recipient (a_name.once x y r s f g e)
+act_again (Item x a) (Item y b) r s f g o k e = made (λ (p : Name × ItemKind). Item p.0 p.1) ((pair a_name a_kind).once (x, a) (y, b) r s (and_from _ true f refl) (and_from _ true g refl) e)
+act_again (Authorize u p n) (Authorize v q m) r s f g o k e =
+    made (λ (p : (Name × Name) × Name). Authorize p.0.0 p.0.1 p.1) (three_names.once ((u, p), n) ((v, q), m) r s f g e)
+act_again (Deauthorize u p n) (Deauthorize v q m) r s f g o k e =
+    made (λ (p : (Name × Name) × Name). Deauthorize p.0.0 p.0.1 p.1) (three_names.once ((u, p), n) ((v, q), m) r s f g e)
+act_again (Allow p n t c i d) (Allow p2 n2 t2 c2 i2 d2) r s f g o k e =
+    let fits = and_parts (rule_is_keepable p n t c && item_is_keepable i) (days_are_keepable d) f in
+    let fits2 = and_parts (rule_is_keepable p2 n2 t2 c2 && item_is_keepable i2) (days_are_keepable d2) g in
+    let first : List ℕ = name_bytes p ++ name_bytes n ++ name_bytes t ++ list_bytes place_bytes c ++ item_bytes i in
+    let first2 : List ℕ = name_bytes p2 ++ name_bytes n2 ++ name_bytes t2 ++ list_bytes place_bytes c2 ++ item_bytes i2 in
+    let regrouped = sym (append_assoc first (days_bytes d) r) ∙ e ∙ append_assoc first2 (days_bytes d2) s in
+    let front = (pair (pair three_names some_places) an_item).once ((((p, n), t), c), i) ((((p2, n2), t2), c2), i2) (days_bytes d ++ r) (days_bytes d2 ++ s) fits.0 fits2.0 regrouped in
+    let formats : days_format d ≡ days_format d2 = sym (format_of_rule p n t c i d) ∙ o ∙ format_of_rule p2 n2 t2 c2 i2 d2 in
+    let days = days_again d d2 r s fits.1 fits2.1 formats front.1 in
+    (λ j. Allow (front.0 j).0.0.0.0 (front.0 j).0.0.0.1 (front.0 j).0.0.1 (front.0 j).0.1 (front.0 j).1 (days.0 j), days.1)
+act_again (Revoke p n t c) (Revoke p2 n2 t2 c2) r s f g o k e =
+    made (λ (p : ((Name × Name) × Name) × List Place). Revoke p.0.0.0 p.0.0.1 p.0.1 p.1) ((pair three_names some_places).once (((p, n), t), c) (((p2, n2), t2), c2) r s f g e)
+act_again (Choice n x a) (Choice m y b) r s f g o k e =
+    made (λ (p : (ℤ × Name) × Bool). Choice p.0.0 p.0.1 p.1)
+    ((pair (pair a_signed_number a_name) an_agreement).once ((n, x), a) ((m, y), b) r s (and_from _ true f refl) (and_from _ true g refl) e)
+act_again (Asked u p n x) (Asked v q m y) r s f g o k e =
+    made (λ (p : ((Name × Name) × Name) × Txt). Asked p.0.0.0 p.0.0.1 p.0.1 p.1) ((pair three_names a_question).once (((u, p), n), x) (((v, q), m), y) r s f g e)
+act_again x y r s f g o k e = absurd cc
 
 -- ---- entries
 
--- a body tells the whole entry
-pub body_again : (x y : Entry) → is_keepable x ≡ true → is_keepable y ≡ true → body x ≡ body y → x ≡ y
-body_again x y f g e =
+body_again : (x y : Entry) (r s : List ℕ) → is_keepable x ≡ true → is_keepable y ≡ true → body x ++ r ≡ body y ++ s → (x ≡ y) × (r ≡ s)
+body_again x y r s f g e =
     let fits = and_parts (nat_lt x.seq 18446744073709551616 && is_moment x.moment) (act_is_keepable x.act) f in
     let fits2 = and_parts (nat_lt y.seq 18446744073709551616 && is_moment y.moment) (act_is_keepable y.act) g in
-    let behind : number_bytes x.seq ++ signed_bytes x.moment ++ act_kind x.act ∷ act_bytes x.act ≡ number_bytes y.seq ++ signed_bytes y.moment ++ act_kind y.act ∷ act_bytes y.act = cc in
-    let front = (pair a_number a_moment).once (x.seq, x.moment) (y.seq, y.moment) (act_kind x.act ∷ act_bytes x.act) (act_kind y.act ∷ act_bytes y.act) fits.0 fits2.0 behind in
+    let head : List ℕ = number_bytes x.seq ++ signed_bytes x.moment in
+    let head2 : List ℕ = number_bytes y.seq ++ signed_bytes y.moment in
+    let formats : act_format x.act ≡ act_format y.act = cc in
+    let behind : head ++ (act_kind x.act ∷ act_bytes x.act) ++ r ≡ head2 ++ (act_kind y.act ∷ act_bytes y.act) ++ s = cc in
+    let regrouped = sym (append_assoc head (act_kind x.act ∷ act_bytes x.act) r) ∙ behind ∙ append_assoc head2 (act_kind y.act ∷ act_bytes y.act) s in
+    let front = (pair a_number a_moment).once (x.seq, x.moment) (y.seq, y.moment) (act_kind x.act ∷ act_bytes x.act ++ r) (act_kind y.act ∷ act_bytes y.act ++ s) fits.0 fits2.0 regrouped in
     let kinds : act_kind x.act ≡ act_kind y.act = cc in
-    let fields : act_bytes x.act ≡ act_bytes y.act = cc in
-    let act = act_again x.act y.act fits.1 fits2.1 kinds fields in
-    λ i. record { seq = (front.0 i).0; moment = (front.0 i).1; act = act i }
+    let fields : act_bytes x.act ++ r ≡ act_bytes y.act ++ s = cc in
+    let act = act_again x.act y.act r s fits.1 fits2.1 formats kinds fields in
+    (λ i. record { seq = (front.0 i).0; moment = (front.0 i).1; act = act.0 i }, act.1)
+
+-- a body tells the whole entry, and where it ends
+pub a_body : IsReadOnce is_keepable body
+a_body = record { once = body_again }
 
 -- a stored form is that of one entry
 pub stored_again : (x y : Entry) → is_keepable x ≡ true → is_keepable y ≡ true → stored x ≡ stored y → x ≡ y
-stored_again x y f g e = body_again x y f g (ap (λ (kept : StoredEntry). kept.body) e)
+stored_again x y f g e = last a_body x y f g (ap (λ (kept : StoredEntry). kept.body) e)
 
 -- and so is the list of stored forms of a history
 pub all_stored_again : (xs ys : History) → list_all is_keepable xs ≡ true → list_all is_keepable ys ≡ true → map stored xs ≡ map stored ys → xs ≡ ys

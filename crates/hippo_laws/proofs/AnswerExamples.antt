@@ -1,5 +1,5 @@
 -- Answers, computed on small histories. Each example is named by what it shows.
-use Rattle.std.proofs.Common.{◌≡◌, pos, List, [], ◌∷◌, ◌++◌, Some, None, true, false, refl, codes}
+use Rattle.std.proofs.Common.{◌≡◌, ℤ, pos, List, [], ◌∷◌, ◌++◌, Some, None, true, false, refl, codes}
 use Rattle.hippo_values.specs.declared.values.Value.TheVariants.{Null, Int, Text}
 use Rattle.hippo_model.specs.declared.born_row.BornRow.{BornRow}
 use Rattle.hippo_model.specs.Terms.{History, ShownRow}
@@ -8,7 +8,7 @@ use Rattle.hippo_model.specs.declared.entry.ItemKind.TheVariants.{OptIn, OptOut}
 use Rattle.hippo_model.specs.declared.entry.Act.TheVariants.{Item, Allow, Revoke, Choice, Insert}
 use Rattle.hippo_model.specs.declared.query.Operand.TheVariants.{Column}
 use Rattle.hippo_model.specs.declared.query.CondOf.TheVariants.{All, Not, Missing}
-use Rattle.hippo_model.specs.declared.query.Expr.TheVariants.{Keep, Null as NullBy, Case}
+use Rattle.hippo_model.specs.declared.query.Expr.TheVariants.{Keep, Null as NullBy, Aged, Case}
 use Rattle.hippo_model.specs.declared.query.Masked.{Masked}
 use Rattle.hippo_model.specs.Masking.{masked_answer}
 use Rattle.hippo_model.specs.Rules.{choice_at}
@@ -85,3 +85,23 @@ rules_in_a_query_mask_its_cells = simp truths
 
 denied_guard_removes_its_row : masked_answer (choice_at mail) (record masked { guards = record { table = 0; expr = NullBy 8 } ∷ [] }) (both ∷ []) ≡ []
 denied_guard_removes_its_row = refl
+
+-- phones written with an age: shown in rows that were born after a second
+abbrev aged : ℤ → Masked
+aged after = record masked { items = Aged (column 2) 8 after ∷ [] }
+
+row_born_after_the_second_is_shown : masked_answer (choice_at mail) (aged (pos 1704182399)) (both ∷ []) ≡ (Shown (Text (codes "555-1")) ∷ []) ∷ (Shown (Text (codes "555-2")) ∷ []) ∷ []
+row_born_after_the_second_is_shown = simp truths
+
+row_born_in_the_second_is_denied : masked_answer (choice_at mail) (aged (pos 1704182400)) (both ∷ []) ≡ (Denied 8 ∷ []) ∷ (Denied 8 ∷ []) ∷ []
+row_born_in_the_second_is_denied = simp truths
+
+-- the same, as the patient's choice on mail says
+abbrev aged_by_choice : ℤ → Masked
+aged_by_choice after = record masked { items = Case (column 2) (column 0) (codes "mail") 9 false (Some after) ∷ [] }
+
+choice_decides_on_a_row_born_after_the_second : masked_answer (choice_at mail) (aged_by_choice (pos 1704182399)) (both ∷ []) ≡ (Shown (Text (codes "555-1")) ∷ []) ∷ (Denied 9 ∷ []) ∷ []
+choice_decides_on_a_row_born_after_the_second = simp truths
+
+no_choice_shows_a_row_born_in_the_second : masked_answer (choice_at mail) (aged_by_choice (pos 1704182400)) (both ∷ []) ≡ (Denied 9 ∷ []) ∷ (Denied 9 ∷ []) ∷ []
+no_choice_shows_a_row_born_in_the_second = simp truths

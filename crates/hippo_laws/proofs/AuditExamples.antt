@@ -19,12 +19,13 @@ use Rattle.hippo_model.specs.declared.query.Ref.{Ref}
 use Rattle.hippo_model.specs.declared.schema.Schema.{Schema}
 use Rattle.hippo_model.specs.Terms.{History, Meaning}
 use Rattle.hippo_model.specs.Audits.{shared}
+use Rattle.hippo_model.specs.Hits.{hits}
 use Rattle.hippo_model.proofs.NamedColumns.{named_columns}
 use Rattle.hippo_model.proofs.Truths.{truths}
 use Rattle.hippo_laws.proofs.ExampleHistories.{treatment, nurse, ann, patient, number_column, text_column, required, entry, clinic, column, equals, select, always, ask, asked}
 
 -- who saw a column of the patients on 2024-01-02
-abbrev audit : List ℕ → List Ref → CondOf Operand → Audit
+abbrev pub audit : List ℕ → List Ref → CondOf Operand → Audit
 audit table columns condition = record {
   from = pos 1704153600;
   to = pos 1704239999;
@@ -36,13 +37,13 @@ audit table columns condition = record {
 }
 
 -- every question is this one
-abbrev asks : Query → Meaning
+abbrev pub asks : Query → Meaning
 asks query history text = Some query
 
 abbrev flag_of : Query → History → Audit → ℕ → Option (List SharedRow)
 flag_of query history expression number = shared (asks query) history expression (asked number)
 
-abbrev row_of : List ℕ → List Value → Option (List SharedRow)
+abbrev pub row_of : List ℕ → List Value → Option (List SharedRow)
 row_of table key = Some (record { table = table; key = key } ∷ [])
 
 abbrev first_patient : Option (List SharedRow)
@@ -174,3 +175,10 @@ keys_of_two_columns_in_key_order = simp truths
 
 shared_key_of_two_columns : flag_of all_of_ward rooms (audit ward (column 1 ∷ []) (Compare Gt (Column (column 1)) (Literal (Int (pos 0))))) 13 ≡ row_of ward (Text (codes "a") ∷ Int (pos 2) ∷ [])
 shared_key_of_two_columns = simp truths
+
+-- how many patients an audit's condition finds, before and after the first one moves
+audit_finds_a_patient : hits clinic (audit patient (column 1 ∷ []) (equals 3 (Int (pos 95120)))) 0 ≡ 1
+audit_finds_a_patient = simp (truths, named_columns)
+
+audit_finds_no_patient_after_the_move : hits moved (audit patient (column 1 ∷ []) (equals 3 (Int (pos 95120)))) 0 ≡ 0
+audit_finds_no_patient_after_the_move = simp (truths, named_columns)

@@ -87,3 +87,18 @@ name_that_is_reserved = refl
 empty_question : damage_by (entry 8 (Asked ann treatment nurse [])) ≡ Some 8
 unfolding words_and_texts
 empty_question = refl
+
+abbrev phones_for : ℕ → Entry
+phones_for days = entry 8 (Allow treatment nurse patient (2 ∷ []) None (Some days))
+
+rule_for_no_day : damage_by (phones_for 0) ≡ Some 8
+unfolding words_and_texts
+rule_for_no_day = refl
+
+rule_for_a_hundred_years : damage_by (phones_for 36500) ≡ None
+unfolding words_and_texts
+rule_for_a_hundred_years = refl
+
+rule_for_more_than_a_hundred_years : damage_by (phones_for 36501) ≡ Some 8
+unfolding words_and_texts
+rule_for_more_than_a_hundred_years = refl

@@ -1,6 +1,6 @@
 -- A working day with two tables: joins, audits by two tables, and the denials of a query.
 use Rattle.hippo_model.specs.declared.query.Form.TheVariants.{Plain}
-use Rattle.std.proofs.Common.{◌≡◌, ℕ, pos, List, [], ◌∷◌, ◌++◌, Option, Some, None, false, refl, codes, if◌then◌else◌}
+use Rattle.std.proofs.Common.{◌≡◌, ℕ, pos, List, [], ◌∷◌, ◌++◌, Option, Some, None, true, false, refl, codes, if◌then◌else◌}
 use Rattle.std.specs.Prelude.{bytes_eq}
 use Rattle.hippo_values.specs.declared.values.Value.TheVariants.{Null, Int, Text, Day}
 use Rattle.hippo_values.specs.declared.truths.CompareOp.TheVariants.{Eq}
@@ -22,6 +22,7 @@ use Rattle.hippo_model.specs.Verdicts.{Context}
 use Rattle.hippo_model.specs.Answers.{answer}
 use Rattle.hippo_model.specs.Audits.{shared}
 use Rattle.hippo_model.specs.Denials.{denials}
+use Rattle.hippo_model.specs.Hits.{hits}
 use Rattle.hippo_model.specs.Validity.{damage}
 use Rattle.hippo_model.proofs.NamedColumns.{named_columns}
 use Rattle.hippo_model.proofs.Truths.{truths}
@@ -140,3 +141,26 @@ query_without_the_column_is_not_flagged = simp named_columns
 
 denials_as_they_were : denials meaning day ann_asks ≡ record { table = patient; key = Int (pos 2) ∷ []; column = codes "phone"; rule = 11 } ∷ []
 denials_as_they_were = simp named_columns
+
+abbrev names_shown_in_south : Audit
+names_shown_in_south = record names_in_south { shown = true }
+
+shown_names_are_flagged : shared meaning day names_shown_in_south ann_asks
+    ≡ Some (record { table = patient; key = Int (pos 1) ∷ [] } ∷ record { table = visit; key = Int (pos 12) ∷ [] } ∷ [])
+shown_names_are_flagged = simp truths
+
+denied_name_is_not_flagged_as_shown : shared meaning day names_shown_in_south carl_asks ≡ None
+denied_name_is_not_flagged_as_shown = simp truths
+
+-- who asked for the second patient's phone, or saw it
+abbrev phone_asked : Audit
+phone_asked = record names_in_south { columns = column 2 ∷ []; tables = patient ∷ []; cond = Compare Eq (ColumnOperand (column 1)) (Literal (Text (codes "Bob"))) }
+
+denied_phone_is_flagged_as_asked : shared meaning day phone_asked ann_asks ≡ Some (record { table = patient; key = Int (pos 2) ∷ [] } ∷ [])
+denied_phone_is_flagged_as_asked = simp truths
+
+denied_phone_is_not_flagged_as_shown : shared meaning day (record phone_asked { shown = true }) ann_asks ≡ None
+denied_phone_is_not_flagged_as_shown = simp truths
+
+each_tables_own_conditions_find_rows : (hits day names_in_south 0 ≡ 2) × (hits day names_in_south 1 ≡ 2)
+each_tables_own_conditions_find_rows = (simp (truths, named_columns), simp (truths, named_columns))

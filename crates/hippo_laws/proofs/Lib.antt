@@ -4,7 +4,10 @@ mod DayExamples
 mod AuditExamples
 mod DamageExamples
 mod StoreExamples
+mod RetentionExamples
+mod FormExamples
 pub mod Codes
 pub mod ActCodes
 pub mod ChangedOperands
 pub mod ValidFronts
+pub mod OneStore

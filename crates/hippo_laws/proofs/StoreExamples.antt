@@ -5,15 +5,17 @@ use Rattle.std.specs.List.{list_all}
 use Rattle.std.specs.Str.{bytes_eq}
 use Rattle.std.specs.Cmp.Lexicographic.{nat_list_eq_equiv}
 use mathlib.Core.Bool.{false≢true}
+use Rattle.std.proofs.lemmas.List.{append-nil}
 use Rattle.hippo_values.specs.declared.values.Value.TheVariants.{Null, Int, Text, Day}
 use Rattle.hippo_model.specs.declared.entry.Act.{Act}
 use Rattle.hippo_model.specs.declared.entry.Act.TheVariants.{Create, Insert, Update, Delete, Purpose, Recipient, Item, Authorize, Deauthorize, Allow, Revoke, Choice, Asked}
 use Rattle.hippo_model.specs.declared.entry.Entry.{Entry}
 use Rattle.hippo_model.specs.declared.stored.StoredEntry.{StoredEntry}
 use Rattle.hippo_model.specs.Terms.{History}
-use Rattle.hippo_model.specs.StoredForms.{stored, number_bytes, act_kind, act_bytes, list_bytes, value_bytes}
+use Rattle.hippo_model.specs.StoredForms.{body, stored, act_format, number_bytes, act_kind, act_bytes, list_bytes, value_bytes}
 use Rattle.hippo_model.specs.Keepable.{is_keepable}
 use Rattle.hippo_model.specs.Stores.{IsStoreOf, IsDamagedAt}
+use Rattle.hippo_laws.proofs.ActCodes.{a_body}
 use Rattle.hippo_laws.proofs.DamageExamples.{meaning}
 use Rattle.hippo_laws.proofs.ExampleHistories.{entry, clinic, morning, patient, ada, bob, number_column, text_column, required, words_and_texts}
 
@@ -43,9 +45,34 @@ rule_is_kept : act_bytes (Allow (codes "care") (codes "nurse") (codes "ward") (1
     ≡ 4 ∷ codes "care" ++ 5 ∷ codes "nurse" ++ 4 ∷ codes "ward" ++ 2 ∷ 1 ∷ 0 ∷ 1 ∷ 4 ∷ codes "mail"
 rule_is_kept = refl
 
+-- 36,500 days are 142 * 256 + 148
+rule_with_days_is_kept_in_format_2 : body (entry 8 (Allow (codes "care") (codes "nurse") (codes "ward") (1 ∷ 0 ∷ []) None (Some 36500)))
+    ≡ 2 ∷ 0 ∷ 0 ∷ 0 ∷ 0 ∷ 0 ∷ 0 ∷ 0 ∷ 8 ∷ 0 ∷ 0 ∷ 0 ∷ 0 ∷ 101 ∷ 147 ∷ 194 ∷ 128 ∷ 10
+    ∷ 4 ∷ codes "care" ++ 5 ∷ codes "nurse" ++ 4 ∷ codes "ward" ++ 2 ∷ 1 ∷ 0 ∷ 0 ∷ 0 ∷ 0 ∷ 142 ∷ 148 ∷ []
+rule_with_days_is_kept_in_format_2 = refl
+
 care_can_be_kept : is_keepable (entry 1 (Purpose (codes "care"))) ≡ true
 unfolding words_and_texts
 care_can_be_kept = refl
+
+abbrev care : Entry
+care = entry 1 (Purpose (codes "care"))
+
+-- care's body with one byte more, with its last byte less, and in format 0
+one_byte_more_is_no_body : (other : Entry) → is_keepable other ≡ true → ¬ (body other ≡ body care ++ 0 ∷ [])
+one_byte_more_is_no_body other keepable e =
+    let behind = (a_body.once care other (0 ∷ []) [] care_can_be_kept keepable (sym e ∙ sym (append-nil (body other)))).1 in absurd cc
+
+one_byte_less_is_no_body : (other : Entry) → is_keepable other ≡ true → ¬ (body other ++ 101 ∷ [] ≡ body care)
+one_byte_less_is_no_body other keepable e =
+    let behind = (a_body.once care other [] (101 ∷ []) care_can_be_kept keepable (append-nil (body care) ∙ sym e)).1 in absurd cc
+
+format_is_not_0 : (act : Act) → ¬ (act_format act ≡ 0)
+format_is_not_0 (Allow purpose recipient table columns item (Some days)) e = absurd cc
+format_is_not_0 act e = absurd cc
+
+format_0_is_no_body : (other : Entry) → ¬ (body other ≡ 0 ∷ drop 1 (body care))
+format_0_is_no_body other e = format_is_not_0 other.act cc
 
 reserved_word_cannot_be_kept : is_keepable (entry 1 (Purpose (codes "select"))) ≡ false
 unfolding words_and_texts

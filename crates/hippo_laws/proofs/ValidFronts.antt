@@ -3,11 +3,14 @@ use Rattle.std.proofs.Common.{◌≡◌, ℕ, zero, suc, ◌+◌, ◌-◌, ◌<�
 use Rattle.std.specs.Prelude.{is_none, slice_get, if◌then◌else◌, ◌==◌}
 use Rattle.std.specs.Option.{option_or}
 use Rattle.std.proofs.lemmas.Bool.{and_parts, eqb-true}
-use Rattle.std.proofs.lemmas.List.{append-nil, length-append}
+use Rattle.std.proofs.lemmas.List.{append-nil, length-append, take-append-le, take_at}
+use Rattle.std.proofs.lemmas.Option.{slice_get_within}
 use Rattle.hippo_model.specs.declared.entry.Entry.{Entry}
 use Rattle.hippo_model.specs.Terms.{History, Meaning, Place}
+use Rattle.hippo_model.specs.Histories.{before_entry}
 use Rattle.hippo_model.specs.Keepable.{is_keepable}
 use Rattle.hippo_model.specs.Validity.{keeps_order, is_acceptable, may_follow, damage_after, damage, is_valid}
+use Rattle.hippo_laws.specs.Audits.{StandsIn}
 
 if_or : (test : Bool) (found place later : Option ℕ) → (if test then option_or found later else option_or place later) ≡ option_or (if test then found else place) later
 if_or true found place later = refl
@@ -96,3 +99,16 @@ pub entry_has_its_number : (meaning : Meaning) (history : History) → is_valid 
 entry_has_its_number meaning history valid place entry e =
     let number = numbers meaning [] history (none (damage meaning history) valid) place entry e in
     omega arith
+
+-- the entries before one that stands in a valid history are the same when entries are added
+pub before-append : (meaning : Meaning) (history : History) (entry : Entry) → StandsIn meaning history entry → (later : History) → before_entry entry (history ++ later) ≡ before_entry entry history
+before-append meaning history entry s later =
+    let number : entry.seq ≡ s.place + 1 = entry_has_its_number meaning history s.valid s.place entry s.stands in
+    let within : s.place < length history = slice_get_within history s.place entry s.stands in
+    take-append-le (entry.seq - 1) history later (omega arith)
+
+pub entries_before : (meaning : Meaning) (history : History) (entry : Entry) → may_follow meaning history entry ≡ true → (later : History) → before_entry entry (history ++ entry ∷ later) ≡ history
+entries_before meaning history entry may later =
+    let number : entry.seq ≡ length history + 1 = next_number meaning history entry may in
+    let place : entry.seq - 1 ≡ length history = omega arith in
+    ap (λ (n : ℕ). take n (history ++ entry ∷ later)) place ∙ take_at history (entry ∷ later) (length history) refl
