@@ -7,3 +7,6 @@ pub mod KeysInOrder
 pub mod LastWords
 pub mod RowsAfter
 pub mod TableRows
+pub mod ChangedOperands
+pub mod OuterParts
+pub mod ChangesOfRows

@@ -1,7 +1,7 @@
 -- Which queries an audit flags, and by which shared tuple (after the indispensable tuples of Agrawal and others, Auditing
 -- Compliance with a Hippocratic Database, VLDB 2004; that answers are compared as bags, that a query is judged over its
 -- view and the audit over unmasked rows, and SHOWN are this project's own).
-use Rattle.std.specs.Prelude.{ℕ, Bool, false, not, ◌&&◌, ◌||◌, int_le, List, [], map, filter, find, slice_index_or, Option, None, is_some, option_map, option_and_then, if◌then◌else◌, bytes_eq}
+use Rattle.std.specs.Prelude.{Bool, false, not, ◌&&◌, ◌||◌, int_le, List, [], map, filter, find, slice_index_or, Option, None, is_some, option_and_then, if◌then◌else◌, bytes_eq}
 use Rattle.std.specs.List.{list_any, list_all, position_or_len}
 use Rattle.std.specs.Option.{option_map_or}
 use Rattle.hippo_values.specs.declared.moments.Moment.{Moment}

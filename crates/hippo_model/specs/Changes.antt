@@ -1,12 +1,12 @@
 -- What one version does to a table's kept rows.
-use Rattle.std.specs.Prelude.{Bool, true, false, not, ◌&&◌, Option, None, is_some, option_and_then, bytes_eq}
+use Rattle.std.specs.Prelude.{not, ◌&&◌, Option, None, is_some, option_and_then, bytes_eq}
 use Rattle.std.specs.Bool.{then_some}
 use Rattle.hippo_values.specs.declared.moments.Moment.{Moment}
 use Rattle.hippo_model.specs.declared.born_row.BornRow.{BornRow}
 use Rattle.hippo_model.specs.declared.entry.Act.{Act}
 use Rattle.hippo_model.specs.declared.entry.Act.TheVariants.{Insert, Update, Delete}
 use Rattle.hippo_model.specs.declared.schema.Schema.{Schema}
-use Rattle.hippo_model.specs.Terms.{Row, Key}
+use Rattle.hippo_model.specs.Terms.{Row}
 use Rattle.hippo_model.specs.Rows.{key_of}
 use Rattle.hippo_model.specs.RowSets.{KeyedRows, with_row, without_row, row_with}
 use Rattle.hippo_model.specs.Versions.{row_fits, key_fits}

@@ -40,7 +40,7 @@ is_listed query schema place =
 abbrev pub row_denials : History → Context → Query → Schema → BornRow → List Denial
 row_denials history context query schema kept =
     let denial : Place → Column → Option Denial =
-        λ place column. denial_by schema kept.row column.name (verdict history context schema kept place) in
+    λ place column. denial_by schema kept.row column.name (verdict history context schema kept place) in
     filter_map (λ (place, column). if is_listed query schema place then denial place column else None)
     (enumerate_from 0 schema.columns)
 

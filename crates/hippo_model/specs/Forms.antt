@@ -1,5 +1,5 @@
 -- Plain, distinct and grouped answers.
-use Rattle.std.specs.Prelude.{ℕ, Bool, not, List, [], ◌∷◌, map, filter, take, slice_index_or, if◌then◌else◌}
+use Rattle.std.specs.Prelude.{not, List, [], ◌∷◌, map, filter, take, slice_index_or, if◌then◌else◌}
 use Rattle.std.specs.Ordering.{is_le}
 use Rattle.hippo_values.specs.declared.values.Value.{Value}
 use Rattle.hippo_values.specs.declared.values.Value.TheVariants.{Null}

@@ -1,6 +1,6 @@
 -- A history is a list of entries; the state of entry number n is what the first n - 1 of them make. Every definition
 -- takes the entries that stand, and looks for the last one that speaks of what is asked.
-use Rattle.std.specs.Prelude.{ℕ, Bool, List, [], ◌∷◌, ◌-◌, take, Option, None, bytes_eq}
+use Rattle.std.specs.Prelude.{[], ◌∷◌, ◌-◌, take, Option, None, bytes_eq}
 use Rattle.std.specs.Bool.{then_some}
 use Rattle.std.specs.Option.{option_or}
 use Rattle.hippo_values.specs.declared.names.Name.{Name}

@@ -99,7 +99,7 @@ act_is_keepable (Authorize user purpose recipient) =
     is_folded_name user && is_folded_name purpose && is_folded_name recipient
 act_is_keepable (Deauthorize user purpose recipient) =
     is_folded_name user && is_folded_name purpose && is_folded_name recipient
-act_is_keepable (Allow purpose recipient table columns item days) = 
+act_is_keepable (Allow purpose recipient table columns item days) =
     rule_is_keepable purpose recipient table columns && item_is_keepable item && days_are_keepable days
 act_is_keepable (Revoke purpose recipient table columns) = rule_is_keepable purpose recipient table columns
 act_is_keepable (Choice subject item agreed) = is_signed_number subject && is_folded_name item

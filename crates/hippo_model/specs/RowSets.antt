@@ -1,5 +1,5 @@
 -- A table's rows as they are kept: in the order of their keys, each with the moment at which it was born.
-use Rattle.std.specs.Prelude.{◌≡◌, ℕ, suc, List, [], ◌∷◌, Option, Some, None, option_map, if◌then◌else◌, find}
+use Rattle.std.specs.Prelude.{◌≡◌, List, [], ◌∷◌, Option, if◌then◌else◌, find, position}
 use Rattle.std.specs.Ordering.{match_ordering}
 use Rattle.std.specs.declared.cmp.Ordering.TheVariants.{Less}
 use Rattle.hippo_model.specs.declared.born_row.BornRow.{BornRow}
@@ -53,9 +53,7 @@ without_row key set = record { key = set.key; rows = take_row set.key key set.ro
 
 -- the place of the row that has a key
 abbrev pub find_row : List Place → Key → List BornRow → Option Place
-find_row places key [] = None
-find_row places key (first ∷ rest) =
-    if same_cells (key_in places first) key then Some 0 else option_map suc (find_row places key rest)
+find_row places key rows = position (λ kept. same_cells (key_in places kept) key) rows
 
 -- the row that has a key
 abbrev pub row_with : Key → KeyedRows → Option BornRow

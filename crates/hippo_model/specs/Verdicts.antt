@@ -1,7 +1,7 @@
 -- Whether a cell is shown, or which rule denies it (LeFevre and others, Limiting Disclosure in Hippocratic Databases,
 -- VLDB 2004; that a rule may end some days after a row's birth is this project's own form of limited retention, which
 -- Agrawal and others, Hippocratic Databases, VLDB 2002, name among the principles).
-use Rattle.std.specs.Prelude.{ℕ, ◌*◌, ℤ, pos, ◌-ℤ◌, int_le, Bool, true, false, not, ◌||◌, List, Option, Some, None, if◌then◌else◌, unwrap_or, option_and_then}
+use Rattle.std.specs.Prelude.{ℕ, ◌*◌, ℤ, pos, ◌-ℤ◌, int_le, Bool, true, false, not, ◌||◌, Option, Some, None, if◌then◌else◌, unwrap_or, option_and_then}
 use Rattle.std.specs.Option.{option_map_or}
 use Rattle.hippo_values.specs.declared.moments.Moment.{Moment}
 use Rattle.hippo_values.specs.declared.names.Name.{Name}

@@ -1,7 +1,6 @@
 ghost use Rattle.std.specs.Prelude.{◌≡◌, ◌<◌, ◌-◌, ◌↔◌, [], ◌∷◌, ◌++◌, length, take, option_map, slice_get, Some, IsTrue, OnOk, OnErr};
 
 use crate::cells::Cells;
-use crate::row_set::RowSet;
 use crate::schema::Places;
 use hippo_values::{Memory, Moment, Name, Sequence};
 use std::alloc::Global;
@@ -26,62 +25,6 @@ pub trait ChoiceView {
     /// Whether the patient with this number said yes or no to the item; none where neither.
     fn choice(&self, subject: i64, item: &Name) -> Option<bool>
         ensures { result ≡ choices self.now subject item.now };
-}
-
-/// The rows of each of a statement's tables, in the order of FROM.
-#[derive(Drop)]
-pub struct Sets<'a> {
-    sets: Vec<&'a RowSet>,
-}
-
-impl<'a> Model for Sets<'a> {
-    ghost use Rattle.std.specs.Prelude.{List, map};
-    ghost use Rattle.hippo_model.specs.RowSets.{KeyedRows};
-
-    ghost Value = { List KeyedRows };
-
-    ghost view = { λ sets. map (λ set. set.now) sets.sets.items };
-}
-
-impl<'a> Sets<'a> {
-    /// No table; takes no memory.
-    pub fn new(alloc: Global) -> Sets<'a>
-        ensures { result ≡ [] }
-    {
-        Sets {
-            sets: Vec::new(alloc),
-        }
-    }
-
-    /// Adds the rows of the next table.
-    pub fn push(&mut self, set: &'a RowSet) -> Result<(), Memory>
-        ensures ok { OnOk result (self.new ≡ self.old ++ set.now ∷ []) }
-        ensures err { OnErr result (self.new ≡ self.old) }
-    {
-        self.sets.push(set)?;
-        Ok(())
-    }
-
-    /// The number of tables.
-    pub fn len(&self) -> usize
-        ensures { result ≡ length self.now }
-    {
-        self.sets.len()
-    }
-
-    pub fn is_empty(&self) -> bool
-        ensures { IsTrue result ↔ (self.now ≡ []) }
-    {
-        self.sets.is_empty()
-    }
-
-    /// The rows of the table at a place, counted from 0.
-    pub fn get(&self, place: usize) -> &'a RowSet
-        requires { place < length self.now }
-        ensures { slice_get self.now place ≡ Some result.now }
-    {
-        self.sets[place]
-    }
 }
 
 // A row that stands elsewhere, and the moment at which it was born.

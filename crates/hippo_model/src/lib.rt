@@ -6,6 +6,8 @@ mod born_row;
 mod cells;
 mod combo;
 mod entry;
+mod lent;
+mod name_fault;
 mod policy;
 mod query;
 mod row_set;
@@ -16,8 +18,10 @@ mod stored;
 pub use audit::{Audit, Flag, Flags, Pair, Pairs, SharedRow, SharedTuple};
 pub use born_row::BornRow;
 pub use cells::{Answer, Cell, CellRow, Cells};
-pub use combo::{ChoiceView, Combo, Plan, Sets, Sizes};
+pub use combo::{ChoiceView, Combo, Plan, Sizes};
 pub use entry::{Act, Entry, History, ItemKind};
+pub use lent::{Lent, LentSchemas, Sets};
+pub use name_fault::NameFault;
 pub use policy::{Authorization, Gate, Gates, RuleAt, RulesInForce, TableRules, Verdict};
 pub use query::{
     CondOf, Expr, Exprs, Form, Guard, Guards, Masked, Operand, Operands, Out, Outs, Query, Ref,

@@ -7,7 +7,10 @@ pub enum RuleAt<'a> {
     /// No rule ever named the cell.
     Unnamed,
     /// Allowed by this entry, for so many days from a row's birth, or without end.
-    Always { rule: u64, days: Option<u32> },
+    Always {
+        rule: u64,
+        days: Option<u32>,
+    },
     /// The same, as the patient's choice on an item says.
     With {
         rule: u64,
@@ -40,7 +43,10 @@ pub enum Gate {
     Always,
     Never(u64),
     /// Shown in rows that were born later than the second `after`.
-    Aged { rule: u64, after: i64 },
+    Aged {
+        rule: u64,
+        after: i64,
+    },
     /// Shown as the patient's choice on an item says, and in no row that was not born later than `after`.
     With {
         rule: u64,

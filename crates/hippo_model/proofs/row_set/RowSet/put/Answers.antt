@@ -17,7 +17,7 @@ pub returns-in-Ok-clause-ok : goal.returns-in-Ok-clause-ok
 returns-in-Ok-clause-ok c =
     let range = rw c.deref.ensures.value at c.in-Ok.ensures.range in
     let place = rw (c.deref.ensures.value, c.as_slice.ensures, c.as_slice-2.ensures) at c.in-Ok.ensures.place in
-    with_row-found c.self.inside.key (record { row = c.args.row; born = c.args.born }) c.self.inside.rows.items c.in-Ok.place c.self.invariant range place ∙ ap (with_row c.args.row c.args.born) c.self.view_is
+    with_row-found c.self.inside.key (record { row = c.args.row; born = c.args.born }) c.self.inside.rows.items c.in-Ok.place c.self.invariant range place ∙ ap (with_row (record { row = c.args.row; born = c.args.born })) c.self.view_is
 
 -- the row is put where a search says that it belongs
 pub invariant_of-self-in-Err : goal.invariant_of-self-in-Err
@@ -32,7 +32,7 @@ returns-in_ok-insert-in-Err-clause-ok c =
     let range = rw c.deref.ensures.value at c.in-Err.ensures.range in
     let place = rw (c.deref.ensures.value, c.as_slice.ensures, c.as_slice-2.ensures) at c.in-Err.ensures.place in
     let parted = place (answers_rise c.self.inside.key (key_of c.self.inside.key c.args.row) c.self.inside.rows.items c.self.invariant) in
-    rw c.in_ok-insert-in-Err.ensures.items (with_row-missing c.self.inside.key (record { row = c.args.row; born = c.args.born }) c.self.inside.rows.items c.in-Err.place range parted ∙ ap (with_row c.args.row c.args.born) c.self.view_is)
+    rw c.in_ok-insert-in-Err.ensures.items (with_row-missing c.self.inside.key (record { row = c.args.row; born = c.args.born }) c.self.inside.rows.items c.in-Err.place range parted ∙ ap (with_row (record { row = c.args.row; born = c.args.born })) c.self.view_is)
 
 -- memory is short only for a key that was not there
 pub returns-in_err-insert-in-Err-clause-replaces : goal.returns-in_err-insert-in-Err-clause-replaces

@@ -1,0 +1,16 @@
+-- The search goes by the keys, which ascend.
+use Rattle.std.proofs.Common.{sym, ap, ◌∙◌}
+use Rattle.hippo_model.specs.Rows.{key_of}
+use Rattle.hippo_model.specs.RowSets.{KeyedRows, find_row}
+use Rattle.hippo_model.proofs.KeptRows.{find_row-range, find_row-searched}
+use Rattle.hippo_model.proofs.row_set.RowSet.find_like.Goals as goal
+
+pub returns-clause-place : goal.returns-clause-place
+returns-clause-place c =
+    let range = rw c.deref.ensures.value at c.search_row.ensures.range in
+    let place = rw (c.deref.ensures.value, c.as_slice.ensures, c.as_slice-2.ensures) at c.search_row.ensures.place in
+    let found = find_row-searched c.self.inside.key (key_of c.self.inside.key c.args.row.now) c.self.inside.rows.items c.search_row.result c.self.invariant range place in
+    c.ok.ensures.value ∙ sym found ∙ ap (λ (set : KeyedRows). find_row set.key (key_of set.key c.args.row.now) set.rows) c.self.view_is
+
+pub returns-clause-range : goal.returns-clause-range
+returns-clause-range c = rw (returns-clause-place c) (find_row-range c.args.self.now.key (key_of c.args.self.now.key c.args.row.now) c.args.self.now.rows)
