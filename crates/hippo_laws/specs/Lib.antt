@@ -1,0 +1,4 @@
+pub mod Conditions
+pub mod Histories
+pub mod Stores
+pub mod Audits
