@@ -4,7 +4,7 @@ use Rattle.std.specs.Char.{is_ascii_alphabetic}
 use Rattle.std.proofs.lemmas.Bool.{cases_Bool, and_parts, and_from, both_ways, eqb-true}
 use Rattle.std.proofs.lemmas.Bool.Decides.{nat_tests}
 use Rattle.std.proofs.lemmas.List.{take_at, drop_at, take-append-drop}
-use Rattle.hippo_values.specs.Names.{is_word_byte}
+use Rattle.hippo_values.specs.Names.{is_word_byte, is_word}
 use Rattle.hippo_values.specs.declared.keywords.Keyword.TheVariants.{KDate}
 use Rattle.hippo_lexer.specs.declared.kinds.TokenKind.TheVariants as kinds
 use Rattle.hippo_lexer.specs.declared.faults.LexFault.TheVariants as faults
@@ -31,6 +31,10 @@ cut_whole byte rest letter = record {
   form = and_from _ _ (rw (letter_in_word byte letter, one-add) letter) (all-front is_word_byte (byte ∷ rest));
   ends = ends-front is_word_byte (byte ∷ rest);
 }
+
+pub front_is_word : (bytes : List ℕ) → begins_with is_ascii_alphabetic bytes ≡ true → is_word (take (word_len bytes) bytes) ≡ true
+front_is_word [] letter = absurd (both_ways _ refl letter)
+front_is_word (byte ∷ rest) letter = (cut_whole byte rest letter).form
 
 -- what the cut says of a word
 pub word_step : (place : ℕ) (word rest : List ℕ) → IsWholeWord word rest → word_first place (word ++ rest) ≡ (ok_or (word_kind word) (faults.BadToken place) >>= λ kind. if is_date kind then date_first place (length word) rest else Ok (kind, length word))

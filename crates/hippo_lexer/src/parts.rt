@@ -1,5 +1,6 @@
-ghost use Rattle.std.specs.Prelude.{◌≡◌, ◌+◌, ◌<◌, ◌≤◌, ◌^◌, length, drop, IfOk, IfSome};
-ghost use Rattle.hippo_values.specs.Names.{is_word_byte};
+ghost use Rattle.std.specs.Prelude.{◌≡◌, true, ◌+◌, ◌<◌, ◌≤◌, ◌^◌, length, drop, IfOk, IfSome};
+ghost use Rattle.std.specs.Char.{is_ascii_alphabetic};
+ghost use Rattle.hippo_values.specs.Names.{is_word_byte, is_word};
 ghost use Rattle.hippo_lexer.specs.Spelling.{is_blank, begins_with};
 ghost use Rattle.hippo_lexer.specs.Cutting.{Gives, kind_of, word_kind, word_len, digits_len, blanks_len, sign_len, number_len, number_of, word_first, number_first, closing, quoted_first, sign_first, IsNumeral, day_of, day_first, is_date, date_first, quoted_token, sign_token, token_first};
 
@@ -55,6 +56,7 @@ fn kind_of(word: Word) -> TokenKind
 
 // What a word says; none where it is too long.
 fn word_kind(alloc: Global, word: &str) -> Result<Option<TokenKind>, Memory>
+    requires { is_word word.now ≡ true }
     ensures { IfOk result (λ kind. kind ≡ word_kind word.now) }
 {
     match read_word(alloc, word)? {
@@ -216,6 +218,7 @@ fn date_first(
 // The token of the word at the front, and its length.
 #[tactic(auto, unfolding(crate::specs::Cutting::word_first))]
 fn word_first(alloc: Global, place: usize, text: &str) -> Result<(TokenKind, usize), LexFault>
+    requires { begins_with is_ascii_alphabetic text.now ≡ true }
     ensures { Gives result (word_first place text.now) }
 {
     let len = word_len(text.as_bytes());

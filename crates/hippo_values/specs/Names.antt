@@ -53,6 +53,9 @@ reserved_of word =
     option_or (option_map reserved.Keyword (keyword_of word))
     (if is_among unsupported_words word then Some reserved.Unsupported else None)
 
+abbrev pub is_reserved : List ℕ → Bool
+is_reserved word = is_some (reserved_of word)
+
 -- a letter, a digit or `_`
 abbrev pub is_word_byte : ℕ → Bool
 is_word_byte byte = is_ascii_alphabetic byte || is_ascii_digit byte || byte == 95
@@ -60,9 +63,6 @@ is_word_byte byte = is_ascii_alphabetic byte || is_ascii_digit byte || byte == 9
 abbrev pub begins_with_letter : List ℕ → Bool
 begins_with_letter [] = false
 begins_with_letter (first ∷ rest) = is_ascii_alphabetic first
-
-abbrev pub is_reserved : List ℕ → Bool
-is_reserved word = is_some (reserved_of word)
 
 -- the place of the first letter in the alphabet, from 0
 abbrev pub letter_of : List ℕ → Option ℕ

@@ -1,4 +1,4 @@
-ghost use Rattle.std.specs.Prelude.{◌≡◌, ◌&&◌, length, nat_eq, nat_le, refl, Some, IsTrue, IfOk};
+ghost use Rattle.std.specs.Prelude.{◌≡◌, true, nat_eq, refl, Some, IsTrue, IfOk};
 ghost use Rattle.std.specs.Ordering.{nat_cmp};
 ghost use Rattle.std.specs.Cmp.{partial_equiv_from_equiv};
 ghost use Rattle.std.specs.Cmp.Lexicographic.{pointwise, slice_cmp, nat_list_eq_equiv, nat_list_cmp_total, texts_ties, texts_po};
@@ -41,12 +41,11 @@ fn has_word_bytes(bytes: &[u8]) -> bool
     bytes.iter().all(|byte| is_word_byte(*byte))
 }
 
-// A letter, then letters, digits and `_`, at most 63 bytes in all.
-fn has_form(word: &str) -> bool
-    ensures { result ≡ (is_word word.now && nat_le (length word.now) 63) }
+fn is_word(word: &str) -> bool
+    ensures { result ≡ is_word word.now }
 {
     let bytes = word.as_bytes();
-    bytes.len() <= NAME_LIMIT && begins_with_letter(bytes) && has_word_bytes(bytes)
+    begins_with_letter(bytes) && has_word_bytes(bytes)
 }
 
 /// Whether a word has a name's form: a letter, then letters, digits and `_`, at most 63 bytes in all, in whatever
@@ -54,7 +53,7 @@ fn has_form(word: &str) -> bool
 pub fn is_name(word: &str) -> bool
     ensures { result ≡ is_name word.now }
 {
-    has_form(word) && reserved_of(word).is_none()
+    is_word(word) && word.len() <= NAME_LIMIT && reserved_of(word).is_none()
 }
 
 /// The word in lower case.
@@ -82,12 +81,13 @@ impl Model for Name {
 }
 
 impl Name {
-    /// The name that a word writes that is not reserved; none where it has no name's form.
+    /// The name that a word writes that is not reserved; none where it is too long.
     pub fn unreserved(alloc: Global, word: &str) -> Result<Option<Name>, Memory>
-        requires { reserved_of word.now ≡ None }
+        requires form { is_word word.now ≡ true }
+        requires free { reserved_of word.now ≡ None }
         ensures { IfOk result (λ made. made ≡ name_of word.now) }
     {
-        if !has_form(word) {
+        if word.len() > NAME_LIMIT {
             return Ok(None);
         }
         let text = folded(alloc, word)?;
@@ -98,7 +98,7 @@ impl Name {
     pub fn from_word(alloc: Global, word: &str) -> Result<Option<Name>, Memory>
         ensures { IfOk result (λ made. made ≡ name_of word.now) }
     {
-        if reserved_of(word).is_some() {
+        if !is_word(word) || reserved_of(word).is_some() {
             return Ok(None);
         }
         Name::unreserved(alloc, word)

@@ -1,6 +1,7 @@
 //! What a word of a text says.
 
-ghost use Rattle.std.specs.Prelude.{◌≡◌, IfOk};
+ghost use Rattle.std.specs.Prelude.{◌≡◌, true, IfOk};
+ghost use Rattle.hippo_values.specs.Names.{is_word};
 ghost use Rattle.hippo_values.specs.Words.{word_of};
 
 use crate::keywords::{Keyword, Reserved, reserved_of};
@@ -18,9 +19,10 @@ pub enum Word {
     Unsupported(Txt),
 }
 
-/// What a word says, in whatever case; none where it is neither reserved nor a name.
+/// What a word says, in whatever case, that is a letter and then letters, digits and `_`; none where it is too long.
 #[tactic(auto, unfolding(crate::specs::Words::word_of))]
 pub fn read_word(alloc: Global, word: &str) -> Result<Option<Word>, Memory>
+    requires { is_word word.now ≡ true }
     ensures { IfOk result (λ said. said ≡ word_of word.now) }
 {
     match reserved_of(word) {
