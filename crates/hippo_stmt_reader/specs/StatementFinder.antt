@@ -214,9 +214,9 @@ choice_of tokens = do
   a ← after_keyword KOn n.1
   item ← leading_name a
   b ← after_keyword KIs item.1
-  yes ← leading_yes_or_no b
-  end ← end_left yes.1
-  Some (stmt.Choice n.0 item.0 yes.0)
+  said ← leading_yes_or_no b
+  end ← end_left said.1
+  Some (stmt.Choice n.0 item.0 said.0)
 
 -- behind INSERT
 unfoldable pub insert_of : List TokenKind → Option Stmt
