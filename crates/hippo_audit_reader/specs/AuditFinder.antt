@@ -28,7 +28,8 @@ leading_pair tokens = do
   Some (record { purpose = purpose.0; recipient = recipient.0 }, rest)
 
 unfoldable pub leading_exempt : Finds (List Pair)
-leading_exempt tokens = either (after_keyword KOtherthan tokens) (leading_list leading_pair (after_symbol Comma)) (Some ([], tokens))
+leading_exempt tokens =
+    either (after_keyword KOtherthan tokens) (leading_list leading_pair (after_symbol Comma)) (Some ([], tokens))
 
 abbrev pub period_of : List ℕ → List ℕ → Period
 period_of from to = record { from = from; to = to }
@@ -56,4 +57,15 @@ leading_audit tokens = do
   named ← after_keyword KFrom columns.1
   tables ← leading_list leading_name (after_symbol Comma) named
   last ← leading_where tables.1
-  Some (record { from = period.0.from; to = period.0.to; exempt = exempt.0; shown = shown.0; columns = columns.0; tables = tables.0; cond = whole_condition (option_to_list last.0) }, last.1)
+  Some (
+    record {
+      from = period.0.from;
+      to = period.0.to;
+      exempt = exempt.0;
+      shown = shown.0;
+      columns = columns.0;
+      tables = tables.0;
+      cond = whole_condition (option_to_list last.0);
+    },
+    last.1,
+  )

@@ -1,42 +1,51 @@
--- The grammar of audit expressions. Each relation says that the tokens begin with such a part, how it reads, and what follows it.
+-- The grammar of audit expressions. Each relation says that the tokens begin with such a part, how it reads, and what
+-- follows it.
 use Rattle.std.specs.Prelude.{◌≡◌, ℕ, Bool, true, false, List, [], ◌∷◌, Option, option_to_list}
 use Rattle.hippo_model.specs.declared.audit.Pair.{Pair}
 use Rattle.hippo_model.specs.declared.statement.RawAudit.{RawAudit}
 use Rattle.hippo_model.specs.declared.statement.RawColumn.{RawColumn}
 use Rattle.hippo_lexer.specs.declared.kinds.Keyword.TheVariants.{KAudit, KDuring, KFrom, KOtherthan, KShown, KTo}
 use Rattle.hippo_lexer.specs.declared.kinds.Symbol.TheVariants.{Comma, LeftParen, RightParen}
-use Rattle.hippo_lexer.specs.declared.kinds.TokenKind.{TokenKind}
 use Rattle.hippo_lexer.specs.declared.kinds.TokenKind.TheVariants.{Word, Keyword, Quoted, Symbol}
+use Rattle.hippo_spj_reader.specs.Front.{Kinds}
 use Rattle.hippo_spj_reader.specs.ConditionGrammar.{RawCond, IsColumn}
 use Rattle.hippo_spj_reader.specs.ListGrammar.{IsName, IsListOf}
 use Rattle.hippo_spj_reader.specs.SelectGrammar.{IsWhere, whole_condition}
 
 -- pair = "(" p "," r ")"
-pub data IsPair : List TokenKind → Pair → List TokenKind → Type 0 where
-  pair : {purpose recipient : List ℕ} {rest : List TokenKind} →
-      IsPair (Symbol LeftParen ∷ Word purpose ∷ Symbol Comma ∷ Word recipient ∷ Symbol RightParen ∷ rest) (record { purpose = purpose; recipient = recipient }) rest
+pub data IsPair : Kinds → Pair → Kinds → Type 0 where
+  pair : {purpose recipient : List ℕ} {rest : Kinds} →
+      IsPair (Symbol LeftParen ∷ Word purpose ∷ Symbol Comma ∷ Word recipient ∷ Symbol RightParen ∷ rest)
+      (record { purpose = purpose; recipient = recipient }) rest
 
 -- [OTHERTHAN pair {"," pair}]
-pub data AreExempt : List TokenKind → List Pair → List TokenKind → Type 0 where
-  none_exempt : {rest : List TokenKind} → AreExempt rest [] rest
-  otherthan : {pairs : List Pair} {tokens rest : List TokenKind} →
+pub data AreExempt : Kinds → List Pair → Kinds → Type 0 where
+  none_exempt : {rest : Kinds} → AreExempt rest [] rest
+  otherthan : {pairs : List Pair} {tokens rest : Kinds} →
       IsListOf IsPair (Symbol Comma) tokens pairs rest → AreExempt (Keyword KOtherthan ∷ tokens) pairs rest
 
 -- [SHOWN]
-pub data IsShown : List TokenKind → Bool → List TokenKind → Type 0 where
-  all_cells : {rest : List TokenKind} → IsShown rest false rest
-  shown_cells : {rest : List TokenKind} → IsShown (Keyword KShown ∷ rest) true rest
+pub data IsShown : Kinds → Bool → Kinds → Type 0 where
+  all_cells : {rest : Kinds} → IsShown rest false rest
+  shown_cells : {rest : Kinds} → IsShown (Keyword KShown ∷ rest) true rest
 
 -- audit = DURING quoted TO quoted [OTHERTHAN pair {"," pair}]
 --         AUDIT [SHOWN] column {"," column} FROM t {"," t} [WHERE cond]
-pub data IsAudit : List TokenKind → RawAudit → List TokenKind → Type 0 where
-  audit : {start end : List ℕ} {exempt : List Pair} {shown : Bool} {columns : List RawColumn} {tables : List (List ℕ)} {whole : RawCond} {last : Option RawCond}
-      {tokens audited listed named behind rest : List TokenKind} →
+pub data IsAudit : Kinds → RawAudit → Kinds → Type 0 where
+  audit : {start end : List ℕ} {exempt : List Pair} {shown : Bool} {columns : List RawColumn} {tables : List (List ℕ)}
+      {whole : RawCond} {last : Option RawCond} {tokens audited listed named behind rest : Kinds} →
       AreExempt tokens exempt (Keyword KAudit ∷ audited) →
       IsShown audited shown listed →
       IsListOf IsColumn (Symbol Comma) listed columns (Keyword KFrom ∷ named) →
       IsListOf IsName (Symbol Comma) named tables behind →
       IsWhere behind last rest →
       whole ≡ whole_condition (option_to_list last) →
-      IsAudit (Keyword KDuring ∷ Quoted start ∷ Keyword KTo ∷ Quoted end ∷ tokens)
-      (record { from = start; to = end; exempt = exempt; shown = shown; columns = columns; tables = tables; cond = whole }) rest
+      IsAudit (Keyword KDuring ∷ Quoted start ∷ Keyword KTo ∷ Quoted end ∷ tokens) (record {
+        from = start;
+        to = end;
+        exempt = exempt;
+        shown = shown;
+        columns = columns;
+        tables = tables;
+        cond = whole;
+      }) rest

@@ -1,5 +1,4 @@
 pub mod ConditionTheorem
-pub mod EachLoops
 pub mod FrontTheorem
 pub mod ListLoops
 pub mod ListTheorem

@@ -1,5 +1,5 @@
 -- The members of a select list that are found are those of the grammar, once the select's form is known.
-use Rattle.std.proofs.Common.{◌≡◌, ℕ, suc, ◌<◌, List, [], ◌∷◌, length, map, Option, Some, None, refl, arith}
+use Rattle.std.proofs.Common.{◌≡◌, suc, ◌<◌, List, [], ◌∷◌, length, map, Option, Some, None, refl, arith}
 use Rattle.std.proofs.lemmas.Option.{none-some, same_Some, some_pair_parts}
 use Rattle.hippo_model.specs.declared.statement.RawColumn.{RawColumn}
 use Rattle.hippo_model.specs.declared.statement.RawItem.{RawItem}
@@ -17,7 +17,6 @@ use Rattle.hippo_spj_reader.specs.Front.{after_keyword, after_symbol}
 use Rattle.hippo_spj_reader.specs.ConditionGrammar.{IsColumn, bare, qualified}
 use Rattle.hippo_spj_reader.specs.ConditionFinder.{leading_column}
 use Rattle.hippo_spj_reader.specs.ListGrammar.{IsListOf, last_part, more_parts}
-use Rattle.hippo_spj_reader.specs.ListFinder.{leading_list}
 use Rattle.hippo_spj_reader.specs.SelectGrammar.{IsItem, one_column, all_of_table, AreItems, star, listed, IsOut, column_out, minimum, maximum}
 use Rattle.hippo_spj_reader.specs.SelectFinder.{leading_whole_table, leading_item, leading_argument, leading_member, leading_members, item_of, out_of, each_of}
 use Rattle.hippo_spj_reader.proofs.FrontTheorem.{found_then, choice, symbol_then, name_then, keyword_choice, symbol_choice, after_symbol-some, read_as}
@@ -81,14 +80,14 @@ members_found tokens members rest e =
 
 -- a list of parts of one kind, each of which is one of another kind
 module _ {X Y : Type 0} (IsX : List TokenKind → X → List TokenKind → Type 0) (IsY : List TokenKind → Y → List TokenKind → Type 0) (separator : TokenKind) (f : X → Option Y)
-    (as : (tokens : List TokenKind) (x : X) (y : Y) (rest : List TokenKind) → IsX tokens x rest → f x ≡ Some y → IsY tokens y rest) where
+    (turned : (tokens : List TokenKind) (x : X) (y : Y) (rest : List TokenKind) → IsX tokens x rest → f x ≡ Some y → IsY tokens y rest) where
   list_as : (tokens : List TokenKind) (xs : List X) (ys : List Y) (rest : List TokenKind) → IsListOf IsX separator tokens xs rest → each_of f xs ≡ Some ys → IsListOf IsY separator tokens ys rest
   list_as tokens _ ys rest (last_part {part = x} d) e =
-      found_then (f x) _ _ e (λ y is_y e. rw (← same_Some (y ∷ []) ys e) (last_part (as tokens x y rest d is_y)))
+      found_then (f x) _ _ e (λ y is_y e. rw (← same_Some (y ∷ []) ys e) (last_part (turned tokens x y rest d is_y)))
   list_as tokens _ ys rest (more_parts {part = x} {parts = xs} {others = others} d ds) e =
       found_then (f x) _ _ e (λ y is_y e.
       found_then (each_of f xs) _ _ e (λ left is_left e.
-      rw (← same_Some (y ∷ left) ys e) (more_parts (as tokens x y _ d is_y) (list_as others xs left rest ds is_left))))
+      rw (← same_Some (y ∷ left) ys e) (more_parts (turned tokens x y _ d is_y) (list_as others xs left rest ds is_left))))
 
 as_item : (tokens : List TokenKind) (m : Member) (i : RawItem) (rest : List TokenKind) → IsMember tokens m rest → item_of m ≡ Some i → IsItem tokens i rest
 as_item tokens m i rest (of_item {i = j} d) e = rw (← same_Some j i e) d

@@ -1,8 +1,7 @@
 -- The select that is found is the one of the grammar.
 use Rattle.std.proofs.Common.{◌≡◌, ℕ, zero, suc, ◌<◌, Bool, true, false, List, [], ◌∷◌, ◌++◌, length, map, codes, option_to_list, Option, Some, None, refl, sym, ◌∙◌, arith}
 use Rattle.std.proofs.lemmas.Option.{none-some, same_Some, some_pair_parts}
-use Rattle.hippo_model.specs.declared.statement.RawColumn.{RawColumn}
-use Rattle.hippo_model.specs.declared.statement.RawForm.TheVariants.{Plain, Distinct, Grouped}
+use Rattle.hippo_model.specs.declared.statement.RawForm.TheVariants.{Plain, Distinct}
 use Rattle.hippo_model.specs.declared.statement.RawSelect.{RawSelect}
 use Rattle.hippo_lexer.specs.declared.kinds.Keyword.TheVariants.{KDistinct, KFrom, KGroup, KInner, KJoin, KOn, KSelect, KWhere}
 use Rattle.hippo_lexer.specs.declared.kinds.Symbol.TheVariants.{Comma, Dot, Semicolon}
@@ -18,9 +17,9 @@ use Rattle.hippo_spj_reader.specs.Front.{after_keyword, after_symbol}
 use Rattle.hippo_spj_reader.specs.ConditionGrammar.{RawCond, IsCondition}
 use Rattle.hippo_spj_reader.specs.ConditionFinder.{leading_column, leading_condition}
 use Rattle.hippo_spj_reader.specs.ListFinder.{leading_list}
-use Rattle.hippo_spj_reader.specs.SelectGrammar.{AreItems, AreJoined, no_more, comma, join, inner_join, IsWhere, no_where, condition, IsScope, scope, select_of, IsSelect, plain, distinct, grouped}
+use Rattle.hippo_spj_reader.specs.SelectGrammar.{AreJoined, no_more, comma, join, inner_join, IsWhere, no_where, condition, IsScope, scope, select_of, IsSelect, plain, distinct, grouped}
 use Rattle.hippo_spj_reader.specs.SelectFinder.{item_of, out_of, each_of, after_join, joined_table, leading_joined_by_comma, leading_joined_on, leading_joined, no_sources, with_first, leading_all_joined, leading_sources, leading_where, leading_scope, draft_of, leading_draft_of, leading_draft, leading_members, ungrouped, leading_grouped, leading_select}
-use Rattle.hippo_spj_reader.proofs.FrontTheorem.{found_then, choice, keyword_then, word_then, name_then, keyword_choice, symbol_choice, after_keyword-some, after_word-same, read_as}
+use Rattle.hippo_spj_reader.proofs.FrontTheorem.{found_then, choice, keyword_then, word_then, name_then, keyword_choice, symbol_choice, after_keyword-some, read_as}
 use Rattle.hippo_spj_reader.proofs.NameTheorem.{columns_found, columns_complete}
 use Rattle.hippo_spj_reader.proofs.MemberTheorem.{AreMembers, members_found, as_items, as_outs, members-no_distinct, members_complete, from_items, items_back, from_outs, outs_back, member_of_out}
 use Rattle.hippo_spj_reader.proofs.ConditionTheorem as theorem
@@ -38,10 +37,10 @@ on_found tokens entry left e next =
 
 after_join_found : {P : Type 0} (tokens behind : List TokenKind) → after_join tokens ≡ Some behind →
     (tokens ≡ Keyword KJoin ∷ behind → P) → (tokens ≡ Keyword KInner ∷ Keyword KJoin ∷ behind → P) → P
-after_join_found tokens behind e plain inner =
+after_join_found tokens behind e alone inner =
     keyword_choice KInner tokens _ _ _ e
     (λ after is_inner e. inner (rw (is_inner, after_keyword-some KJoin after behind e) refl))
-    (λ _ e. plain (after_keyword-some KJoin tokens behind e))
+    (λ _ e. alone (after_keyword-some KJoin tokens behind e))
 
 none_found : {A : Type 0} (x : A) → ◌≡◌ {A = Option A} None (Some x) → ⊥
 none_found x e = none-some x e
@@ -163,7 +162,7 @@ pub record JoinsEnd (rest : List TokenKind) : Type 0 where
   pub no_join : after_keyword KJoin rest ≡ None
 
 -- what the tables and the condition of a select are not followed by
-record ScopeEnds (rest : List TokenKind) : Type 0 where
+pub record ScopeEnds (rest : List TokenKind) : Type 0 where
   pub joins_end : JoinsEnd rest
   pub no_where : after_keyword KWhere rest ≡ None
 
@@ -238,10 +237,10 @@ scope_complete _ _ rest (scope {tables = tables} {conditions = conditions} {last
     ) refl
 
 scope-no_dot : (tokens : List TokenKind) (s : Scope) (rest : List TokenKind) → IsScope tokens s rest → after_symbol Dot tokens ≡ None
-scope-no_dot _ _ rest (scope are_joined is_where is_whole) = refl
+scope-no_dot _ _ rest (scope are_joined _ is_whole) = refl
 
 scope-no_comma : (tokens : List TokenKind) (s : Scope) (rest : List TokenKind) → IsScope tokens s rest → after_symbol Comma tokens ≡ None
-scope-no_comma _ _ rest (scope are_joined is_where is_whole) = refl
+scope-no_comma _ _ rest (scope are_joined _ is_whole) = refl
 
 draft_of_complete : (once : Bool) (tokens : List TokenKind) (members : List Member) (from : List TokenKind) (s : Scope) (rest : List TokenKind) →
     AreMembers tokens members from → IsScope from s rest → ScopeEnds rest → leading_draft_of once tokens ≡ Some (draft_of once members s, rest)
@@ -273,7 +272,6 @@ complete _ _ rest (grouped {outs = outs} {by = by} {in_scope = in_scope} {tokens
     rw (
       members-no_distinct tokens (map member_of_out outs) from (from_outs tokens outs from are_outs),
       draft_of_complete false tokens (map member_of_out outs) from in_scope behind (from_outs tokens outs from are_outs) is_scope (scope_ends-group (Word (codes "by") ∷ columns)),
-      after_word-same (codes "by") columns,
       columns_complete columns by rest are_columns ends.scope_ends.joins_end.condition_ends.no_dot ends.scope_ends.joins_end.no_comma,
       outs_back outs,
     ) refl

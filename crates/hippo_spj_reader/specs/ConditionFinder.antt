@@ -1,5 +1,5 @@
 -- The condition that can be found at the front of a list of tokens, part by part: the longest one.
-use Rattle.std.specs.Prelude.{ℕ, zero, suc, Bool, true, false, List, ◌∷◌, length, Option, Some, None, if◌then◌else◌}
+use Rattle.std.specs.Prelude.{ℕ, zero, suc, Bool, true, false, ◌∷◌, length, Option, Some, None, if◌then◌else◌}
 use Rattle.hippo_values.specs.declared.truths.CompareOp.{CompareOp}
 use Rattle.hippo_values.specs.declared.truths.CompareOp.TheVariants.{Eq, Ne, Lt, Le, Gt, Ge}
 use Rattle.hippo_model.specs.declared.query.CondOf.{Not, Compare, Between, Among, Missing}
@@ -9,10 +9,9 @@ use Rattle.hippo_model.specs.declared.statement.RawOperand.TheVariants.{Column, 
 use Rattle.hippo_lexer.specs.declared.kinds.Keyword.TheVariants.{KAnd, KBetween, KIn, KIs, KNot, KNull, KOr}
 use Rattle.hippo_lexer.specs.declared.kinds.Symbol as signs
 use Rattle.hippo_lexer.specs.declared.kinds.Symbol.TheVariants.{LeftParen, RightParen, Comma, Dot, Equal, NotEqual, Less, LessEqual, Greater, GreaterEqual}
-use Rattle.hippo_lexer.specs.declared.kinds.TokenKind.{TokenKind}
 use Rattle.hippo_lexer.specs.declared.kinds.TokenKind.TheVariants.{Word, Symbol}
 use Rattle.hippo_spj_reader.specs.Promises.{◌>>=◌, either}
-use Rattle.hippo_spj_reader.specs.Front.{Finds, after_keyword, after_symbol, leading_name, leading_literal}
+use Rattle.hippo_spj_reader.specs.Front.{Kinds, Finds, after_keyword, after_symbol, leading_name, leading_literal}
 use Rattle.hippo_spj_reader.specs.ListFinder.{leading_list}
 use Rattle.hippo_spj_reader.specs.ConditionGrammar.{RawCond, any_of, all_of}
 
@@ -21,10 +20,11 @@ leading_column tokens = do
   first ← leading_name tokens
   either (after_symbol Dot first.1) (λ behind. do
     second ← leading_name behind
-    Some (record { table = Some first.0; column = second.0 }, second.1)) (Some (record { table = None; column = first.0 }, first.1))
+    Some (record { table = Some first.0; column = second.0 }, second.1))
+      (Some (record { table = None; column = first.0 }, first.1))
 
 -- whether a name stands first
-abbrev pub begins_with_name : List TokenKind → Bool
+abbrev pub begins_with_name : Kinds → Bool
 begins_with_name (Word name ∷ rest) = true
 begins_with_name tokens = false
 
@@ -80,7 +80,7 @@ leading_null v tokens =
         rest ← after_keyword KNull tokens
         Some (Missing v, rest))
 
-abbrev pub negative : Option (RawCond × List TokenKind) → Option (RawCond × List TokenKind)
+abbrev pub negative : Option (RawCond × Kinds) → Option (RawCond × Kinds)
 negative found = found >>= λ part. Some (Not part.0, part.1)
 
 unfoldable pub leading_test : RawOperand → Finds RawCond
@@ -91,10 +91,12 @@ leading_test v tokens =
 
 module _ (deeper : Finds RawCond) where
   abbrev pub conjunction_with : Finds RawCond
-  conjunction_with tokens = leading_list deeper (after_keyword KAnd) tokens >>= λ parts. Some (all_of parts.0, parts.1)
+  conjunction_with tokens =
+      leading_list deeper (after_keyword KAnd) tokens >>= λ parts. Some (all_of parts.0, parts.1)
 
   abbrev pub condition_with : Finds RawCond
-  condition_with tokens = leading_list conjunction_with (after_keyword KOr) tokens >>= λ parts. Some (any_of parts.0, parts.1)
+  condition_with tokens =
+      leading_list conjunction_with (after_keyword KOr) tokens >>= λ parts. Some (any_of parts.0, parts.1)
 
   abbrev pub primary_with : Finds RawCond
   primary_with tokens =
@@ -109,7 +111,8 @@ module _ (deeper : Finds RawCond) where
 abbrev pub leading_negation : ℕ → Finds RawCond
 leading_negation zero tokens = None
 leading_negation (suc n) tokens =
-    either (after_keyword KNot tokens) (λ behind. negative (leading_negation n behind)) (primary_with (leading_negation n) tokens)
+    either (after_keyword KNot tokens) (λ behind. negative (leading_negation n behind))
+    (primary_with (leading_negation n) tokens)
 
 -- the longest condition that stands first
 unfoldable pub leading_condition : Finds RawCond

@@ -1,4 +1,4 @@
--- The grammar of conditions. Each relation says that the tokens begin with such a part, how it reads, and what follows it.
+-- The grammar of conditions. Each relation says that the tokens begin with such a part, how it reads, and what follows.
 use Rattle.std.specs.Prelude.{◌≡◌, ℕ, List, [], ◌∷◌, Some, None}
 use Rattle.hippo_values.specs.declared.truths.CompareOp.{CompareOp}
 use Rattle.hippo_values.specs.declared.truths.CompareOp.TheVariants.{Eq, Ne, Lt, Le, Gt, Ge}
@@ -11,30 +11,31 @@ use Rattle.hippo_model.specs.declared.statement.RawOperand.TheVariants.{Column, 
 use Rattle.hippo_lexer.specs.declared.kinds.Keyword.TheVariants.{KAnd, KBetween, KIn, KIs, KNot, KNull, KOr}
 use Rattle.hippo_lexer.specs.declared.kinds.Symbol as signs
 use Rattle.hippo_lexer.specs.declared.kinds.Symbol.TheVariants.{LeftParen, RightParen, Comma, Dot, Equal, NotEqual, Less, LessEqual, Greater, GreaterEqual}
-use Rattle.hippo_lexer.specs.declared.kinds.TokenKind.{TokenKind}
 use Rattle.hippo_lexer.specs.declared.kinds.TokenKind.TheVariants.{Word, Keyword, Number, Quoted, Day, Symbol}
+use Rattle.hippo_spj_reader.specs.Front.{Kinds}
 use Rattle.hippo_spj_reader.specs.ListGrammar.{IsListOf}
 
 abbrev pub RawCond : Type 0
 RawCond = CondOf RawOperand
 
 -- column = c | t "." c
-pub data IsColumn : List TokenKind → RawColumn → List TokenKind → Type 0 where
-  bare : {column : List ℕ} {rest : List TokenKind} → IsColumn (Word column ∷ rest) (record { table = None; column = column }) rest
-  qualified : {table column : List ℕ} {rest : List TokenKind} →
+pub data IsColumn : Kinds → RawColumn → Kinds → Type 0 where
+  bare : {column : List ℕ} {rest : Kinds} →
+      IsColumn (Word column ∷ rest) (record { table = None; column = column }) rest
+  qualified : {table column : List ℕ} {rest : Kinds} →
       IsColumn (Word table ∷ Symbol Dot ∷ Word column ∷ rest) (record { table = Some table; column = column }) rest
 
 -- literal = number | quoted | day | NULL
-pub data IsLiteral : List TokenKind → Value → List TokenKind → Type 0 where
-  number : {n : _} {rest : List TokenKind} → IsLiteral (Number n ∷ rest) (value.Int n) rest
-  quoted : {text : _} {rest : List TokenKind} → IsLiteral (Quoted text ∷ rest) (value.Text text) rest
-  day : {d : _} {rest : List TokenKind} → IsLiteral (Day d ∷ rest) (value.Day d) rest
-  null : {rest : List TokenKind} → IsLiteral (Keyword KNull ∷ rest) value.Null rest
+pub data IsLiteral : Kinds → Value → Kinds → Type 0 where
+  number : {n : _} {rest : Kinds} → IsLiteral (Number n ∷ rest) (value.Int n) rest
+  quoted : {text : _} {rest : Kinds} → IsLiteral (Quoted text ∷ rest) (value.Text text) rest
+  day : {d : _} {rest : Kinds} → IsLiteral (Day d ∷ rest) (value.Day d) rest
+  null : {rest : Kinds} → IsLiteral (Keyword KNull ∷ rest) value.Null rest
 
 -- operand = column | literal
-pub data IsOperand : List TokenKind → RawOperand → List TokenKind → Type 0 where
-  column : {c : RawColumn} {tokens rest : List TokenKind} → IsColumn tokens c rest → IsOperand tokens (Column c) rest
-  literal : {v : Value} {tokens rest : List TokenKind} → IsLiteral tokens v rest → IsOperand tokens (Literal v) rest
+pub data IsOperand : Kinds → RawOperand → Kinds → Type 0 where
+  column : {c : RawColumn} {tokens rest : Kinds} → IsColumn tokens c rest → IsOperand tokens (Column c) rest
+  literal : {v : Value} {tokens rest : Kinds} → IsLiteral tokens v rest → IsOperand tokens (Literal v) rest
 
 -- op = "=" | "<>" | "!=" | "<" | "<=" | ">" | ">="
 pub data IsOperator : signs.Symbol → CompareOp → Type 0 where
@@ -59,54 +60,59 @@ all_of (part ∷ other ∷ parts) = All (part ∷ other ∷ parts)
 
 mutual
   -- cond = conj {OR conj}
-  pub data IsCondition : List TokenKind → RawCond → List TokenKind → Type 0 where
-    disjunction : {condition : RawCond} {parts : List RawCond} {tokens rest : List TokenKind} →
+  pub data IsCondition : Kinds → RawCond → Kinds → Type 0 where
+    disjunction : {condition : RawCond} {parts : List RawCond} {tokens rest : Kinds} →
         AreDisjuncts tokens parts rest → condition ≡ any_of parts → IsCondition tokens condition rest
 
-  pub data AreDisjuncts : List TokenKind → List RawCond → List TokenKind → Type 0 where
-    last_disjunct : {part : RawCond} {tokens rest : List TokenKind} → IsConjunction tokens part rest → AreDisjuncts tokens (part ∷ []) rest
-    more_disjuncts : {part : RawCond} {parts : List RawCond} {tokens others rest : List TokenKind} →
-        IsConjunction tokens part (Keyword KOr ∷ others) → AreDisjuncts others parts rest → AreDisjuncts tokens (part ∷ parts) rest
+  pub data AreDisjuncts : Kinds → List RawCond → Kinds → Type 0 where
+    last_disjunct : {part : RawCond} {tokens rest : Kinds} →
+        IsConjunction tokens part rest → AreDisjuncts tokens (part ∷ []) rest
+    more_disjuncts : {part : RawCond} {parts : List RawCond} {tokens others rest : Kinds} →
+        IsConjunction tokens part (Keyword KOr ∷ others) → AreDisjuncts others parts rest →
+        AreDisjuncts tokens (part ∷ parts) rest
 
   -- conj = neg {AND neg}
-  pub data IsConjunction : List TokenKind → RawCond → List TokenKind → Type 0 where
-    conjunction : {condition : RawCond} {parts : List RawCond} {tokens rest : List TokenKind} →
+  pub data IsConjunction : Kinds → RawCond → Kinds → Type 0 where
+    conjunction : {condition : RawCond} {parts : List RawCond} {tokens rest : Kinds} →
         AreConjuncts tokens parts rest → condition ≡ all_of parts → IsConjunction tokens condition rest
 
-  pub data AreConjuncts : List TokenKind → List RawCond → List TokenKind → Type 0 where
-    last_conjunct : {part : RawCond} {tokens rest : List TokenKind} → IsNegation tokens part rest → AreConjuncts tokens (part ∷ []) rest
-    more_conjuncts : {part : RawCond} {parts : List RawCond} {tokens others rest : List TokenKind} →
-        IsNegation tokens part (Keyword KAnd ∷ others) → AreConjuncts others parts rest → AreConjuncts tokens (part ∷ parts) rest
+  pub data AreConjuncts : Kinds → List RawCond → Kinds → Type 0 where
+    last_conjunct : {part : RawCond} {tokens rest : Kinds} →
+        IsNegation tokens part rest → AreConjuncts tokens (part ∷ []) rest
+    more_conjuncts : {part : RawCond} {parts : List RawCond} {tokens others rest : Kinds} →
+        IsNegation tokens part (Keyword KAnd ∷ others) → AreConjuncts others parts rest →
+        AreConjuncts tokens (part ∷ parts) rest
 
   -- neg = NOT neg | prim
-  pub data IsNegation : List TokenKind → RawCond → List TokenKind → Type 0 where
-    negated : {condition part : RawCond} {tokens rest : List TokenKind} →
+  pub data IsNegation : Kinds → RawCond → Kinds → Type 0 where
+    negated : {condition part : RawCond} {tokens rest : Kinds} →
         IsNegation tokens part rest → condition ≡ Not part → IsNegation (Keyword KNot ∷ tokens) condition rest
-    plain : {condition : RawCond} {tokens rest : List TokenKind} → IsPrimary tokens condition rest → IsNegation tokens condition rest
+    plain : {condition : RawCond} {tokens rest : Kinds} →
+        IsPrimary tokens condition rest → IsNegation tokens condition rest
 
   -- prim = "(" cond ")" | operand op operand | operand [NOT] BETWEEN operand AND operand
   --      | operand [NOT] IN "(" operand {"," operand} ")" | operand IS [NOT] NULL
-  pub data IsPrimary : List TokenKind → RawCond → List TokenKind → Type 0 where
-    parentheses : {condition : RawCond} {tokens rest : List TokenKind} →
+  pub data IsPrimary : Kinds → RawCond → Kinds → Type 0 where
+    parentheses : {condition : RawCond} {tokens rest : Kinds} →
         IsCondition tokens condition (Symbol RightParen ∷ rest) → IsPrimary (Symbol LeftParen ∷ tokens) condition rest
-    comparison : {left right : RawOperand} {sign : signs.Symbol} {op : CompareOp} {tokens others rest : List TokenKind} →
+    comparison : {left right : RawOperand} {sign : signs.Symbol} {op : CompareOp} {tokens others rest : Kinds} →
         IsOperand tokens left (Symbol sign ∷ others) → IsOperator sign op → IsOperand others right rest →
         IsPrimary tokens (Compare op left right) rest
-    between : {v low high : RawOperand} {tokens lows highs rest : List TokenKind} →
-        IsOperand tokens v (Keyword KBetween ∷ lows) → IsOperand lows low (Keyword KAnd ∷ highs) → IsOperand highs high rest →
-        IsPrimary tokens (Between v low high) rest
-    not_between : {condition : RawCond} {v low high : RawOperand} {tokens lows highs rest : List TokenKind} →
-        IsOperand tokens v (Keyword KNot ∷ Keyword KBetween ∷ lows) → IsOperand lows low (Keyword KAnd ∷ highs) → IsOperand highs high rest →
-        condition ≡ Not (Between v low high) → IsPrimary tokens condition rest
-    among : {v : RawOperand} {list : List RawOperand} {tokens others rest : List TokenKind} →
-        IsOperand tokens v (Keyword KIn ∷ Symbol LeftParen ∷ others) → IsListOf IsOperand (Symbol Comma) others list (Symbol RightParen ∷ rest) →
-        IsPrimary tokens (Among v list) rest
-    not_among : {condition : RawCond} {v : RawOperand} {list : List RawOperand} {tokens others rest : List TokenKind} →
+    between : {v low high : RawOperand} {tokens lows highs rest : Kinds} →
+        IsOperand tokens v (Keyword KBetween ∷ lows) → IsOperand lows low (Keyword KAnd ∷ highs) →
+        IsOperand highs high rest → IsPrimary tokens (Between v low high) rest
+    not_between : {condition : RawCond} {v low high : RawOperand} {tokens lows highs rest : Kinds} →
+        IsOperand tokens v (Keyword KNot ∷ Keyword KBetween ∷ lows) → IsOperand lows low (Keyword KAnd ∷ highs) →
+        IsOperand highs high rest → condition ≡ Not (Between v low high) → IsPrimary tokens condition rest
+    among : {v : RawOperand} {list : List RawOperand} {tokens others rest : Kinds} →
+        IsOperand tokens v (Keyword KIn ∷ Symbol LeftParen ∷ others) →
+        IsListOf IsOperand (Symbol Comma) others list (Symbol RightParen ∷ rest) → IsPrimary tokens (Among v list) rest
+    not_among : {condition : RawCond} {v : RawOperand} {list : List RawOperand} {tokens others rest : Kinds} →
         IsOperand tokens v (Keyword KNot ∷ Keyword KIn ∷ Symbol LeftParen ∷ others) →
         IsListOf IsOperand (Symbol Comma) others list (Symbol RightParen ∷ rest) →
         condition ≡ Not (Among v list) → IsPrimary tokens condition rest
-    missing : {v : RawOperand} {tokens rest : List TokenKind} →
+    missing : {v : RawOperand} {tokens rest : Kinds} →
         IsOperand tokens v (Keyword KIs ∷ Keyword KNull ∷ rest) → IsPrimary tokens (Missing v) rest
-    present : {condition : RawCond} {v : RawOperand} {tokens rest : List TokenKind} →
+    present : {condition : RawCond} {v : RawOperand} {tokens rest : Kinds} →
         IsOperand tokens v (Keyword KIs ∷ Keyword KNot ∷ Keyword KNull ∷ rest) →
         condition ≡ Not (Missing v) → IsPrimary tokens condition rest

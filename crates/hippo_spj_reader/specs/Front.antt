@@ -12,16 +12,20 @@ use Rattle.hippo_lexer.specs.declared.kinds.Token.{Token}
 use Rattle.hippo_lexer.specs.declared.kinds.TokenKind.{TokenKind}
 use Rattle.hippo_lexer.specs.declared.kinds.TokenKind.TheVariants.{Word, Keyword, Number, Quoted, Day, Symbol}
 
+-- what tokens say, one after the other
+abbrev pub Kinds : Type 0
+Kinds = List TokenKind
+
 -- what can be found at the front of the tokens, and what follows it
 abbrev pub Finds : Type 0 → Type 0
-Finds X = List TokenKind → Option (X × List TokenKind)
+Finds X = Kinds → Option (X × Kinds)
 
 -- what the tokens say, without their places
-abbrev pub kinds : List Token → List TokenKind
+abbrev pub kinds : List Token → Kinds
 kinds tokens = map (λ token. token.kind) tokens
 
 -- what the tokens say from place first to the place before last
-abbrev pub kinds_between : List Token → ℕ → ℕ → List TokenKind
+abbrev pub kinds_between : List Token → ℕ → ℕ → Kinds
 kinds_between tokens first last = kinds (slice_range tokens first last)
 
 abbrev pub same_keyword : words.Keyword → words.Keyword → Bool
@@ -31,17 +35,17 @@ abbrev pub same_symbol : signs.Symbol → signs.Symbol → Bool
 same_symbol one other = sameb symbols.the_type one other
 
 -- what follows the keyword, where it stands first
-abbrev pub after_keyword : words.Keyword → List TokenKind → Option (List TokenKind)
+abbrev pub after_keyword : words.Keyword → Kinds → Option Kinds
 after_keyword keyword (Keyword first ∷ rest) = if same_keyword first keyword then Some rest else None
 after_keyword keyword tokens = None
 
 -- what follows the symbol, where it stands first
-abbrev pub after_symbol : signs.Symbol → List TokenKind → Option (List TokenKind)
+abbrev pub after_symbol : signs.Symbol → Kinds → Option Kinds
 after_symbol symbol (Symbol first ∷ rest) = if same_symbol first symbol then Some rest else None
 after_symbol symbol tokens = None
 
 -- what follows the word, a name, where it stands first
-abbrev pub after_word : List ℕ → List TokenKind → Option (List TokenKind)
+abbrev pub after_word : List ℕ → Kinds → Option Kinds
 after_word word (Word first ∷ rest) = if bytes_eq first word then Some rest else None
 after_word word tokens = None
 

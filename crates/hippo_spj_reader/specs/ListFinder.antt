@@ -1,10 +1,9 @@
 -- The list that can be found at the front of the tokens, part by part: the longest one.
 use Rattle.std.specs.Prelude.{ℕ, zero, suc, List, [], ◌∷◌, ◌++◌, length, Option, Some, None}
-use Rattle.hippo_lexer.specs.declared.kinds.TokenKind.{TokenKind}
-use Rattle.hippo_spj_reader.specs.Front.{Finds}
+use Rattle.hippo_spj_reader.specs.Front.{Kinds, Finds}
 use Rattle.hippo_spj_reader.specs.Promises.{◌>>=◌, either}
 
-module _ {X : Type 0} (leading_part : Finds X) (after_part : List TokenKind → Option (List TokenKind)) where
+module _ {X : Type 0} (leading_part : Finds X) (after_part : Kinds → Option Kinds) where
   -- at most this many parts, as long as something leads from one to the next
   abbrev pub leading_parts : ℕ → Finds (List X)
   leading_parts zero tokens = None
@@ -22,5 +21,5 @@ module _ {X : Type 0} (leading_part : Finds X) (after_part : List TokenKind → 
   leading_list tokens = leading_parts (suc (length tokens)) tokens
 
 -- these parts, and then those
-abbrev pub with_front : {X : Type 0} → List X → Option (List X × List TokenKind) → Option (List X × List TokenKind)
+abbrev pub with_front : {X : Type 0} → List X → Option (List X × Kinds) → Option (List X × Kinds)
 with_front front found = found >>= λ others. Some (front ++ others.0, others.1)

@@ -4,8 +4,7 @@ use denote.Ref.{Bor}
 use Rattle.hippo_lexer.specs.declared.faults.SyntaxFault.{SyntaxFault}
 use Rattle.hippo_lexer.specs.declared.faults.SyntaxFault.TheVariants as fault
 use Rattle.hippo_lexer.specs.declared.kinds.Token.{Token}
-use Rattle.hippo_lexer.specs.declared.kinds.TokenKind.{TokenKind}
-use Rattle.hippo_spj_reader.specs.Front.{Finds, kinds}
+use Rattle.hippo_spj_reader.specs.Front.{Kinds, Finds, kinds}
 
 infixl 10 ◌>>=◌
 -- one and then the next, where both find something
@@ -29,12 +28,16 @@ abbrev pub Gives : {X Y : Type 0} → (X → Y) → Result X SyntaxFault → Opt
 Gives view (Ok x) found = found ≡ Some (view x)
 Gives view (Err e) found = Fails e found
 
--- a part that was read, and the tokens that are left behind it
+-- the tokens that are left
+abbrev Left : Type 0
+Left = Bor (List Token)
+
+-- a part that was read, and what is left behind it
 abbrev Read : Type 0 → Type 0
-Read X = Result (X × Bor (List Token)) SyntaxFault
+Read X = Result (X × Left) SyntaxFault
 
 -- the part that was read is the one that can be found, and what follows it is left
-abbrev pub GivesPart : {X : Type 0} → Read X → Option (X × List TokenKind) → Type 0
+abbrev pub GivesPart : {X : Type 0} → Read X → Option (X × Kinds) → Type 0
 GivesPart result found = Gives (λ x. (x.0, kinds x.1.now)) result found
 
 -- no more is left than there was
@@ -47,21 +50,21 @@ pub record Reads {X : Type 0} (leading : Finds X) (tokens : List Token) (result 
   pub no_longer : LeavesNoMore tokens result
 
 -- where it stands first, a token or two are passed
-pub record Passes (after : List TokenKind → Option (List TokenKind)) (tokens : List Token) (result : Option (Bor (List Token))) : Type 0 where
+pub record Passes (after : Kinds → Option Kinds) (tokens : List Token) (result : Option Left) : Type 0 where
   pub rest : option_map (λ rest. kinds rest.now) result ≡ after (kinds tokens)
   pub shorter : IfSome result (λ rest. length rest.now < length tokens)
 
 -- the same, where it has to stand first
-pub record Expects (after : List TokenKind → Option (List TokenKind)) (tokens : List Token) (result : Result (Bor (List Token)) SyntaxFault) : Type 0 where
+pub record Expects (after : Kinds → Option Kinds) (tokens : List Token) (result : Result Left SyntaxFault) : Type 0 where
   pub rest : Gives (λ rest. kinds rest.now) result (after (kinds tokens))
   pub shorter : IfOk result (λ rest. length rest.now < length tokens)
 
-abbrev pub ended : {X : Type 0} → X × List TokenKind → Option X
+abbrev pub ended : {X : Type 0} → X × Kinds → Option X
 ended (x, []) = Some x
 ended (x, first ∷ rest) = None
 
 -- what was found, where nothing follows it
-abbrev pub whole_of : {X : Type 0} → Option (X × List TokenKind) → Option X
+abbrev pub whole_of : {X : Type 0} → Option (X × Kinds) → Option X
 whole_of found = found >>= ended
 
 -- BadSyntax comes only where this holds, want of memory at any time, and no other fault at all
@@ -71,8 +74,9 @@ IsFaultOnlyWhere P (fault.Unsupported place) = ⊥
 IsFaultOnlyWhere P fault.BadSyntax = P
 IsFaultOnlyWhere P fault.Memory = Unit {0}
 
--- all of the tokens are read: as the one reading that the grammar has for them, or with BadSyntax only where it has none
-pub record ReadsAll {X : Type 0} (IsPart : List TokenKind → X → List TokenKind → Type 0) (tokens : List TokenKind) (result : Result X SyntaxFault) : Type 0 where
+-- all of the tokens are read, as the one reading that the grammar has for them; BadSyntax only where it has none
+pub record ReadsAll {X : Type 0} (IsPart : Kinds → X → Kinds → Type 0) (tokens : Kinds)
+    (result : Result X SyntaxFault) : Type 0 where
   pub found : IfOk result (λ x. IsPart tokens x [])
   pub only : IfOk result (λ x. (other : X) → IsPart tokens other [] → other ≡ x)
   pub errors : IfErr result (IsFaultOnlyWhere ((x : X) → ¬ IsPart tokens x []))

@@ -9,7 +9,6 @@ use Rattle.hippo_model.specs.declared.statement.RawOut.TheVariants as out
 use Rattle.hippo_model.specs.declared.statement.RawSelect.{RawSelect}
 use Rattle.hippo_lexer.specs.declared.kinds.Keyword.TheVariants.{KDistinct, KFrom, KGroup, KInner, KJoin, KMax, KMin, KOn, KSelect, KWhere}
 use Rattle.hippo_lexer.specs.declared.kinds.Symbol.TheVariants.{Comma, Dot, LeftParen, RightParen, Star}
-use Rattle.hippo_lexer.specs.declared.kinds.TokenKind.{TokenKind}
 use Rattle.hippo_spj_reader.specs.declared.selects.Draft.{Draft}
 use Rattle.hippo_spj_reader.specs.declared.selects.JoinedTable.{JoinedTable}
 use Rattle.hippo_spj_reader.specs.declared.selects.Member.{Member}
@@ -19,7 +18,7 @@ use Rattle.hippo_spj_reader.specs.declared.selects.Sources.{Sources}
 use Rattle.hippo_spj_reader.specs.Promises.{◌>>=◌, either}
 use Rattle.hippo_spj_reader.specs.ConditionGrammar.{RawCond}
 use Rattle.hippo_spj_reader.specs.ConditionFinder.{leading_column, leading_condition}
-use Rattle.hippo_spj_reader.specs.Front.{Finds, after_keyword, after_symbol, after_word, leading_name}
+use Rattle.hippo_spj_reader.specs.Front.{Kinds, Finds, after_keyword, after_symbol, after_word, leading_name}
 use Rattle.hippo_spj_reader.specs.ListFinder.{leading_list}
 use Rattle.hippo_spj_reader.specs.SelectGrammar.{whole_condition, select_of}
 
@@ -33,7 +32,8 @@ leading_whole_table tokens = do
 
 unfoldable pub leading_item : Finds RawItem
 leading_item tokens =
-    either (leading_whole_table tokens) (λ table. Some (item.AllOf table.0, table.1)) (leading_column tokens >>= λ c. Some (item.One c.0, c.1))
+    either (leading_whole_table tokens) (λ table. Some (item.AllOf table.0, table.1))
+    (leading_column tokens >>= λ c. Some (item.One c.0, c.1))
 
 -- ( column ), behind MIN or MAX
 unfoldable pub leading_argument : Finds RawColumn
@@ -52,7 +52,8 @@ leading_member tokens =
 
 unfoldable pub leading_members : Finds (List Member)
 leading_members tokens =
-    either (after_symbol Star tokens) (λ rest. Some (member.Item item.All ∷ [], rest)) (leading_list leading_member (after_symbol Comma) tokens)
+    either (after_symbol Star tokens) (λ rest. Some (member.Item item.All ∷ [], rest))
+    (leading_list leading_member (after_symbol Comma) tokens)
 
 -- what a member is in a select that is not grouped
 abbrev pub item_of : Member → Option RawItem
@@ -75,7 +76,7 @@ each_of f (x ∷ xs) = do
   Some (y ∷ ys)
 
 -- behind [INNER] JOIN
-abbrev pub after_join : List TokenKind → Option (List TokenKind)
+abbrev pub after_join : Kinds → Option Kinds
 after_join tokens = either (after_keyword KInner tokens) (after_keyword KJoin) (after_keyword KJoin tokens)
 
 abbrev pub joined_table : List ℕ → Option RawCond → JoinedTable
@@ -92,7 +93,7 @@ leading_joined_on tokens = do
   Some (joined_table table.0 (Some condition.0), condition.1)
 
 -- one table more, where something leads to one
-unfoldable pub leading_joined : List TokenKind → Option (Option (JoinedTable × List TokenKind))
+unfoldable pub leading_joined : Kinds → Option (Option (JoinedTable × Kinds))
 leading_joined tokens =
     either (after_symbol Comma tokens) (λ behind. leading_joined_by_comma behind >>= λ found. Some (Some found))
     (either (after_join tokens) (λ behind. leading_joined_on behind >>= λ found. Some (Some found)) (Some None))
@@ -102,7 +103,8 @@ no_sources = record { names = []; conditions = [] }
 
 -- a table before others
 abbrev pub with_first : List ℕ → Option RawCond → Sources → Sources
-with_first table on others = record { names = table ∷ others.names; conditions = option_to_list on ++ others.conditions }
+with_first table on others =
+    record { names = table ∷ others.names; conditions = option_to_list on ++ others.conditions }
 
 -- the tables and conditions of at most this many joins
 abbrev pub leading_all_joined : ℕ → Finds Sources
@@ -118,7 +120,9 @@ leading_sources tokens = do
   Some (with_first table.0 None others.0, others.1)
 
 unfoldable pub leading_where : Finds (Option RawCond)
-leading_where tokens = either (after_keyword KWhere tokens) (λ behind. leading_condition behind >>= λ c. Some (Some c.0, c.1)) (Some (None, tokens))
+leading_where tokens =
+    either (after_keyword KWhere tokens) (λ behind. leading_condition behind >>= λ c. Some (Some c.0, c.1))
+    (Some (None, tokens))
 
 -- the tables and the whole condition, from FROM on
 unfoldable pub leading_scope : Finds Scope
@@ -126,7 +130,8 @@ leading_scope tokens = do
   named ← after_keyword KFrom tokens
   sources ← leading_sources named
   last ← leading_where sources.1
-  Some (record { tables = sources.0.names; cond = whole_condition (sources.0.conditions ++ option_to_list last.0) }, last.1)
+  let cond = whole_condition (sources.0.conditions ++ option_to_list last.0)
+  Some (record { tables = sources.0.names; cond = cond }, last.1)
 
 abbrev pub draft_of : Bool → List Member → Scope → Draft
 draft_of distinct members scope = record { distinct = distinct; members = members; scope = scope }

@@ -14,39 +14,44 @@ use Rattle.hippo_model.specs.declared.statement.RawOut.TheVariants as out
 use Rattle.hippo_model.specs.declared.statement.RawSelect.{RawSelect}
 use Rattle.hippo_lexer.specs.declared.kinds.Keyword.TheVariants.{KDistinct, KFrom, KGroup, KInner, KJoin, KMax, KMin, KOn, KSelect, KWhere}
 use Rattle.hippo_lexer.specs.declared.kinds.Symbol.TheVariants.{Comma, Dot, LeftParen, RightParen, Star}
-use Rattle.hippo_lexer.specs.declared.kinds.TokenKind.{TokenKind}
 use Rattle.hippo_lexer.specs.declared.kinds.TokenKind.TheVariants.{Word, Keyword, Symbol}
+use Rattle.hippo_spj_reader.specs.Front.{Kinds}
 use Rattle.hippo_spj_reader.specs.declared.selects.Scope.{Scope}
 use Rattle.hippo_spj_reader.specs.ConditionGrammar.{RawCond, IsColumn, IsCondition}
 use Rattle.hippo_spj_reader.specs.ListGrammar.{IsListOf}
 
 -- item = column | t "." "*"
-pub data IsItem : List TokenKind → RawItem → List TokenKind → Type 0 where
-  one_column : {c : RawColumn} {tokens rest : List TokenKind} → IsColumn tokens c rest → IsItem tokens (item.One c) rest
-  all_of_table : {table : List ℕ} {rest : List TokenKind} → IsItem (Word table ∷ Symbol Dot ∷ Symbol Star ∷ rest) (item.AllOf table) rest
+pub data IsItem : Kinds → RawItem → Kinds → Type 0 where
+  one_column : {c : RawColumn} {tokens rest : Kinds} → IsColumn tokens c rest → IsItem tokens (item.One c) rest
+  all_of_table : {table : List ℕ} {rest : Kinds} →
+      IsItem (Word table ∷ Symbol Dot ∷ Symbol Star ∷ rest) (item.AllOf table) rest
 
 -- items = "*" | item {"," item}
-pub data AreItems : List TokenKind → List RawItem → List TokenKind → Type 0 where
-  star : {rest : List TokenKind} → AreItems (Symbol Star ∷ rest) (item.All ∷ []) rest
-  listed : {items : List RawItem} {tokens rest : List TokenKind} → IsListOf IsItem (Symbol Comma) tokens items rest → AreItems tokens items rest
+pub data AreItems : Kinds → List RawItem → Kinds → Type 0 where
+  star : {rest : Kinds} → AreItems (Symbol Star ∷ rest) (item.All ∷ []) rest
+  listed : {items : List RawItem} {tokens rest : Kinds} →
+      IsListOf IsItem (Symbol Comma) tokens items rest → AreItems tokens items rest
 
 -- {"," t | [INNER] JOIN t ON cond}: the tables, and the conditions of ON
-pub data AreJoined : List TokenKind → List (List ℕ) → List RawCond → List TokenKind → Type 0 where
-  no_more : {rest : List TokenKind} → AreJoined rest [] [] rest
-  comma : {table : List ℕ} {tables : List (List ℕ)} {conditions : List RawCond} {others rest : List TokenKind} →
+pub data AreJoined : Kinds → List (List ℕ) → List RawCond → Kinds → Type 0 where
+  no_more : {rest : Kinds} → AreJoined rest [] [] rest
+  comma : {table : List ℕ} {tables : List (List ℕ)} {conditions : List RawCond} {others rest : Kinds} →
       AreJoined others tables conditions rest →
       AreJoined (Symbol Comma ∷ Word table ∷ others) (table ∷ tables) conditions rest
-  join : {table : List ℕ} {tables : List (List ℕ)} {condition : RawCond} {conditions : List RawCond} {on others rest : List TokenKind} →
+  join : {table : List ℕ} {tables : List (List ℕ)} {condition : RawCond} {conditions : List RawCond}
+      {on others rest : Kinds} →
       IsCondition on condition others → AreJoined others tables conditions rest →
       AreJoined (Keyword KJoin ∷ Word table ∷ Keyword KOn ∷ on) (table ∷ tables) (condition ∷ conditions) rest
-  inner_join : {table : List ℕ} {tables : List (List ℕ)} {condition : RawCond} {conditions : List RawCond} {on others rest : List TokenKind} →
+  inner_join : {table : List ℕ} {tables : List (List ℕ)} {condition : RawCond} {conditions : List RawCond}
+      {on others rest : Kinds} →
       IsCondition on condition others → AreJoined others tables conditions rest →
-      AreJoined (Keyword KInner ∷ Keyword KJoin ∷ Word table ∷ Keyword KOn ∷ on) (table ∷ tables) (condition ∷ conditions) rest
+      AreJoined (Keyword KInner ∷ Keyword KJoin ∷ Word table ∷ Keyword KOn ∷ on)
+      (table ∷ tables) (condition ∷ conditions) rest
 
 -- [WHERE cond]: the condition, if there is one
-pub data IsWhere : List TokenKind → Option RawCond → List TokenKind → Type 0 where
-  no_where : {rest : List TokenKind} → IsWhere rest None rest
-  condition : {condition : RawCond} {tokens rest : List TokenKind} →
+pub data IsWhere : Kinds → Option RawCond → Kinds → Type 0 where
+  no_where : {rest : Kinds} → IsWhere rest None rest
+  condition : {condition : RawCond} {tokens rest : Kinds} →
       IsCondition tokens condition rest → IsWhere (Keyword KWhere ∷ tokens) (Some condition) rest
 
 -- what a condition of ON or WHERE gives to the whole: the parts of an All, else itself
@@ -58,8 +63,9 @@ abbrev pub whole_condition : List RawCond → RawCond
 whole_condition conditions = All (flat_map own_parts conditions)
 
 -- FROM t {"," t | [INNER] JOIN t ON cond} [WHERE cond]: the tables, and the whole condition
-pub data IsScope : List TokenKind → Scope → List TokenKind → Type 0 where
-  scope : {table : List ℕ} {tables : List (List ℕ)} {whole : RawCond} {conditions : List RawCond} {last : Option RawCond} {joined behind rest : List TokenKind} →
+pub data IsScope : Kinds → Scope → Kinds → Type 0 where
+  scope : {table : List ℕ} {tables : List (List ℕ)} {whole : RawCond} {conditions : List RawCond}
+      {last : Option RawCond} {joined behind rest : Kinds} →
       AreJoined joined tables conditions behind → IsWhere behind last rest →
       whole ≡ whole_condition (conditions ++ option_to_list last) →
       IsScope (Keyword KFrom ∷ Word table ∷ joined) (record { tables = table ∷ tables; cond = whole }) rest
@@ -69,23 +75,25 @@ abbrev pub select_of : List RawItem → Scope → RawForm → RawSelect
 select_of items in_scope form = record { items = items; tables = in_scope.tables; cond = in_scope.cond; form = form }
 
 -- gitem = column | (MIN | MAX) "(" column ")"
-pub data IsOut : List TokenKind → RawOut → List TokenKind → Type 0 where
-  column_out : {c : RawColumn} {tokens rest : List TokenKind} → IsColumn tokens c rest → IsOut tokens (out.Column c) rest
-  minimum : {c : RawColumn} {tokens rest : List TokenKind} →
-      IsColumn tokens c (Symbol RightParen ∷ rest) → IsOut (Keyword KMin ∷ Symbol LeftParen ∷ tokens) (out.Min c) rest
-  maximum : {c : RawColumn} {tokens rest : List TokenKind} →
-      IsColumn tokens c (Symbol RightParen ∷ rest) → IsOut (Keyword KMax ∷ Symbol LeftParen ∷ tokens) (out.Max c) rest
+pub data IsOut : Kinds → RawOut → Kinds → Type 0 where
+  column_out : {c : RawColumn} {tokens rest : Kinds} → IsColumn tokens c rest → IsOut tokens (out.Column c) rest
+  minimum : {c : RawColumn} {tokens rest : Kinds} →
+      IsColumn tokens c (Symbol RightParen ∷ rest) →
+      IsOut (Keyword KMin ∷ Symbol LeftParen ∷ tokens) (out.Min c) rest
+  maximum : {c : RawColumn} {tokens rest : Kinds} →
+      IsColumn tokens c (Symbol RightParen ∷ rest) →
+      IsOut (Keyword KMax ∷ Symbol LeftParen ∷ tokens) (out.Max c) rest
 
 -- select = SELECT [DISTINCT] items FROM sources [WHERE cond]
 --        | SELECT gitem {"," gitem} FROM sources [WHERE cond] GROUP by column {"," column}
-pub data IsSelect : List TokenKind → RawSelect → List TokenKind → Type 0 where
-  plain : {items : List RawItem} {in_scope : Scope} {tokens from rest : List TokenKind} →
+pub data IsSelect : Kinds → RawSelect → Kinds → Type 0 where
+  plain : {items : List RawItem} {in_scope : Scope} {tokens from rest : Kinds} →
       AreItems tokens items from → IsScope from in_scope rest →
       IsSelect (Keyword KSelect ∷ tokens) (select_of items in_scope Plain) rest
-  distinct : {items : List RawItem} {in_scope : Scope} {tokens from rest : List TokenKind} →
+  distinct : {items : List RawItem} {in_scope : Scope} {tokens from rest : Kinds} →
       AreItems tokens items from → IsScope from in_scope rest →
       IsSelect (Keyword KSelect ∷ Keyword KDistinct ∷ tokens) (select_of items in_scope Distinct) rest
-  grouped : {outs : List RawOut} {by : List RawColumn} {in_scope : Scope} {tokens from columns rest : List TokenKind} →
+  grouped : {outs : List RawOut} {by : List RawColumn} {in_scope : Scope} {tokens from columns rest : Kinds} →
       IsListOf IsOut (Symbol Comma) tokens outs from →
       IsScope from in_scope (Keyword KGroup ∷ Word (codes "by") ∷ columns) →
       IsListOf IsColumn (Symbol Comma) columns by rest →

@@ -1,5 +1,5 @@
 -- What is found is the select of the grammar, and each select of the grammar is found.
-use Rattle.std.proofs.Common.{◌≡◌, List, [], Some, refl}
+use Rattle.std.proofs.Common.{◌≡◌, List, [], Some}
 use Rattle.hippo_lexer.specs.declared.kinds.TokenKind.{TokenKind}
 use Rattle.hippo_model.specs.declared.statement.RawSelect.{RawSelect}
 use Rattle.hippo_spj_reader.specs.SelectGrammar.{IsSelect}
