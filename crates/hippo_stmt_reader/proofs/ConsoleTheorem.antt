@@ -220,8 +220,8 @@ pub record Follows (rest : List TokenKind) : Type 0 where
   pub no_retain : after_word (codes "retain") rest ≡ None
 
 pub end_follows : (rest : List TokenKind) → IsEnd rest → Follows rest
-end_follows rest nothing = record { audit_ends = record { condition_ends = record { no_dot = refl; no_and = refl; no_or = refl }; no_comma = refl; no_where = refl }; no_and = refl; no_with = refl; no_retain = refl }
-end_follows rest semicolon = record { audit_ends = record { condition_ends = record { no_dot = refl; no_and = refl; no_or = refl }; no_comma = refl; no_where = refl }; no_and = refl; no_with = refl; no_retain = refl }
+end_follows rest nothing = record { audit_ends = auditing.ends-nothing; no_and = refl; no_with = refl; no_retain = refl }
+end_follows rest semicolon = record { audit_ends = auditing.ends-semicolon []; no_and = refl; no_with = refl; no_retain = refl }
 
 audit_during : (tokens : List TokenKind) (a : RawAudit) (rest : List TokenKind) → IsAudit tokens a rest → (behind : List TokenKind) × (after_keyword KDuring tokens ≡ Some behind)
 audit_during _ a rest (audits.audit e s cs ts w is) = (_, refl)

@@ -17,7 +17,7 @@ use Rattle.hippo_lexer.specs.declared.kinds.TokenKind.{TokenKind}
 use Rattle.hippo_lexer.specs.declared.kinds.TokenKind.TheVariants.{Keyword, Number}
 use Rattle.hippo_spj_reader.specs.Promises.{◌>>=◌, either}
 use Rattle.hippo_spj_reader.specs.ConditionFinder.{begins_with_name}
-use Rattle.hippo_spj_reader.specs.Front.{Finds, kinds, after_keyword, after_symbol, after_word, leading_name, leading_literal}
+use Rattle.hippo_spj_reader.specs.Front.{Kinds, Finds, kinds, after_keyword, after_symbol, after_word, leading_name, leading_literal}
 use Rattle.hippo_spj_reader.specs.ListFinder.{leading_list}
 use Rattle.hippo_spj_reader.specs.SelectFinder.{leading_select}
 use Rattle.hippo_audit_reader.specs.AuditFinder.{leading_audit}
@@ -25,16 +25,16 @@ use Rattle.hippo_stmt_reader.specs.declared.policies.Disclosure.{Disclosure}
 use Rattle.hippo_stmt_reader.specs.declared.policies.Grant.{Grant}
 use Rattle.hippo_stmt_reader.specs.StatementGrammar.{most_days, columns_of, values_of}
 
-abbrev pub nothing_left : List TokenKind → Option (Unit {0})
+abbrev pub nothing_left : Kinds → Option (Unit {0})
 nothing_left [] = Some tt
 nothing_left (first ∷ rest) = None
 
 -- [";"], and then nothing
-abbrev pub end_left : List TokenKind → Option (Unit {0})
+abbrev pub end_left : Kinds → Option (Unit {0})
 end_left tokens = either (after_symbol Semicolon tokens) nothing_left (nothing_left tokens)
 
 -- what was read, where the statement ends behind it
-abbrev pub with_end : {A : Type 0} → A → List TokenKind → Option A
+abbrev pub with_end : {A : Type 0} → A → Kinds → Option A
 with_end read tokens = end_left tokens >>= λ end. Some read
 
 abbrev pub column_kind_of : words.Keyword → Option ColumnKind
@@ -53,10 +53,11 @@ leading_column_def tokens = do
   k ← leading_column_kind name.1
   either (after_keyword KNot k.1) (λ behind. do
     rest ← after_keyword KNull behind
-    Some (record { name = name.0; kind = k.0; not_null = true }, rest)) (Some (record { name = name.0; kind = k.0; not_null = false }, k.1))
+    Some (record { name = name.0; kind = k.0; not_null = true }, rest))
+      (Some (record { name = name.0; kind = k.0; not_null = false }, k.1))
 
 -- behind a comma that a further column follows
-abbrev pub after_column : List TokenKind → Option (List TokenKind)
+abbrev pub after_column : Kinds → Option (Kinds)
 after_column tokens = after_symbol Comma tokens >>= λ behind. if begins_with_name behind then Some behind else None
 
 -- "(" c {"," c} ")"
@@ -75,7 +76,9 @@ leading_subject tokens =
       Some (Some c.0, c.1)) (Some (None, tokens))
 
 unfoldable pub leading_item : Finds (Option (List ℕ))
-leading_item tokens = either (after_keyword KWith tokens) (λ behind. leading_name behind >>= λ i. Some (Some i.0, i.1)) (Some (None, tokens))
+leading_item tokens =
+    either (after_keyword KWith tokens) (λ behind. leading_name behind >>= λ i. Some (Some i.0, i.1))
+    (Some (None, tokens))
 
 -- the number that stands first
 abbrev pub leading_number : Finds ℤ
@@ -103,7 +106,7 @@ leading_assignment tokens = do
   Some ((c.0, v.0), v.1)
 
 -- behind CREATE TABLE
-unfoldable pub create_table_of : List TokenKind → Option Stmt
+unfoldable pub create_table_of : Kinds → Option Stmt
 create_table_of tokens = do
   table ← leading_name tokens
   defs ← after_symbol LeftParen table.1
@@ -118,14 +121,14 @@ create_table_of tokens = do
   Some (stmt.CreateTable table.0 columns.0 key.0 subject.0)
 
 -- behind CREATE PURPOSE
-unfoldable pub create_purpose_of : List TokenKind → Option Stmt
+unfoldable pub create_purpose_of : Kinds → Option Stmt
 create_purpose_of tokens = do
   purpose ← leading_name tokens
   end ← end_left purpose.1
   Some (stmt.CreatePurpose purpose.0)
 
 -- behind CREATE RECIPIENT
-unfoldable pub create_recipient_of : List TokenKind → Option Stmt
+unfoldable pub create_recipient_of : Kinds → Option Stmt
 create_recipient_of tokens = do
   recipient ← leading_name tokens
   end ← end_left recipient.1
@@ -133,10 +136,12 @@ create_recipient_of tokens = do
 
 -- IN | OUT
 abbrev pub leading_item_kind : Finds ItemKind
-leading_item_kind tokens = either (after_keyword KIn tokens) (λ rest. Some (OptIn, rest)) (after_keyword KOut tokens >>= λ rest. Some (OptOut, rest))
+leading_item_kind tokens =
+    either (after_keyword KIn tokens) (λ rest. Some (OptIn, rest))
+    (after_keyword KOut tokens >>= λ rest. Some (OptOut, rest))
 
 -- behind CREATE ITEM
-unfoldable pub create_item_of : List TokenKind → Option Stmt
+unfoldable pub create_item_of : Kinds → Option Stmt
 create_item_of tokens = do
   item ← leading_name tokens
   behind ← after_keyword KOpt item.1
@@ -145,7 +150,7 @@ create_item_of tokens = do
   Some (stmt.CreateItem item.0 k.0)
 
 -- behind CREATE
-unfoldable pub create_of : List TokenKind → Option Stmt
+unfoldable pub create_of : Kinds → Option Stmt
 create_of tokens =
     either (after_keyword KTable tokens) create_table_of
     (either (after_keyword KPurpose tokens) create_purpose_of
@@ -163,14 +168,14 @@ leading_grant tokens = do
   Some (record { user = user.0; purpose = purpose.0; recipient = recipient.0 }, recipient.1)
 
 -- behind AUTHORIZE
-unfoldable pub authorize_of : List TokenKind → Option Stmt
+unfoldable pub authorize_of : Kinds → Option Stmt
 authorize_of tokens = do
   grant ← leading_grant tokens
   end ← end_left grant.1
   Some (stmt.Authorize grant.0.user grant.0.purpose grant.0.recipient)
 
 -- behind DEAUTHORIZE
-unfoldable pub deauthorize_of : List TokenKind → Option Stmt
+unfoldable pub deauthorize_of : Kinds → Option Stmt
 deauthorize_of tokens = do
   grant ← leading_grant tokens
   end ← end_left grant.1
@@ -188,7 +193,7 @@ leading_disclosure tokens = do
   Some (record { purpose = purpose.0; recipient = recipient.0; table = table.0; columns = columns.0 }, columns.1)
 
 -- behind ALLOW
-unfoldable pub allow_of : List TokenKind → Option Stmt
+unfoldable pub allow_of : Kinds → Option Stmt
 allow_of tokens = do
   disclosure ← leading_disclosure tokens
   item ← leading_item disclosure.1
@@ -197,7 +202,7 @@ allow_of tokens = do
   Some (stmt.Allow disclosure.0.purpose disclosure.0.recipient disclosure.0.table disclosure.0.columns item.0 days.0)
 
 -- behind REVOKE
-unfoldable pub revoke_of : List TokenKind → Option Stmt
+unfoldable pub revoke_of : Kinds → Option Stmt
 revoke_of tokens = do
   disclosure ← leading_disclosure tokens
   end ← end_left disclosure.1
@@ -205,21 +210,23 @@ revoke_of tokens = do
 
 -- YES | NO
 abbrev pub leading_yes_or_no : Finds Bool
-leading_yes_or_no tokens = either (after_keyword KYes tokens) (λ rest. Some (true, rest)) (after_keyword KNo tokens >>= λ rest. Some (false, rest))
+leading_yes_or_no tokens =
+    either (after_keyword KYes tokens) (λ rest. Some (true, rest))
+    (after_keyword KNo tokens >>= λ rest. Some (false, rest))
 
 -- behind CHOICE
-unfoldable pub choice_of : List TokenKind → Option Stmt
+unfoldable pub choice_of : Kinds → Option Stmt
 choice_of tokens = do
   n ← leading_number tokens
   a ← after_keyword KOn n.1
   item ← leading_name a
   b ← after_keyword KIs item.1
-  yes ← leading_yes_or_no b
-  end ← end_left yes.1
-  Some (stmt.Choice n.0 item.0 yes.0)
+  said ← leading_yes_or_no b
+  end ← end_left said.1
+  Some (stmt.Choice n.0 item.0 said.0)
 
 -- behind INSERT
-unfoldable pub insert_of : List TokenKind → Option Stmt
+unfoldable pub insert_of : Kinds → Option Stmt
 insert_of tokens = do
   a ← after_keyword KInto tokens
   table ← leading_name a
@@ -231,7 +238,7 @@ insert_of tokens = do
   Some (stmt.Insert table.0 values.0)
 
 -- behind UPDATE
-unfoldable pub update_of : List TokenKind → Option Stmt
+unfoldable pub update_of : Kinds → Option Stmt
 update_of tokens = do
   table ← leading_name tokens
   a ← after_keyword KSet table.1
@@ -242,7 +249,7 @@ update_of tokens = do
   Some (stmt.Update table.0 (columns_of settings.0) (values_of settings.0) (columns_of keys.0) (values_of keys.0))
 
 -- behind DELETE
-unfoldable pub delete_of : List TokenKind → Option Stmt
+unfoldable pub delete_of : Kinds → Option Stmt
 delete_of tokens = do
   a ← after_keyword KFrom tokens
   table ← leading_name a
@@ -252,20 +259,20 @@ delete_of tokens = do
   Some (stmt.Delete table.0 (columns_of keys.0) (values_of keys.0))
 
 -- behind EXPLAIN
-unfoldable pub explain_of : List TokenKind → Option Stmt
+unfoldable pub explain_of : Kinds → Option Stmt
 explain_of tokens = do
   n ← leading_number tokens
   end ← end_left n.1
   Some (stmt.Explain n.0)
 
-unfoldable pub audit_of : List TokenKind → Option Stmt
+unfoldable pub audit_of : Kinds → Option Stmt
 audit_of tokens = do
   a ← leading_audit tokens
   end ← end_left a.1
   Some (stmt.Audit a.0)
 
 -- behind BEGIN
-unfoldable pub begin_audit_of : List TokenKind → Option Stmt
+unfoldable pub begin_audit_of : Kinds → Option Stmt
 begin_audit_of tokens = do
   behind ← after_keyword KAudit tokens
   a ← leading_audit behind
@@ -273,14 +280,14 @@ begin_audit_of tokens = do
   Some (stmt.BeginAudit a.0)
 
 -- behind WATCH
-unfoldable pub watch_of : List TokenKind → Option Stmt
+unfoldable pub watch_of : Kinds → Option Stmt
 watch_of tokens = do
   a ← leading_audit tokens
   end ← end_left a.1
   Some (stmt.Watch a.0)
 
 -- a statement of the console that begins with this keyword, behind it
-unfoldable pub console_behind : words.Keyword → List TokenKind → Option Stmt
+unfoldable pub console_behind : words.Keyword → Kinds → Option Stmt
 console_behind KCreate tokens = create_of tokens
 console_behind KAuthorize tokens = authorize_of tokens
 console_behind KDeauthorize tokens = deauthorize_of tokens
@@ -294,11 +301,11 @@ console_behind KExplain tokens = explain_of tokens
 console_behind KBegin tokens = begin_audit_of tokens
 console_behind keyword tokens = None
 
-abbrev pub console_by_keyword : List TokenKind → Option Stmt
+abbrev pub console_by_keyword : Kinds → Option Stmt
 console_by_keyword (Keyword keyword ∷ rest) = console_behind keyword rest
 console_by_keyword tokens = None
 
-unfoldable pub console_of : List TokenKind → Option Stmt
+unfoldable pub console_of : Kinds → Option Stmt
 console_of tokens =
     either (after_keyword KDuring tokens) (λ _. audit_of tokens)
     (either (after_word (codes "watch") tokens) watch_of (console_by_keyword tokens))

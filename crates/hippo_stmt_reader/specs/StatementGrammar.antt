@@ -1,4 +1,4 @@
--- The grammar of statements. Each relation says that the tokens begin with such a part, how it reads, and what follows it.
+-- The grammar of statements. A relation says that the tokens begin with such a part, how it reads, and what follows it.
 use Rattle.std.specs.Prelude.{◌≡◌, ℕ, ◌<◌, ◌≤◌, ℤ, pos, ◌-◌, true, false, List, [], ◌∷◌, ◌++◌, length, map, Option, Some, None, Ok, Err, slice_get, codes}
 use Rattle.hippo_values.specs.declared.values.Value.{Value}
 use Rattle.hippo_model.specs.declared.entry.ItemKind.TheVariants.{OptIn, OptOut}
@@ -19,7 +19,7 @@ use Rattle.hippo_lexer.specs.declared.kinds.Token.{Token}
 use Rattle.hippo_lexer.specs.declared.kinds.TokenKind.{TokenKind}
 use Rattle.hippo_lexer.specs.declared.kinds.TokenKind.TheVariants.{Word, Keyword, Number, Symbol}
 use Rattle.hippo_spj_reader.specs.ConditionGrammar.{IsLiteral}
-use Rattle.hippo_spj_reader.specs.Front.{kinds}
+use Rattle.hippo_spj_reader.specs.Front.{Kinds, kinds}
 use Rattle.hippo_spj_reader.specs.ListGrammar.{IsName, IsListOf}
 use Rattle.hippo_spj_reader.specs.SelectGrammar.{IsSelect}
 use Rattle.hippo_audit_reader.specs.AuditGrammar.{IsAudit}
@@ -31,47 +31,49 @@ pub data IsColumnKind : words.Keyword → ColumnKind → Type 0 where
   date : IsColumnKind KDate kind.Date
 
 -- coldef = c (INTEGER | TEXT | DATE) [NOT NULL]
-pub data IsColumnDef : List TokenKind → Column → List TokenKind → Type 0 where
-  nullable : {c : List ℕ} {k : ColumnKind} {word : words.Keyword} {rest : List TokenKind} → IsColumnKind word k →
+pub data IsColumnDef : Kinds → Column → Kinds → Type 0 where
+  nullable : {c : List ℕ} {k : ColumnKind} {word : words.Keyword} {rest : Kinds} → IsColumnKind word k →
       IsColumnDef (Word c ∷ Keyword word ∷ rest) (record { name = c; kind = k; not_null = false }) rest
-  not_null : {c : List ℕ} {k : ColumnKind} {word : words.Keyword} {rest : List TokenKind} → IsColumnKind word k →
-      IsColumnDef (Word c ∷ Keyword word ∷ Keyword KNot ∷ Keyword KNull ∷ rest) (record { name = c; kind = k; not_null = true }) rest
+  not_null : {c : List ℕ} {k : ColumnKind} {word : words.Keyword} {rest : Kinds} → IsColumnKind word k →
+      IsColumnDef (Word c ∷ Keyword word ∷ Keyword KNot ∷ Keyword KNull ∷ rest)
+      (record { name = c; kind = k; not_null = true }) rest
 
 -- ["," SUBJECT c]
-pub data IsSubject : List TokenKind → Option (List ℕ) → List TokenKind → Type 0 where
-  no_subject : {rest : List TokenKind} → IsSubject rest None rest
-  subject : {c : List ℕ} {rest : List TokenKind} → IsSubject (Symbol Comma ∷ Keyword KSubject ∷ Word c ∷ rest) (Some c) rest
+pub data IsSubject : Kinds → Option (List ℕ) → Kinds → Type 0 where
+  no_subject : {rest : Kinds} → IsSubject rest None rest
+  subject : {c : List ℕ} {rest : Kinds} →
+      IsSubject (Symbol Comma ∷ Keyword KSubject ∷ Word c ∷ rest) (Some c) rest
 
 -- [WITH i]
-pub data IsWith : List TokenKind → Option (List ℕ) → List TokenKind → Type 0 where
-  no_item : {rest : List TokenKind} → IsWith rest None rest
-  with_item : {i : List ℕ} {rest : List TokenKind} → IsWith (Keyword KWith ∷ Word i ∷ rest) (Some i) rest
+pub data IsWith : Kinds → Option (List ℕ) → Kinds → Type 0 where
+  no_item : {rest : Kinds} → IsWith rest None rest
+  with_item : {i : List ℕ} {rest : Kinds} → IsWith (Keyword KWith ∷ Word i ∷ rest) (Some i) rest
 
 -- for how many days a rule may show a row
 abbrev pub most_days : ℕ
 most_days = 36500
 
 -- [RETAIN n DAYS], from one day to the most
-pub data IsRetention : List TokenKind → Option ℕ → List TokenKind → Type 0 where
-  no_retention : {rest : List TokenKind} → IsRetention rest None rest
-  retain : {days : ℕ} {rest : List TokenKind} → 0 < days → days ≤ most_days →
+pub data IsRetention : Kinds → Option ℕ → Kinds → Type 0 where
+  no_retention : {rest : Kinds} → IsRetention rest None rest
+  retain : {days : ℕ} {rest : Kinds} → 0 < days → days ≤ most_days →
       IsRetention (Word (codes "retain") ∷ Number (pos days) ∷ Word (codes "days") ∷ rest) (Some days) rest
 
 -- c "=" literal
-pub data IsAssignment : List TokenKind → List ℕ × Value → List TokenKind → Type 0 where
-  assignment : {c : List ℕ} {v : Value} {tokens rest : List TokenKind} →
+pub data IsAssignment : Kinds → List ℕ × Value → Kinds → Type 0 where
+  assignment : {c : List ℕ} {v : Value} {tokens rest : Kinds} →
       IsLiteral tokens v rest → IsAssignment (Word c ∷ Symbol Equal ∷ tokens) (c, v) rest
 
 -- c "=" literal {AND c "=" literal}
-abbrev pub AreKeys : List TokenKind → List (List ℕ × Value) → List TokenKind → Type 0
+abbrev pub AreKeys : Kinds → List (List ℕ × Value) → Kinds → Type 0
 AreKeys tokens keys rest = IsListOf IsAssignment (Keyword KAnd) tokens keys rest
 
 -- c "=" literal {"," c "=" literal}
-abbrev pub AreSettings : List TokenKind → List (List ℕ × Value) → List TokenKind → Type 0
+abbrev pub AreSettings : Kinds → List (List ℕ × Value) → Kinds → Type 0
 AreSettings tokens settings rest = IsListOf IsAssignment (Symbol Comma) tokens settings rest
 
 -- c {"," c}
-abbrev pub AreNames : List TokenKind → List (List ℕ) → List TokenKind → Type 0
+abbrev pub AreNames : Kinds → List (List ℕ) → Kinds → Type 0
 AreNames tokens names rest = IsListOf IsName (Symbol Comma) tokens names rest
 
 abbrev pub columns_of : List (List ℕ × Value) → List (List ℕ)
@@ -81,67 +83,86 @@ abbrev pub values_of : List (List ℕ × Value) → List Value
 values_of assignments = map (λ (assignment : List ℕ × Value). assignment.1) assignments
 
 -- the statements of the console
-pub data IsConsole : List TokenKind → Stmt → List TokenKind → Type 0 where
+pub data IsConsole : Kinds → Stmt → Kinds → Type 0 where
   -- CREATE TABLE t "(" coldef {"," coldef} "," PRIMARY KEY "(" c {"," c} ")" ["," SUBJECT c] ")"
-  create_table : {table : List ℕ} {columns : List Column} {key : List (List ℕ)} {subject : Option (List ℕ)} {defs keys behind rest : List TokenKind} →
-      IsListOf IsColumnDef (Symbol Comma) defs columns (Symbol Comma ∷ Keyword KPrimary ∷ Keyword KKey ∷ Symbol LeftParen ∷ keys) →
+  create_table : {table : List ℕ} {columns : List Column} {key : List (List ℕ)} {subject : Option (List ℕ)}
+      {defs keys behind rest : Kinds} →
+      IsListOf IsColumnDef (Symbol Comma) defs columns
+      (Symbol Comma ∷ Keyword KPrimary ∷ Keyword KKey ∷ Symbol LeftParen ∷ keys) →
       AreNames keys key (Symbol RightParen ∷ behind) →
       IsSubject behind subject (Symbol RightParen ∷ rest) →
-      IsConsole (Keyword KCreate ∷ Keyword KTable ∷ Word table ∷ Symbol LeftParen ∷ defs) (stmt.CreateTable table columns key subject) rest
+      IsConsole (Keyword KCreate ∷ Keyword KTable ∷ Word table ∷ Symbol LeftParen ∷ defs)
+      (stmt.CreateTable table columns key subject) rest
   -- CREATE PURPOSE p | CREATE RECIPIENT r
-  create_purpose : {purpose : List ℕ} {rest : List TokenKind} →
+  create_purpose : {purpose : List ℕ} {rest : Kinds} →
       IsConsole (Keyword KCreate ∷ Keyword KPurpose ∷ Word purpose ∷ rest) (stmt.CreatePurpose purpose) rest
-  create_recipient : {recipient : List ℕ} {rest : List TokenKind} →
-      IsConsole (Keyword KCreate ∷ Keyword KRecipient ∷ Word recipient ∷ rest) (stmt.CreateRecipient recipient) rest
+  create_recipient : {recipient : List ℕ} {rest : Kinds} →
+      IsConsole (Keyword KCreate ∷ Keyword KRecipient ∷ Word recipient ∷ rest)
+      (stmt.CreateRecipient recipient) rest
   -- CREATE ITEM i OPT IN | CREATE ITEM i OPT OUT
-  create_opt_in : {item : List ℕ} {rest : List TokenKind} →
-      IsConsole (Keyword KCreate ∷ Keyword KItem ∷ Word item ∷ Keyword KOpt ∷ Keyword KIn ∷ rest) (stmt.CreateItem item OptIn) rest
-  create_opt_out : {item : List ℕ} {rest : List TokenKind} →
-      IsConsole (Keyword KCreate ∷ Keyword KItem ∷ Word item ∷ Keyword KOpt ∷ Keyword KOut ∷ rest) (stmt.CreateItem item OptOut) rest
+  create_opt_in : {item : List ℕ} {rest : Kinds} →
+      IsConsole (Keyword KCreate ∷ Keyword KItem ∷ Word item ∷ Keyword KOpt ∷ Keyword KIn ∷ rest)
+      (stmt.CreateItem item OptIn) rest
+  create_opt_out : {item : List ℕ} {rest : Kinds} →
+      IsConsole (Keyword KCreate ∷ Keyword KItem ∷ Word item ∷ Keyword KOpt ∷ Keyword KOut ∷ rest)
+      (stmt.CreateItem item OptOut) rest
   -- AUTHORIZE u FOR p "," r | DEAUTHORIZE u FOR p "," r
-  authorize : {user purpose recipient : List ℕ} {rest : List TokenKind} →
-      IsConsole (Keyword KAuthorize ∷ Word user ∷ Keyword KFor ∷ Word purpose ∷ Symbol Comma ∷ Word recipient ∷ rest) (stmt.Authorize user purpose recipient) rest
-  deauthorize : {user purpose recipient : List ℕ} {rest : List TokenKind} →
-      IsConsole (Keyword KDeauthorize ∷ Word user ∷ Keyword KFor ∷ Word purpose ∷ Symbol Comma ∷ Word recipient ∷ rest) (stmt.Deauthorize user purpose recipient) rest
+  authorize : {user purpose recipient : List ℕ} {rest : Kinds} →
+      IsConsole (Keyword KAuthorize ∷ Word user ∷ Keyword KFor ∷ Word purpose ∷ Symbol Comma ∷ Word recipient ∷ rest)
+      (stmt.Authorize user purpose recipient) rest
+  deauthorize : {user purpose recipient : List ℕ} {rest : Kinds} →
+      IsConsole (Keyword KDeauthorize ∷ Word user ∷ Keyword KFor ∷ Word purpose
+        ∷ Symbol Comma ∷ Word recipient ∷ rest)
+      (stmt.Deauthorize user purpose recipient) rest
   -- ALLOW p TO r ON t "(" c {"," c} ")" [WITH i] [RETAIN n DAYS]
-  allow : {purpose recipient table : List ℕ} {columns : List (List ℕ)} {item : Option (List ℕ)} {days : Option ℕ} {named behind kept rest : List TokenKind} →
+  allow : {purpose recipient table : List ℕ} {columns : List (List ℕ)} {item : Option (List ℕ)} {days : Option ℕ}
+      {named behind kept rest : Kinds} →
       AreNames named columns (Symbol RightParen ∷ behind) →
       IsWith behind item kept →
       IsRetention kept days rest →
-      IsConsole (Keyword KAllow ∷ Word purpose ∷ Keyword KTo ∷ Word recipient ∷ Keyword KOn ∷ Word table ∷ Symbol LeftParen ∷ named) (stmt.Allow purpose recipient table columns item days) rest
+      IsConsole (Keyword KAllow ∷ Word purpose ∷ Keyword KTo ∷ Word recipient
+        ∷ Keyword KOn ∷ Word table ∷ Symbol LeftParen ∷ named)
+      (stmt.Allow purpose recipient table columns item days) rest
   -- REVOKE p TO r ON t "(" c {"," c} ")"
-  revoke : {purpose recipient table : List ℕ} {columns : List (List ℕ)} {named rest : List TokenKind} →
+  revoke : {purpose recipient table : List ℕ} {columns : List (List ℕ)} {named rest : Kinds} →
       AreNames named columns (Symbol RightParen ∷ rest) →
-      IsConsole (Keyword KRevoke ∷ Word purpose ∷ Keyword KTo ∷ Word recipient ∷ Keyword KOn ∷ Word table ∷ Symbol LeftParen ∷ named) (stmt.Revoke purpose recipient table columns) rest
+      IsConsole (Keyword KRevoke ∷ Word purpose ∷ Keyword KTo ∷ Word recipient
+        ∷ Keyword KOn ∷ Word table ∷ Symbol LeftParen ∷ named)
+      (stmt.Revoke purpose recipient table columns) rest
   -- CHOICE number ON i IS (YES | NO)
-  choice_yes : {n : ℤ} {item : List ℕ} {rest : List TokenKind} →
-      IsConsole (Keyword KChoice ∷ Number n ∷ Keyword KOn ∷ Word item ∷ Keyword KIs ∷ Keyword KYes ∷ rest) (stmt.Choice n item true) rest
-  choice_no : {n : ℤ} {item : List ℕ} {rest : List TokenKind} →
-      IsConsole (Keyword KChoice ∷ Number n ∷ Keyword KOn ∷ Word item ∷ Keyword KIs ∷ Keyword KNo ∷ rest) (stmt.Choice n item false) rest
+  choice_yes : {n : ℤ} {item : List ℕ} {rest : Kinds} →
+      IsConsole (Keyword KChoice ∷ Number n ∷ Keyword KOn ∷ Word item ∷ Keyword KIs ∷ Keyword KYes ∷ rest)
+      (stmt.Choice n item true) rest
+  choice_no : {n : ℤ} {item : List ℕ} {rest : Kinds} →
+      IsConsole (Keyword KChoice ∷ Number n ∷ Keyword KOn ∷ Word item ∷ Keyword KIs ∷ Keyword KNo ∷ rest)
+      (stmt.Choice n item false) rest
   -- INSERT INTO t VALUES "(" literal {"," literal} ")"
-  insert : {table : List ℕ} {values : List Value} {tokens rest : List TokenKind} →
+  insert : {table : List ℕ} {values : List Value} {tokens rest : Kinds} →
       IsListOf IsLiteral (Symbol Comma) tokens values (Symbol RightParen ∷ rest) →
-      IsConsole (Keyword KInsert ∷ Keyword KInto ∷ Word table ∷ Keyword KValues ∷ Symbol LeftParen ∷ tokens) (stmt.Insert table values) rest
+      IsConsole (Keyword KInsert ∷ Keyword KInto ∷ Word table ∷ Keyword KValues ∷ Symbol LeftParen ∷ tokens)
+      (stmt.Insert table values) rest
   -- UPDATE t SET c "=" literal {"," c "=" literal} WHERE keys
-  update : {s : Stmt} {table : List ℕ} {settings keys : List (List ℕ × Value)} {tokens behind rest : List TokenKind} →
+  update : {s : Stmt} {table : List ℕ} {settings keys : List (List ℕ × Value)} {tokens behind rest : Kinds} →
       AreSettings tokens settings (Keyword KWhere ∷ behind) →
       AreKeys behind keys rest →
       s ≡ stmt.Update table (columns_of settings) (values_of settings) (columns_of keys) (values_of keys) →
       IsConsole (Keyword KUpdate ∷ Word table ∷ Keyword KSet ∷ tokens) s rest
   -- DELETE FROM t WHERE keys
-  delete : {s : Stmt} {table : List ℕ} {keys : List (List ℕ × Value)} {tokens rest : List TokenKind} →
+  delete : {s : Stmt} {table : List ℕ} {keys : List (List ℕ × Value)} {tokens rest : Kinds} →
       AreKeys tokens keys rest →
       s ≡ stmt.Delete table (columns_of keys) (values_of keys) →
       IsConsole (Keyword KDelete ∷ Keyword KFrom ∷ Word table ∷ Keyword KWhere ∷ tokens) s rest
   -- EXPLAIN number
-  explain : {n : ℤ} {rest : List TokenKind} → IsConsole (Keyword KExplain ∷ Number n ∷ rest) (stmt.Explain n) rest
+  explain : {n : ℤ} {rest : Kinds} → IsConsole (Keyword KExplain ∷ Number n ∷ rest) (stmt.Explain n) rest
   -- audit | BEGIN AUDIT audit | WATCH audit
-  audit : {a : RawAudit} {tokens rest : List TokenKind} → IsAudit tokens a rest → IsConsole tokens (stmt.Audit a) rest
-  begin_audit : {a : RawAudit} {tokens rest : List TokenKind} → IsAudit tokens a rest → IsConsole (Keyword KBegin ∷ Keyword KAudit ∷ tokens) (stmt.BeginAudit a) rest
-  watch : {a : RawAudit} {tokens rest : List TokenKind} → IsAudit tokens a rest → IsConsole (Word (codes "watch") ∷ tokens) (stmt.Watch a) rest
+  audit : {a : RawAudit} {tokens rest : Kinds} → IsAudit tokens a rest → IsConsole tokens (stmt.Audit a) rest
+  begin_audit : {a : RawAudit} {tokens rest : Kinds} → IsAudit tokens a rest →
+      IsConsole (Keyword KBegin ∷ Keyword KAudit ∷ tokens) (stmt.BeginAudit a) rest
+  watch : {a : RawAudit} {tokens rest : Kinds} → IsAudit tokens a rest →
+      IsConsole (Word (codes "watch") ∷ tokens) (stmt.Watch a) rest
 
 -- [";"], and then nothing
-pub data IsEnd : List TokenKind → Type 0 where
+pub data IsEnd : Kinds → Type 0 where
   nothing : IsEnd []
   semicolon : IsEnd (Symbol Semicolon ∷ [])
 
@@ -157,15 +178,19 @@ pub data IsPlacedSelect : List Token → RawSelect → ℕ → ℕ → Type 0 wh
 
 -- statement = console [";"] | select [";"] | OPEN select [";"] | EXTRACT select [";"]
 pub data IsStatement : List Token → Stmt → Type 0 where
-  console : {s : Stmt} {tokens : List Token} {rest : List TokenKind} → IsConsole (kinds tokens) s rest → IsEnd rest → IsStatement tokens s
-  select : {select : RawSelect} {start end : ℕ} {tokens : List Token} → IsPlacedSelect tokens select start end → IsStatement tokens (stmt.Select select start end)
+  console : {s : Stmt} {tokens : List Token} {rest : Kinds} →
+      IsConsole (kinds tokens) s rest → IsEnd rest → IsStatement tokens s
+  select : {select : RawSelect} {start end : ℕ} {tokens : List Token} →
+      IsPlacedSelect tokens select start end → IsStatement tokens (stmt.Select select start end)
   open_select : {select : RawSelect} {start end : ℕ} {first : Token} {tokens : List Token} →
-      first.kind ≡ Keyword KOpen → IsPlacedSelect tokens select start end → IsStatement (first ∷ tokens) (stmt.Ask select start end)
+      first.kind ≡ Keyword KOpen → IsPlacedSelect tokens select start end →
+      IsStatement (first ∷ tokens) (stmt.Ask select start end)
   extract_select : {select : RawSelect} {start end : ℕ} {first : Token} {tokens : List Token} →
-      first.kind ≡ Word (codes "extract") → IsPlacedSelect tokens select start end → IsStatement (first ∷ tokens) (stmt.Extract select start end)
+      first.kind ≡ Word (codes "extract") → IsPlacedSelect tokens select start end →
+      IsStatement (first ∷ tokens) (stmt.Extract select start end)
 
--- what the words are refused for; else BadSyntax where the tokens are no statement; want of memory at any time where the
--- words are fit to be read
+-- what the words are refused for; else BadSyntax where the tokens are no statement; want of memory at any time
+-- where the words are fit to be read
 abbrev pub IsRefusal : List Token → SyntaxFault → Type 0
 IsRefusal tokens fault.TooDeep = words_check tokens ≡ Err fault.TooDeep
 IsRefusal tokens (fault.Unsupported place) = words_check tokens ≡ Err (fault.Unsupported place)
