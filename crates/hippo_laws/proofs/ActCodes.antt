@@ -1,5 +1,5 @@
 -- What is written of an act is read in one way only, and so is an entry's body.
-use Rattle.std.proofs.Common.{◌≡◌, ℕ, ◌+◌, ◌<◌, ◌^◌, ℤ, pos, negsuc, Bool, true, false, ◌&&◌, List, [], ◌∷◌, ◌++◌, length, map, Option, Some, None, refl, sym, ap, ◌∙◌, append_assoc, arith}
+use Rattle.std.proofs.Common.{◌≡◌, ℕ, ◌<◌, ◌^◌, ℤ, pos, negsuc, Bool, true, false, ◌&&◌, List, [], ◌∷◌, ◌++◌, length, map, Option, Some, None, refl, sym, ap, ◌∙◌, append_assoc, arith}
 use Rattle.std.specs.Prelude.{nat_lt, nat_le, int_le}
 use Rattle.std.specs.Int.{w32, w64, to_be_bytes, cast_unsigned, cast_signed, from_bool}
 use Rattle.std.specs.Int.RustNames.{FitsSigned}
@@ -7,7 +7,6 @@ use Rattle.std.specs.List.{list_all}
 use Rattle.std.specs.Str.{is_utf8}
 use Rattle.std.proofs.lemmas.Bool.{and_parts, and_from, ltb-true, leb-true}
 use Rattle.std.proofs.lemmas.Int.{to_z-of_z, ints}
-use Rattle.std.proofs.Math.Facts.{Fits-of_z}
 use Rattle.hippo_values.specs.declared.names.Name.{Name}
 use Rattle.hippo_values.specs.declared.texts.Txt.{Txt}
 use Rattle.hippo_values.specs.declared.values.Value.{Value}
@@ -25,7 +24,7 @@ use Rattle.hippo_model.specs.declared.stored.StoredEntry.{StoredEntry}
 use Rattle.hippo_model.specs.Terms.{History, Row, Place}
 use Rattle.hippo_model.specs.StoredForms.{number_bytes, signed_bytes, day_bytes, name_bytes, text_bytes, list_bytes, place_bytes, value_bytes, column_kind, column_bytes, subject_byte, schema_bytes, item_kind, item_bytes, days_bytes, act_format, act_kind, act_bytes, body, stored}
 use Rattle.hippo_model.specs.Keepable.{is_signed_number, is_moment, is_day, is_folded_name, is_text, has_count, is_short, is_place, value_is_keepable, cells_are_keepable, places_are_keepable, columns_are_keepable, key_is_keepable, subject_is_keepable, schema_is_keepable, item_is_keepable, days_are_keepable, question_is_keepable, rule_is_keepable, act_is_keepable, is_keepable}
-use Rattle.hippo_laws.proofs.Codes.{IsReadOnce, any, both_fit, one_then_other, split_alike, last, pair, a_byte, eight_bytes, four_bytes, a_list}
+use Rattle.hippo_laws.proofs.Codes.{IsReadOnce, any, both_fit, one_then_other, split_alike, last, pair, eight_bytes, four_bytes, a_list}
 
 -- ---- numbers with a sign
 

@@ -22,7 +22,7 @@ use Rattle.hippo_model.specs.Audits.{shared}
 use Rattle.hippo_model.specs.Hits.{hits}
 use Rattle.hippo_model.proofs.NamedColumns.{named_columns}
 use Rattle.hippo_model.proofs.Truths.{truths}
-use Rattle.hippo_laws.proofs.OuterParts.{outermost_parts}
+use Rattle.hippo_model.proofs.OuterParts.{outer_parts_of}
 use Rattle.hippo_laws.proofs.ExampleHistories.{treatment, nurse, ann, patient, number_column, text_column, required, entry, clinic, column, equals, select, always, ask, asked}
 
 -- who saw a column of the patients on 2024-01-02
@@ -179,7 +179,7 @@ shared_key_of_two_columns = simp truths
 
 -- how many patients an audit's condition finds, before and after the first one moves
 audit_finds_a_patient : hits clinic (audit patient (column 1 ∷ []) (equals 3 (Int (pos 95120)))) 0 ≡ 1
-audit_finds_a_patient = simp (truths, named_columns, outermost_parts)
+audit_finds_a_patient = simp (truths, named_columns, outer_parts_of)
 
 audit_finds_no_patient_after_the_move : hits moved (audit patient (column 1 ∷ []) (equals 3 (Int (pos 95120)))) 0 ≡ 0
-audit_finds_no_patient_after_the_move = simp (truths, named_columns, outermost_parts)
+audit_finds_no_patient_after_the_move = simp (truths, named_columns, outer_parts_of)

@@ -1,12 +1,11 @@
 -- Damaged histories, each with the place of its damage.
-use Rattle.std.proofs.Common.{◌≡◌, ℕ, pos, List, [], ◌∷◌, ◌++◌, Option, Some, None, refl, codes, take}
+use Rattle.std.proofs.Common.{◌≡◌, ℕ, pos, [], ◌∷◌, ◌++◌, Option, Some, None, refl, codes, take}
 use Rattle.hippo_values.specs.declared.values.Value.TheVariants.{Null, Int, Text}
 use Rattle.hippo_model.specs.declared.entry.Act.TheVariants.{Create, Purpose, Recipient, Item, Authorize, Deauthorize, Allow, Insert, Update, Delete, Asked}
 use Rattle.hippo_model.specs.declared.entry.Entry.{Entry}
 use Rattle.hippo_model.specs.declared.entry.ItemKind.TheVariants.{OptIn}
-use Rattle.hippo_model.specs.declared.query.Query.{Query}
 use Rattle.hippo_model.specs.declared.schema.Schema.{Schema}
-use Rattle.hippo_model.specs.Terms.{History, Meaning}
+use Rattle.hippo_model.specs.Terms.{Meaning}
 use Rattle.hippo_model.specs.Validity.{damage}
 use Rattle.hippo_laws.proofs.ExampleHistories.{treatment, nurse, ann, patient, patients, number_column, required, entry, ada, bob, clinic, column, select, always, asked, words_and_texts}
 

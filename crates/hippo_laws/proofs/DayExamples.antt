@@ -1,6 +1,6 @@
 -- A working day with two tables: joins, audits by two tables, and the denials of a query.
 use Rattle.hippo_model.specs.declared.query.Form.TheVariants.{Plain}
-use Rattle.std.proofs.Common.{◌≡◌, ℕ, pos, List, [], ◌∷◌, ◌++◌, Option, Some, None, true, false, refl, codes, if◌then◌else◌}
+use Rattle.std.proofs.Common.{◌≡◌, ℕ, pos, List, [], ◌∷◌, ◌++◌, Some, None, true, false, refl, codes, if◌then◌else◌}
 use Rattle.std.specs.Prelude.{bytes_eq}
 use Rattle.hippo_values.specs.declared.values.Value.TheVariants.{Null, Int, Text, Day}
 use Rattle.hippo_values.specs.declared.truths.CompareOp.TheVariants.{Eq}
@@ -26,7 +26,7 @@ use Rattle.hippo_model.specs.Hits.{hits}
 use Rattle.hippo_model.specs.Validity.{damage}
 use Rattle.hippo_model.proofs.NamedColumns.{named_columns}
 use Rattle.hippo_model.proofs.Truths.{truths}
-use Rattle.hippo_laws.proofs.OuterParts.{outermost_parts}
+use Rattle.hippo_model.proofs.OuterParts.{outer_parts_of}
 use Rattle.hippo_laws.proofs.ExampleHistories.{treatment, nurse, ann, patient, patients, number_column, text_column, required, column, column_of, nursing, select, always, words_and_texts}
 
 abbrev billing : List ℕ
@@ -164,4 +164,4 @@ denied_phone_is_not_flagged_as_shown : shared meaning day (record phone_asked { 
 denied_phone_is_not_flagged_as_shown = simp truths
 
 each_tables_own_conditions_find_rows : (hits day names_in_south 0 ≡ 2) × (hits day names_in_south 1 ≡ 2)
-each_tables_own_conditions_find_rows = (simp (named_columns, outermost_parts), simp (truths, named_columns, outermost_parts))
+each_tables_own_conditions_find_rows = (simp (named_columns, outer_parts_of), simp (truths, named_columns, outer_parts_of))

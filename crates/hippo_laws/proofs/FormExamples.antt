@@ -1,9 +1,7 @@
 -- Distinct and grouped answers and their audits, computed on small histories. Each example is named by what it shows.
-use Rattle.std.proofs.Common.{◌≡◌, ℕ, pos, List, [], ◌∷◌, ◌++◌, Some, None, false, refl, codes}
-use Rattle.hippo_values.specs.declared.values.Value.{Value}
+use Rattle.std.proofs.Common.{◌≡◌, ℕ, pos, List, [], ◌∷◌, ◌++◌, None, codes}
 use Rattle.hippo_values.specs.declared.values.Value.TheVariants.{Null, Int, Text}
 use Rattle.hippo_model.specs.declared.audit.Audit.{Audit}
-use Rattle.hippo_model.specs.declared.audit.SharedRow.{SharedRow}
 use Rattle.hippo_model.specs.declared.cells.Cell.TheVariants.{Shown, Denied}
 use Rattle.hippo_model.specs.declared.entry.Act.TheVariants.{Allow, Insert}
 use Rattle.hippo_model.specs.declared.query.Form.TheVariants.{Distinct, Grouped}
@@ -11,10 +9,10 @@ use Rattle.hippo_model.specs.declared.query.Out.{Out}
 use Rattle.hippo_model.specs.declared.query.Out.TheVariants.{Column, Min, Max}
 use Rattle.hippo_model.specs.declared.query.Query.{Query}
 use Rattle.hippo_model.specs.declared.query.Ref.{Ref}
-use Rattle.hippo_model.specs.Terms.{History, Meaning, Row}
+use Rattle.hippo_model.specs.Terms.{History, Row}
 use Rattle.hippo_model.specs.Audits.{shared}
 use Rattle.hippo_model.proofs.Truths.{truths}
-use Rattle.hippo_laws.proofs.ExampleHistories.{treatment, nurse, patient, entry, clinic, column, equals, select, always, ask, asked}
+use Rattle.hippo_laws.proofs.ExampleHistories.{treatment, nurse, patient, entry, clinic, column, equals, always, ask, asked}
 use Rattle.hippo_laws.proofs.AuditExamples.{audit, asks, row_of}
 
 -- a third patient has the name of the first

@@ -7,8 +7,7 @@ mod StoreExamples
 mod RetentionExamples
 mod FormExamples
 pub mod Codes
-pub mod OuterParts
 pub mod ActCodes
-pub mod ChangedOperands
+pub mod TruthWithChange
 pub mod ValidFronts
 pub mod OneStore

@@ -1,5 +1,5 @@
 -- Of how many histories stored entries can be.
-use Rattle.std.proofs.Common.{◌≡◌, ℕ, ◌+◌, ◌-◌, ◌<◌, ◌≤◌, Bool, true, ◌&&◌, List, [], ◌∷◌, ◌++◌, length, map, take, drop, refl, sym, ap, subst, ◌∙◌, arith, inl, inr}
+use Rattle.std.proofs.Common.{◌≡◌, ℕ, ◌-◌, ◌<◌, true, List, [], ◌∷◌, ◌++◌, take, drop, refl, sym, ap, subst, ◌∙◌, arith, inl, inr}
 use Rattle.std.specs.List.{list_all}
 use Rattle.std.proofs.lemmas.Bool.{and_parts, and_from, cases_lt}
 use Rattle.std.proofs.lemmas.List.{take-append-drop, take-map, take-take}
@@ -8,7 +8,7 @@ use Rattle.hippo_model.specs.declared.stored.StoredEntry.{StoredEntry}
 use Rattle.hippo_model.specs.Terms.{History, Meaning}
 use Rattle.hippo_model.specs.StoredForms.{stored}
 use Rattle.hippo_model.specs.Keepable.{is_keepable}
-use Rattle.hippo_model.specs.Validity.{keeps_order, is_acceptable, may_follow, is_valid}
+use Rattle.hippo_model.specs.Validity.{may_follow, is_valid}
 use Rattle.hippo_model.specs.Stores.{IsStoreOf, IsDamagedAt}
 use Rattle.hippo_laws.proofs.ActCodes.{all_stored_again}
 use Rattle.hippo_laws.proofs.ValidFronts.{front_is_valid, holds_of_each_valid}
@@ -52,7 +52,7 @@ one_place meaning store p q first second =
     elim (cases_lt p q) [
       | inl below ↦ absurd (not_below meaning store p q first second below)
       | inr above ↦ elim (cases_lt q p) [
-          | inl below ↦ absurd (not_below meaning store q p second first below)
-          | inr as_much ↦ omega arith
-        ]
+        | inl below ↦ absurd (not_below meaning store q p second first below)
+        | inr as_much ↦ omega arith
+      ]
     ]

@@ -1,5 +1,5 @@
 -- Valid histories, entry by entry.
-use Rattle.std.proofs.Common.{◌≡◌, ℕ, zero, suc, ◌+◌, ◌-◌, ◌<◌, ◌≤◌, Bool, true, false, ◌&&◌, List, [], ◌∷◌, ◌++◌, length, take, Option, Some, None, refl, sym, ap, subst, ◌∙◌, append_assoc, arith}
+use Rattle.std.proofs.Common.{◌≡◌, ℕ, zero, suc, ◌+◌, ◌-◌, ◌<◌, Bool, true, false, ◌&&◌, [], ◌∷◌, ◌++◌, length, take, Option, Some, None, refl, sym, ap, subst, ◌∙◌, append_assoc, arith}
 use Rattle.std.specs.Prelude.{is_none, slice_get, if◌then◌else◌, ◌==◌}
 use Rattle.std.specs.Option.{option_or}
 use Rattle.std.proofs.lemmas.Bool.{and_parts, eqb-true}
@@ -25,7 +25,7 @@ damage_after-append meaning front (entry ∷ first) rest =
     let behind : Option ℕ = damage_after meaning (front ++ entry ∷ first) rest in
     let regrouped : damage_after meaning (so_far ++ first) rest ≡ behind = ap (λ (h : History). damage_after meaning h rest) (append_assoc front (entry ∷ []) first) in
     let below : damage_after meaning so_far (first ++ rest) ≡ option_or (damage_after meaning so_far first) behind =
-        damage_after-append meaning so_far first rest ∙ ap (option_or (damage_after meaning so_far first)) regrouped in
+    damage_after-append meaning so_far first rest ∙ ap (option_or (damage_after meaning so_far first)) regrouped in
     ap (λ (d : Option ℕ). if may_follow meaning front entry then d else place) below ∙ if_or (may_follow meaning front entry) (damage_after meaning so_far first) place behind
 
 none_of_or : (x y : Option ℕ) → is_none (option_or x y) ≡ true → is_none x ≡ true

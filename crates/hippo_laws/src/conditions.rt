@@ -5,5 +5,4 @@ ghost use Rattle.hippo_laws.specs.Conditions.{TruthIsThatOfOperands};
 /// what it is changed to has.
 pub fn truth_is_that_of_operands<O, P>()
     ensures { TruthIsThatOfOperands O P }
-{
-}
+{}
