@@ -56,8 +56,10 @@ MovesOn line before after = IfSome (line_text line) (λ text. before < after)
 -- What a call for the next line does to a reader, between the bytes that its source tells before and after.
 pub record NextLine (before after : Position) (left_before left_after : Option (List ℕ)) (result : Result Line LineFault) : Type 0 where
   -- whatever lines of whatever input were handed out before: the answer is the next one
-  pub line : IfOk result (λ line. (input : List ℕ) (handed : List LineText) → HasHandedOut input handed before left_before → HandsOut input handed line after left_after)
-  pub gives_up : OnErr result ((input : List ℕ) (handed : List LineText) → HasHandedOut input handed before left_before → HasGivenUp input handed after left_after)
+  pub line : IfOk result (λ line. (input : List ℕ) (handed : List LineText)
+      → HasHandedOut input handed before left_before → HandsOut input handed line after left_after)
+  pub gives_up : OnErr result ((input : List ℕ) (handed : List LineText)
+      → HasHandedOut input handed before left_before → HasGivenUp input handed after left_after)
   -- a fault is answered again and again, and so is the end
   pub failure : after.failure ≡ result_err result
   pub again : (fault : LineFault) → before.failure ≡ Some fault → (result ≡ Err fault) × (after ≡ before)

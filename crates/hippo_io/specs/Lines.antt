@@ -34,7 +34,8 @@ text_or_not bytes = if is_utf8 bytes then text_line bytes else not_utf8_line
 
 -- the line of a piece: one carriage return at its end is dropped, but counts for the limit
 abbrev pub line_of : List ℕ → LineText
-line_of piece = if nat_lt line_limit (length piece) then too_long_line else text_or_not (strip_last carriage_return piece)
+line_of piece =
+    if nat_lt line_limit (length piece) then too_long_line else text_or_not (strip_last carriage_return piece)
 
 -- the lines of an input
 abbrev pub lines : List ℕ → List LineText

@@ -67,7 +67,8 @@ pub record FindsWhole (before after : Position) (left_before left_after : Option
 pub record FindsRest (before after : Position) (left_before left_after : Option (List ℕ)) : Type 0 where
   pub going : IsGoing after
   pub kept : KeepsHandedOut before after left_before left_after
-  pub end : (input : List ℕ) (handed : List LineText) → HasHandedOut input handed before left_before → drop after.taken input ≡ []
+  pub end : (input : List ℕ) (handed : List LineText) → HasHandedOut input handed before left_before
+      → drop after.taken input ≡ []
   pub unfed : feeds after.waiting ≡ 0
   pub short : length after.waiting ≤ line_limit
   pub same : consumed after ≡ consumed before

@@ -5,7 +5,8 @@ use Rattle.std.specs.Prelude.{◌≡◌, ℕ, ◌≤◌, List, [], ◌++◌, len
 abbrev pub Keeps : Option (List ℕ) → Option (List ℕ) → Type 0
 Keeps old new = (told : List ℕ) → old ≡ Some told → new ≡ Some told
 
--- whatever bytes the old one tells, the first n of them are at the front of the buffer, and the new one tells the others
+-- whatever bytes the old one tells, the first n of them are at the front of the buffer, and the new one tells the
+-- others
 abbrev pub Takes : Option (List ℕ) → Option (List ℕ) → ℕ → List ℕ → Type 0
 Takes old new n buffer = (told : List ℕ) → old ≡ Some told → (take n told ≡ take n buffer) × (new ≡ Some (drop n told))
 
@@ -23,4 +24,6 @@ AppendsFront old new bytes = (n : ℕ) × Appends old new (take n bytes)
 
 -- whatever bytes the old one tells, the first n of them are now behind the others, and the new one tells the rest
 abbrev pub TakesBehind : Option (List ℕ) → Option (List ℕ) → ℕ → List ℕ → List ℕ → Type 0
-TakesBehind old new n others together = (told : List ℕ) → old ≡ Some told → (n ≤ length told) × (together ≡ others ++ take n told) × (new ≡ Some (drop n told))
+TakesBehind old new n others together =
+    (told : List ℕ) → old ≡ Some told → (n ≤ length told) × (together ≡ others
+    ++ take n told) × (new ≡ Some (drop n told))

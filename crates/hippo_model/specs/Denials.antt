@@ -46,7 +46,8 @@ row_denials history context query schema kept =
 
 -- those of a table's rows, in the order of their keys
 abbrev pub table_denials : History → Context → Query → Schema → List Denial
-table_denials history context query schema = flat_map (row_denials history context query schema) (table_rows schema history)
+table_denials history context query schema =
+    flat_map (row_denials history context query schema) (table_rows schema history)
 
 -- those of a query's tables, in the order of FROM
 abbrev pub query_denials : History → Context → Query → List Denial

@@ -27,7 +27,8 @@ version_was_asked schema after earlier entry = nat_lt after entry.seq && version
 -- whether an entry may be handed over where the questions of a period above a number are asked for, after these entries
 abbrev pub question_was_asked : Meaning → Moment → Moment → ℕ → History → Entry → Bool
 question_was_asked meaning from to after history entry =
-    nat_lt after entry.seq && int_le from entry.moment && int_le entry.moment to && question_fits meaning history entry.act
+    nat_lt after entry.seq && int_le from entry.moment && int_le entry.moment to
+    && question_fits meaning history entry.act
 
 -- a stored entry fits what was asked where it is the stored form of an entry that does; any other one is unfit
 pub record IsFit (was_asked : Entry → Bool) (kept : StoredEntry) : Type 0 where

@@ -43,7 +43,8 @@ row_left act = None
 -- the row with a key is that of the last change that names the key
 abbrev pub row_at : Schema → History → Key → Option Row
 row_at schema history key =
-    option_and_then (λ left. left) (last_word (λ entry. then_some (names_key schema key entry.act) (row_left entry.act)) history)
+    option_and_then (λ left. left)
+    (last_word (λ entry. then_some (names_key schema key entry.act) (row_left entry.act)) history)
 
 -- the number of the last change that names the key
 abbrev pub last_at : Schema → History → Key → Option ℕ
@@ -56,8 +57,8 @@ is_insert act = false
 -- the moment of the last Insert of the key, or the least moment where there is none
 abbrev pub born_at : Schema → History → Key → Moment
 born_at schema history key =
-    unwrap_or (last_word (λ entry. then_some (is_insert entry.act && names_key schema key entry.act) entry.moment) history)
-    first_moment
+    let inserts : Entry → Bool = λ entry. is_insert entry.act && names_key schema key entry.act in
+    unwrap_or (last_word (λ entry. then_some (inserts entry) entry.moment) history) first_moment
 
 -- the row with a key, and the moment at which it was born
 abbrev pub born_row_at : Schema → History → Key → Option BornRow

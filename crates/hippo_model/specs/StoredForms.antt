@@ -1,6 +1,8 @@
--- How an entry is kept: its number, moment, kind and table, and a body of bytes, in format 1, or in format 2 where a rule
+-- How an entry is kept: its number, moment, kind and table, and a body of bytes, in format 1, or in format 2 where a
+-- rule
 -- has a number of days. Numbers are big-endian, and
--- those below 0 in two's complement; a name is its length in one byte and its bytes, a long text its length in four bytes
+-- those below 0 in two's complement; a name is its length in one byte and its bytes, a long text its length in four
+-- bytes
 -- and its bytes, a list its count in one byte and its members.
 use Rattle.std.specs.Prelude.{ℕ, ◌+◌, ℤ, List, [], ◌∷◌, ◌++◌, flat_map, length, Option, Some, None}
 use Rattle.std.specs.Int.{w32, w64, to_be_bytes, cast_unsigned, from_bool}
@@ -114,12 +116,14 @@ act_bytes (Allow purpose recipient table columns item days) =
 act_bytes (Revoke purpose recipient table columns) =
     name_bytes purpose ++ name_bytes recipient ++ name_bytes table ++ list_bytes place_bytes columns
 act_bytes (Choice subject item agreed) = signed_bytes subject ++ name_bytes item ++ from_bool agreed ∷ []
-act_bytes (Asked user purpose recipient text) = name_bytes user ++ name_bytes purpose ++ name_bytes recipient ++ text_bytes text
+act_bytes (Asked user purpose recipient text) =
+    name_bytes user ++ name_bytes purpose ++ name_bytes recipient ++ text_bytes text
 
 -- the format, the number, the moment, the kind, and what the act says
 abbrev pub body : Entry → List ℕ
 body entry =
-    act_format entry.act ∷ number_bytes entry.seq ++ signed_bytes entry.moment ++ act_kind entry.act ∷ act_bytes entry.act
+    act_format entry.act ∷ number_bytes entry.seq ++ signed_bytes entry.moment
+    ++ act_kind entry.act ∷ act_bytes entry.act
 
 -- the table whose row an act changes
 abbrev pub table_changed : Act → Txt
@@ -130,4 +134,10 @@ table_changed act = []
 
 -- the stored form of an entry that can be kept
 abbrev pub stored : Entry → StoredEntry
-stored entry = record { seq = entry.seq; moment = entry.moment; kind = act_kind entry.act; table = table_changed entry.act; body = body entry }
+stored entry = record {
+  seq = entry.seq;
+  moment = entry.moment;
+  kind = act_kind entry.act;
+  table = table_changed entry.act;
+  body = body entry;
+}

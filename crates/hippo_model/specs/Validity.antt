@@ -70,7 +70,8 @@ table_passes history test table = option_map_or test (schema_at history table) f
 -- at least one place of a column, and none twice
 abbrev pub has_columns : List Place → Schema → Bool
 has_columns places schema =
-    nat_lt 0 (length places) && all_differ nat_eq places && list_all (λ place. nat_lt place (length schema.columns)) places
+    nat_lt 0 (length places) && all_differ nat_eq places
+    && list_all (λ place. nat_lt place (length schema.columns)) places
 
 abbrev pub is_authorized : Authorization → Bool
 is_authorized Yes = true
@@ -119,7 +120,8 @@ is_acceptable meaning history (Authorize user purpose recipient) = pair_exists h
 is_acceptable meaning history (Deauthorize user purpose recipient) = pair_exists history purpose recipient
 is_acceptable meaning history (Allow purpose recipient table columns item days) =
     rule_fits history purpose recipient table columns && item_fits history table item && days_fit days
-is_acceptable meaning history (Revoke purpose recipient table columns) = rule_fits history purpose recipient table columns
+is_acceptable meaning history (Revoke purpose recipient table columns) =
+    rule_fits history purpose recipient table columns
 is_acceptable meaning history (Choice subject item agreed) = is_some (item_at history item)
 is_acceptable meaning history (Asked user purpose recipient text) =
     is_authorized (authorized_at history user purpose recipient) && is_some (meaning history text)

@@ -1,4 +1,5 @@
--- What a purpose and recipient see of a table: forbidden cells denied, rows with a forbidden key gone (table semantics of
+-- What a purpose and recipient see of a table: forbidden cells denied, rows with a forbidden key gone (table semantics
+-- of
 -- LeFevre and others, Limiting Disclosure in Hippocratic Databases, VLDB 2004).
 use Rattle.std.specs.Prelude.{Bool, true, false, List, [], map, filter_map, Option}
 use Rattle.std.specs.Bool.{then_some}
@@ -46,4 +47,5 @@ view_at history context table = option_map_or (view history context) (schema_at 
 -- the rows of a table by its name, with every cell shown
 abbrev pub unmasked_at : History → Name → List ShownRow
 unmasked_at history table =
-    option_map_or (λ schema. map (λ kept. map ShownCell kept.row) (table_rows schema history)) (schema_at history table) []
+    option_map_or (λ schema. map (λ kept. map ShownCell kept.row) (table_rows schema history))
+    (schema_at history table) []

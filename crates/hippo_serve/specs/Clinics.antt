@@ -36,7 +36,8 @@ pub record IsKept (history : List Entry) (kept : KeyedRows) (allowing : List ℕ
 
 -- a row's cell, as the rules show it
 abbrev pub cell_shown : List ℕ → List Value → ℕ → Cell
-cell_shown allowing row column = option_map_or (cell_by (verdict_of (slice_index allowing column))) (slice_get row column) (DeniedCell 0)
+cell_shown allowing row column =
+    option_map_or (cell_by (verdict_of (slice_index allowing column))) (slice_get row column) (DeniedCell 0)
 
 -- the rows with these columns
 abbrev pub all_shown : List ℕ → List ℕ → List BornRow → List (List Cell)
@@ -49,7 +50,8 @@ rows_shown allowing places rows =
 
 -- the numbers after an entry that allows these columns
 abbrev pub allowing_with : List ℕ → ℕ → List ℕ → ℕ → ℕ
-allowing_with places number allowing column = if list_any (nat_eq column) places then number else slice_index allowing column
+allowing_with places number allowing column =
+    if list_any (nat_eq column) places then number else slice_index allowing column
 
 -- the names are those of the opening world
 pub record IsWorld (world : World) : Type 0 where

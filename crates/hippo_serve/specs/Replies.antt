@@ -80,13 +80,16 @@ is_silent text = list_all (λ byte. byte == 32) text || starts_with nat_eq text 
 
 -- what the rules make of a line
 abbrev pub effect_of : List Entry → List ℕ → Effect
-effect_of history text = if is_silent text then record { reply = []; after = history } else effect_of_meaning history (meaning_of text)
+effect_of history text =
+    if is_silent text then record { reply = []; after = history } else effect_of_meaning history (meaning_of text)
 
--- a change may instead be refused for want of memory, and leaves nothing behind; a question may be refused too, and then
+-- a change may instead be refused for want of memory, and leaves nothing behind; a question may be refused too, and
+-- then
 -- is recorded or not
 abbrev pub IsMemoryEffect : List Entry → Option Meaning → Effect → Type 0
 IsMemoryEffect history None effect = ⊥
-IsMemoryEffect history (Some (change act)) effect = effect ≡ record { reply = codes "0 no 90 Memory\n"; after = history }
+IsMemoryEffect history (Some (change act)) effect =
+    effect ≡ record { reply = codes "0 no 90 Memory\n"; after = history }
 IsMemoryEffect history (Some (question text query)) effect =
     (effect ≡ record { reply = codes "1 no 90 Memory\n"; after = history })
     ⊎ (effect ≡ record { reply = codes "1 no 90 Memory\n"; after = with_entry history (asked text) })

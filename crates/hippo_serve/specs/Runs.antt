@@ -31,7 +31,8 @@ abbrev pub is_run : List (List ℕ) → Bool
 is_run words = pointwise bytes_eq words (codes "run" ∷ [])
 
 unfoldable pub usage : List ℕ
-usage = codes "usage: hippo run|check|drill [--store NAME] [--history N] [--size N] [--number N] [--format text|json|csv]\n"
+usage =
+    codes "usage: hippo run|check|drill [--store NAME] [--history N] [--size N] [--number N] [--format text|json|csv]\n"
 
 -- how a run ends, between what is left of an input and what a sink has written, before the run and after it:
 
@@ -68,7 +69,8 @@ pub record IsUnwritten (input before : List ℕ) (rest output : Option (List ℕ
 
 abbrev pub Ends : Ending → List ℕ → List ℕ → Option (List ℕ) → Option (List ℕ) → Type 0
 Ends Served input before left written = IsServed input before left written
-Ends ReadFault input before left written = (taken : ℕ) × IsCutOff input before left written taken × (taken ≤ input_limit)
+Ends ReadFault input before left written =
+    (taken : ℕ) × IsCutOff input before left written taken × (taken ≤ input_limit)
 Ends TooMuch input before left written = (taken : ℕ) × IsCutOff input before left written taken × (input_limit < taken)
 Ends WriteFault input before left written = IsUnwritten input before left written
 Ends Refused input before left written = ⊥

@@ -17,7 +17,8 @@ IsLineEffect history too_long_line effect = effect ≡ record { reply = codes "-
 IsLineEffect history not_utf8_line effect = effect ≡ record { reply = codes "- no 99 NotBuilt\n"; after = history }
 
 -- what a turn did: it gave the next line its effect, came to the end, or could read no further
-abbrev pub IsTurn : List Entry → Position → Option (List ℕ) → Result (Option Reply) LineFault → List ℕ → List Entry → Position → Option (List ℕ) → Type 0
+abbrev pub IsTurn : List Entry → Position → Option (List ℕ) → Result (Option Reply) LineFault → List ℕ
+    → List Entry → Position → Option (List ℕ) → Type 0
 IsTurn history reader left (Ok (Some reply)) made after reader_after left_after =
     ((input : List ℕ) (handed : List LineText) → HasHandedOut input handed reader left
     → (line : LineText) × HasHandedOut input (handed ++ line ∷ []) reader_after left_after × IsLineEffect history line (record { reply = reply_text reply made; after = after }))
@@ -27,5 +28,6 @@ IsTurn history reader left (Ok None) made after reader_after left_after =
     → HasHandedOut input handed reader_after left_after × (handed ≡ lines input) × (left_after ≡ Some []))
     × (reader_after.taken ≤ input_limit)
 IsTurn history reader left (Err fault) made after reader_after left_after =
-    ((input : List ℕ) (handed : List LineText) → HasHandedOut input handed reader left → HasGivenUp input handed reader_after left_after)
+    ((input : List ℕ) (handed : List LineText) → HasHandedOut input handed reader left
+        → HasGivenUp input handed reader_after left_after)
     × ((fault ≡ TooMuch) ↔ (input_limit < reader_after.taken))

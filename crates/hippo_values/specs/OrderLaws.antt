@@ -46,8 +46,10 @@ value_cmp-by_parts a b = refl
 pub value_total : IsTotalOrder value_cmp
 value_total = record {
   antisymm = λ x y. rw (value_cmp-by_parts x y, value_cmp-by_parts y x) (by_parts_total.antisymm x y);
-  trans = λ x y z. rw (value_cmp-by_parts x y, value_cmp-by_parts y z, value_cmp-by_parts x z) (by_parts_total.trans x y z);
-  congr = λ x y z. rw (value_cmp-by_parts x y, value_cmp-by_parts y z, value_cmp-by_parts x z) (by_parts_total.congr x y z);
+  trans =
+      λ x y z. rw (value_cmp-by_parts x y, value_cmp-by_parts y z, value_cmp-by_parts x z) (by_parts_total.trans x y z);
+  congr =
+      λ x y z. rw (value_cmp-by_parts x y, value_cmp-by_parts y z, value_cmp-by_parts x z) (by_parts_total.congr x y z);
 }
 
 -- `==` holds of the values that the order does not tell apart
