@@ -8,7 +8,7 @@ use Rattle.std.specs.Str.{is_utf8}
 use Rattle.std.proofs.lemmas.Bool.{and_parts, and_from, ltb-true, leb-true}
 use Rattle.std.proofs.lemmas.Int.{to_z-of_z, ints}
 use Rattle.hippo_values.specs.declared.names.Name.{Name}
-use Rattle.hippo_values.specs.declared.texts.Txt.{Txt}
+use Rattle.hippo_values.specs.Texts.{Txt}
 use Rattle.hippo_values.specs.declared.values.Value.{Value}
 use Rattle.hippo_values.specs.declared.values.Value.TheVariants.{Null, Int, Text, Day}
 use Rattle.hippo_model.specs.declared.schema.Column.{Column}

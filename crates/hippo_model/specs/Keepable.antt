@@ -9,7 +9,7 @@ use Rattle.hippo_values.specs.Limits.{text_limit, line_limit}
 use Rattle.hippo_values.specs.Moments.{is_day, is_moment, is_signed_number}
 use Rattle.hippo_values.specs.Names.{is_name, folded}
 use Rattle.hippo_values.specs.declared.names.Name.{Name}
-use Rattle.hippo_values.specs.declared.texts.Txt.{Txt}
+use Rattle.hippo_values.specs.Texts.{Txt}
 use Rattle.hippo_values.specs.declared.values.Value.{Value}
 use Rattle.hippo_values.specs.declared.values.Value.TheVariants.{Null, Int, Text, Day}
 use Rattle.hippo_model.specs.declared.schema.Column.{Column}

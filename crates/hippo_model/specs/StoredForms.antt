@@ -7,7 +7,7 @@
 use Rattle.std.specs.Prelude.{ℕ, ◌+◌, ℤ, List, [], ◌∷◌, ◌++◌, flat_map, length, Option, Some, None}
 use Rattle.std.specs.Int.{w32, w64, to_be_bytes, cast_unsigned, from_bool}
 use Rattle.hippo_values.specs.declared.names.Name.{Name}
-use Rattle.hippo_values.specs.declared.texts.Txt.{Txt}
+use Rattle.hippo_values.specs.Texts.{Txt}
 use Rattle.hippo_values.specs.declared.values.Value.{Value}
 use Rattle.hippo_values.specs.declared.values.Value.TheVariants.{Null, Int, Text, Day}
 use Rattle.hippo_model.specs.declared.schema.Column.{Column}

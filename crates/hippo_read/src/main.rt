@@ -2,6 +2,8 @@
 //! that rule, or why it is nothing, is written as one line.
 #![tactic(auto)]
 
+mod values;
+
 #[cfg(test)]
 mod tests;
 
@@ -42,6 +44,9 @@ fn by_rule(alloc: Global, rule: &str, tokens: &Tokens) -> Result<String, AllocEr
 // What a line's text is by the rule that stands before it: the Debug form of a reading, or of the fault.
 fn reading(alloc: Global, line: &str) -> Result<String, AllocError> {
     let (rule, text) = line.split_once(' ').unwrap_or((line, ""));
+    if values::RULES.contains(&rule) {
+        return values::shown_value(alloc, rule, text);
+    }
     match tokens(alloc, text) {
         Ok(tokens) if rule == "tokens" => format!(in alloc; "{tokens:?}"),
         Ok(tokens) => by_rule(alloc, rule, &tokens),

@@ -3,6 +3,10 @@ use Rattle.std.specs.Prelude.{ℕ, Bool, not, ◌&&◌, ◌==◌, List, length, 
 use Rattle.std.specs.List.{list_all}
 use Rattle.hippo_values.specs.Limits.{text_limit}
 
+-- a text is its bytes
+abbrev pub Txt : Type 0
+Txt = List ℕ
+
 -- no control character of ASCII, which are U+0000 to U+001F and U+007F
 abbrev pub is_plain : ℕ → Bool
 is_plain byte = nat_le 32 byte && not (byte == 127)
