@@ -24,7 +24,7 @@ abbrev pub ◌>>=◌ : {A B : Type 0} → Result A LexFault → (A → Result B 
 (Ok x) >>= f = f x
 (Err fault) >>= f = Err fault
 
--- A call's answer is this one, or want of memory.
+-- What a call gives is this, or want of memory.
 abbrev pub Fails : {A : Type 0} → LexFault → Result A LexFault → Type 0
 Fails faults.Memory right = Unit {0}
 Fails (faults.BadToken place) right = right ≡ Err (faults.BadToken place)
@@ -132,7 +132,8 @@ day_first place n quoted = do
 -- the token of the word DATE of n bytes, with what stands behind it
 unfoldable pub date_first : ℕ → ℕ → List ℕ → First
 date_first place n behind =
-    option_map_or (day_first place (n + blanks_len behind)) (quoted_first (drop (blanks_len behind) behind)) (Ok (kinds.Keyword KDate, n))
+    option_map_or (day_first place (n + blanks_len behind)) (quoted_first (drop (blanks_len behind) behind))
+    (Ok (kinds.Keyword KDate, n))
 
 -- the token of the word at the front
 unfoldable pub word_first : ℕ → List ℕ → First
@@ -173,8 +174,8 @@ tokens_from place (suc skip) (byte ∷ rest) = tokens_from (place + 1) skip rest
 tokens_from place zero (byte ∷ rest) =
     if is_blank byte then tokens_from (place + 1) 0 rest else (do
       found ← token_first place (byte ∷ rest)
-      with_front (record { kind =
-          found.0; start = place; end = place + found.1 } ∷ []) (tokens_from (place + 1) (found.1 - 1) rest))
+      with_front (record { kind = found.0; start = place; end = place + found.1 } ∷ [])
+          (tokens_from (place + 1) (found.1 - 1) rest))
 
 -- the tokens of a whole text, or its first fault
 unfoldable pub outcome_of : List ℕ → Result (List Token) LexFault

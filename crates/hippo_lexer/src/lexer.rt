@@ -38,7 +38,7 @@ pub fn tokens(alloc: Global, text: &str) -> Result<Tokens, LexFault>
     ensures found { IfOk result (λ tokens. IsOutcome text.now (Ok tokens)) }
     ensures fault { IfErr result (λ fault. (fault ≡ LexFault.Memory) ⊎ IsOutcome text.now (Err fault)) }
 
-    // Whatever the text has is answered, unless memory runs out, and a text has one outcome.
+    // Whatever the text has is given, unless memory runs out, and a text has one outcome.
     ensures only { (outcome : Result (List Token) LexFault) → IsOutcome text.now outcome
         → (result ≡ outcome) ⊎ (result ≡ Err LexFault.Memory) }
     ensures one { IsOnlyOutcome text.now (outcome_of text.now) }
