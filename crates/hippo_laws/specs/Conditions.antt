@@ -5,8 +5,7 @@ use Rattle.hippo_model.specs.declared.query.CondOf.{CondOf}
 use Rattle.hippo_model.specs.Conditions.{truth, changed_operands}
 
 -- the truth of a condition with its operands changed is that of the condition, each operand having the value of what it
--- is
--- changed to
+-- is changed to
 abbrev pub TruthIsThatOfOperands : Type 0 → Type 0 → Type 0
 TruthIsThatOfOperands O P =
     (change : O → P) (value : P → Value) (condition : CondOf O)

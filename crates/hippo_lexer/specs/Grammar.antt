@@ -57,8 +57,7 @@ IsLongestSign text rest = (byte : ℕ) (more : List ℕ) → rest ≡ byte ∷ m
 
 -- The text is a token of this kind where `rest` stands behind it: a word of the grammar, DATE only where no quoted text
 -- stands behind it; a word of SQL that is refused; another word of at most 63 bytes; a number that fits, behind which
--- no
--- digit, letter or `_` stands; a quoted text; DATE with a quoted text that is a day; a sign, the longest there.
+-- no digit, letter or `_` stands; a quoted text; DATE with a quoted text that is a day; a sign, the longest there.
 pub data IsToken : List ℕ → TokenKind → List ℕ → Type 0 where
   a_keyword : (word rest : List ℕ) (keyword : Keyword) → IsWholeWord word rest → keyword_of word ≡ Some keyword
       → (keyword ≡ KDate → (blanks text more : List ℕ) → ¬ (IsQuotedBehind rest blanks text more))
@@ -87,10 +86,9 @@ pub record IsStray (byte : ℕ) (rest : List ℕ) : Type 0 where
   pub longer : IsLongestSign (byte ∷ []) rest
 
 -- No token stands first in this text, which stands at the place, and this is why: a word of more than 63 bytes; a
--- letter
--- or `_` directly behind a number that fits; a number that does not fit; a `-` without a digit; a quote from which to
--- the
--- end each other quote is doubled; DATE with a quoted text that is no day; a byte with which nothing begins.
+-- letter or `_` directly behind a number that fits; a number that does not fit; a `-` without a digit; a quote from
+-- which to the end each other quote is doubled; DATE with a quoted text that is no day; a byte with which nothing
+-- begins.
 pub data IsFault : ℕ → List ℕ → LexFault → Type 0 where
   long_word : (place : ℕ) (bytes word rest : List ℕ) → IsWholeWord word rest → 63 < length word
       → bytes ≡ word ++ rest → IsFault place bytes (faults.BadToken place)

@@ -1,7 +1,6 @@
 -- Which queries an audit flags, and by which shared tuple (after the indispensable tuples of Agrawal and others,
--- Auditing
--- Compliance with a Hippocratic Database, VLDB 2004; that answers are compared as bags, that a query is judged over its
--- view and the audit over unmasked rows, and SHOWN are this project's own).
+-- Auditing Compliance with a Hippocratic Database, VLDB 2004; that answers are compared as bags, that a query is judged
+-- over its view and the audit over unmasked rows, and SHOWN are this project's own).
 use Rattle.std.specs.Prelude.{Bool, false, not, ◌&&◌, ◌||◌, int_le, List, [], map, filter, find, slice_index_or, Option, None, is_some, option_and_then, if◌then◌else◌, bytes_eq}
 use Rattle.std.specs.List.{list_any, list_all, position_or_len}
 use Rattle.std.specs.Option.{option_map_or}
@@ -34,8 +33,8 @@ common query audit = filter (λ table. list_any (bytes_eq table) query.tables) a
 -- the rows of a table by their keys
 abbrev pub shared_rows : History → Name → List SharedRow
 shared_rows history table =
-    let by_key : Schema → BornRow
-        → SharedRow = λ schema kept. record { table = table; key = key_of schema.key kept.row } in
+    let by_key : Schema → BornRow → SharedRow =
+        λ schema kept. record { table = table; key = key_of schema.key kept.row } in
     option_map_or (λ schema. map (by_key schema) (table_rows schema history)) (schema_at history table) []
 
 -- a virtual tuple is a row of each common table; they stand in the order of the product

@@ -1,6 +1,5 @@
 -- Which entries can be kept: those whose parts have room in the stored form, as the types of numbers, days and names
--- say
--- and the counts of the stored form allow.
+-- say and the counts of the stored form allow.
 use Rattle.std.specs.Prelude.{ℕ, Bool, true, ◌&&◌, List, Option, length, nat_lt, nat_le, bytes_eq}
 use Rattle.std.specs.List.{list_all}
 use Rattle.std.specs.Option.{option_map_or}

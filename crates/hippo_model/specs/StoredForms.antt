@@ -1,9 +1,6 @@
 -- How an entry is kept: its number, moment, kind and table, and a body of bytes, in format 1, or in format 2 where a
--- rule
--- has a number of days. Numbers are big-endian, and
--- those below 0 in two's complement; a name is its length in one byte and its bytes, a long text its length in four
--- bytes
--- and its bytes, a list its count in one byte and its members.
+-- rule has a number of days. Numbers are big-endian, and those below 0 in two's complement; a name is its length in one
+-- byte and its bytes, a long text its length in four bytes and its bytes, a list its count in one byte and its members.
 use Rattle.std.specs.Prelude.{ℕ, ◌+◌, ℤ, List, [], ◌∷◌, ◌++◌, flat_map, length, Option, Some, None}
 use Rattle.std.specs.Int.{w32, w64, to_be_bytes, cast_unsigned, from_bool}
 use Rattle.hippo_values.specs.declared.names.Name.{Name}

@@ -1,6 +1,5 @@
 -- What a purpose and recipient see of a table: forbidden cells denied, rows with a forbidden key gone (table semantics
--- of
--- LeFevre and others, Limiting Disclosure in Hippocratic Databases, VLDB 2004).
+-- of LeFevre and others, Limiting Disclosure in Hippocratic Databases, VLDB 2004).
 use Rattle.std.specs.Prelude.{Bool, true, false, List, [], map, filter_map, Option}
 use Rattle.std.specs.Bool.{then_some}
 use Rattle.std.specs.List.{list_all, enumerate_from}

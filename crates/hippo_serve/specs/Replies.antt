@@ -84,8 +84,7 @@ effect_of history text =
     if is_silent text then record { reply = []; after = history } else effect_of_meaning history (meaning_of text)
 
 -- a change may instead be refused for want of memory, and leaves nothing behind; a question may be refused too, and
--- then
--- is recorded or not
+-- then is recorded or not
 abbrev pub IsMemoryEffect : List Entry → Option Meaning → Effect → Type 0
 IsMemoryEffect history None effect = ⊥
 IsMemoryEffect history (Some (change act)) effect =

@@ -55,8 +55,8 @@ pub record Passes (after : Kinds → Option Kinds) (tokens : List Token) (result
   pub shorter : IfSome result (λ rest. length rest.now < length tokens)
 
 -- the same, where it has to stand first
-pub record Expects (after : Kinds
-    → Option Kinds) (tokens : List Token) (result : Result Left SyntaxFault) : Type 0 where
+pub record Expects (after : Kinds → Option Kinds) (tokens : List Token)
+    (result : Result Left SyntaxFault) : Type 0 where
   pub rest : Gives (λ rest. kinds rest.now) result (after (kinds tokens))
   pub shorter : IfOk result (λ rest. length rest.now < length tokens)
 
