@@ -2,6 +2,7 @@
 use Rattle.std.specs.Prelude.{ℕ, ◌==◌, Bool, false, ◌||◌, List, [], ◌∷◌, codes, bytes_eq, Option, if◌then◌else◌}
 use Rattle.std.specs.Map.{lookup}
 use Rattle.hippo_values.specs.Names.{folded}
+pub use Rattle.hippo_values.specs.Quoting.{is_quote, doubled}
 use Rattle.hippo_lexer.specs.declared.kinds.Keyword.{Keyword}
 use Rattle.hippo_lexer.specs.declared.kinds.Keyword.TheVariants.{KAnd, KAllow, KAudit, KAuthorize, KBegin, KBetween, KChoice, KCreate, KDate, KDeauthorize, KDelete, KDistinct, KDuring, KExplain, KFor, KFrom, KGroup, KIn, KInner, KInsert, KInteger, KInto, KIs, KItem, KJoin, KKey, KMax, KMin, KNo, KNot, KNull, KOn, KOpen, KOpt, KOtherthan, KOut, KPrimary, KPurpose, KRecipient, KRevoke, KSelect, KSet, KShown, KSubject, KTable, KText, KTo, KUpdate, KValues, KWhere, KWith, KYes, KOr}
 use Rattle.hippo_lexer.specs.declared.kinds.Symbol.{Symbol}
@@ -15,9 +16,6 @@ is_blank byte = byte == 32 || byte == 9
 abbrev pub begins_with : (ℕ → Bool) → List ℕ → Bool
 begins_with test [] = false
 begins_with test (byte ∷ rest) = test byte
-
-abbrev pub is_quote : ℕ → Bool
-is_quote byte = byte == 39
 
 abbrev pub is_minus : ℕ → Bool
 is_minus byte = byte == 45
@@ -53,8 +51,3 @@ sign_table =
 -- the sign that a text is
 unfoldable pub sign_of : List ℕ → Option Symbol
 sign_of text = lookup (λ known. bytes_eq known text) sign_table
-
--- a text in which each `'` is written twice
-abbrev pub doubled : List ℕ → List ℕ
-doubled [] = []
-doubled (byte ∷ bytes) = if is_quote byte then 39 ∷ 39 ∷ doubled bytes else byte ∷ doubled bytes
