@@ -13,6 +13,7 @@ use Rattle.hippo_lexer.specs.declared.kinds.TokenKind.TheVariants as kinds
 use Rattle.hippo_lexer.specs.declared.kinds.Token.{Token}
 use Rattle.hippo_lexer.specs.declared.faults.LexFault.{LexFault}
 use Rattle.hippo_lexer.specs.declared.faults.LexFault.TheVariants as faults
+pub use Rattle.hippo_values.specs.Quoting.{quoted}
 use Rattle.hippo_lexer.specs.Spelling.{is_blank, is_quote, is_minus, begins_with, sign_of, doubled}
 
 -- a word, and what stands behind does not go on with it
@@ -34,10 +35,6 @@ pub data IsNumber : List ℕ → ℤ → Type 0 where
 -- from -9223372036854775808 to 9223372036854775807
 abbrev pub IsInRange : ℤ → Type 0
 IsInRange number = (neg_ℤ (pos (2 ^ 63)) ≤ℤ number) × (number <ℤ pos (2 ^ 63))
-
--- a text between quotes, in which each `'` is written twice
-abbrev pub quoted : List ℕ → List ℕ
-quoted text = 39 ∷ (doubled text ++ 39 ∷ [])
 
 -- behind blanks or none a quoted text, and then what does not go on with it
 pub record IsQuotedBehind (behind blanks text rest : List ℕ) : Type 0 where

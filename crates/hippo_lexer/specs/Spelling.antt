@@ -1,6 +1,7 @@
 -- How signs, numbers and texts are spelled, by bytes.
 use Rattle.std.specs.Prelude.{ℕ, ◌==◌, Bool, false, ◌||◌, List, [], ◌∷◌, codes, bytes_eq, Option, if◌then◌else◌}
 use Rattle.std.specs.Map.{lookup}
+pub use Rattle.hippo_values.specs.Quoting.{is_quote, doubled}
 use Rattle.hippo_lexer.specs.declared.kinds.Symbol.{Symbol}
 use Rattle.hippo_lexer.specs.declared.kinds.Symbol.TheVariants.{LeftParen, RightParen, Comma, Dot, Star, Equal, NotEqual, Less, LessEqual, Greater, GreaterEqual, Semicolon}
 
@@ -12,9 +13,6 @@ is_blank byte = byte == 32 || byte == 9
 abbrev pub begins_with : (ℕ → Bool) → List ℕ → Bool
 begins_with test [] = false
 begins_with test (byte ∷ rest) = test byte
-
-abbrev pub is_quote : ℕ → Bool
-is_quote byte = byte == 39
 
 abbrev pub is_minus : ℕ → Bool
 is_minus byte = byte == 45
@@ -29,8 +27,3 @@ sign_table =
 -- the sign that a text is
 unfoldable pub sign_of : List ℕ → Option Symbol
 sign_of text = lookup (λ known. bytes_eq known text) sign_table
-
--- a text in which each `'` is written twice
-abbrev pub doubled : List ℕ → List ℕ
-doubled [] = []
-doubled (byte ∷ bytes) = if is_quote byte then 39 ∷ 39 ∷ doubled bytes else byte ∷ doubled bytes

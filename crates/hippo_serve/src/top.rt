@@ -5,8 +5,8 @@ ghost use Rattle.hippo_io.specs.HandingOut.{at_beginning, consumed, input_limit,
 ghost use Rattle.hippo_serve.specs.declared.top.Ending.TheVariants.{Refused, ReadFault, WriteFault, NoMemory};
 ghost use Rattle.hippo_serve.specs.Runs.{is_run, usage, Ends, HasServed, ForTold, IsServed, IsCutOff, IsUnwritten, status_of};
 
-use crate::replies::reply_text;
 use crate::clinic::Clinic;
+use crate::replies::reply_text;
 use crate::turns::take_turn;
 use hippo_io::{LineFault, LineReader, Sink, Source, write_whole};
 use hippo_values::{Memory, Txt};

@@ -3,8 +3,8 @@ ghost use Rattle.hippo_io.specs.Faults.{HasRisen};
 ghost use Rattle.hippo_io.specs.declared.lines.LineFault.TheVariants.{Read};
 ghost use Rattle.hippo_serve.specs.Turns.{IsTurn};
 
-use crate::replies::Reply;
 use crate::clinic::Clinic;
+use crate::replies::Reply;
 use hippo_io::{Line, LineFault, LineReader, Source};
 use hippo_values::Txt;
 use std::alloc::Global;
