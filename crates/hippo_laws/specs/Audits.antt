@@ -16,7 +16,8 @@ pub record StandsIn (meaning : Meaning) (history : History) (entry : Entry) : Ty
 -- what an audit says of an entry stays the same when entries are added
 abbrev pub FlagsLast : Type 0
 FlagsLast =
-    (meaning : Meaning) (history : History) (entry : Entry) → StandsIn meaning history entry → (later : History) (audit : Audit)
+    (meaning : Meaning) (history : History) (entry : Entry) → StandsIn meaning history entry
+    → (later : History) (audit : Audit)
     → (shared meaning (history ++ later) audit entry ≡ shared meaning history audit entry)
     × (flagged meaning (history ++ later) audit entry ≡ flagged meaning history audit entry)
 

@@ -1,3 +1,4 @@
+pub mod Answers
 pub mod Conditions
 pub mod Histories
 pub mod Stores
