@@ -3,3 +3,4 @@ pub mod Conditions
 pub mod Histories
 pub mod Stores
 pub mod Audits
+pub mod Needs
