@@ -1,5 +1,5 @@
 -- What one entry does to a table's kept rows is what it does to the rows of the history.
-use Rattle.std.proofs.Common.{◌≡◌, Bool, true, false, ◌&&◌, not, List, [], ◌∷◌, ◌++◌, Option, Some, None, option_map, is_some, sym, ap, ◌∙◌, refl}
+use Rattle.std.proofs.Common.{◌≡◌, Bool, true, false, ◌&&◌, not, [], ◌∷◌, ◌++◌, Option, Some, None, option_map, is_some, sym, ap, ◌∙◌, refl}
 use Rattle.std.specs.Prelude.{option_and_then, bytes_eq}
 use Rattle.std.specs.Bool.{then_some}
 use Rattle.hippo_values.specs.declared.moments.Moment.{Moment}
@@ -9,21 +9,18 @@ use Rattle.hippo_model.specs.declared.entry.Act.{Act}
 use Rattle.hippo_model.specs.declared.entry.Act.TheVariants.{Insert, Update, Delete}
 use Rattle.hippo_model.specs.declared.entry.Entry.{Entry}
 use Rattle.hippo_model.specs.Terms.{History, Row, Key}
-use Rattle.hippo_model.specs.Rows.{key_of, key_named, row_at, born_at}
-use Rattle.hippo_model.specs.RowSets.{KeyedRows, kept_at, with_row, without_row, row_with}
+use Rattle.hippo_model.specs.Rows.{key_of, key_named, row_at, born_at, table_rows}
+use Rattle.hippo_model.specs.RowSets.{KeyedRows, kept_at, with_row, without_row, find_row, row_with}
 use Rattle.hippo_model.specs.StoredForms.{table_changed}
 use Rattle.hippo_model.specs.Versions.{is_version, row_fits, key_fits, is_live, version_fits}
 use Rattle.hippo_model.specs.Changes.{renewed, changed}
+use Rattle.hippo_model.proofs.KeptRows.{shown, is_some-option_map, is_some-find_row}
 use Rattle.hippo_model.proofs.RowsAfter.{table_rows-Insert, table_rows-Update, table_rows-Delete, table_rows-other, row_with-table_rows}
 
-is_some-option_map : {A B : Type 0} (f : A → B) (found : Option A) → is_some (option_map f found) ≡ is_some found
-is_some-option_map f None = refl
-is_some-option_map f (Some x) = refl
-
--- two words that agree where the first of three tests holds
-words_agree : {A : Type 0} (named fits lives : Bool) (word other : A) → (named ≡ true → word ≡ other) → then_some (named && fits && lives) word ≡ then_some (named && fits && lives) other
-words_agree true fits lives word other same = ap (then_some (true && fits && lives)) (same refl)
-words_agree false fits lives word other same = refl
+-- what three tests let through is the same where it agrees when the first holds
+then_some-agrees : {A : Type 0} (named fits lives : Bool) (one other : A) → (named ≡ true → one ≡ other) → then_some (named && fits && lives) one ≡ then_some (named && fits && lives) other
+then_some-agrees true fits lives one other same = ap (then_some (true && fits && lives)) (same refl)
+then_some-agrees false fits lives one other same = refl
 
 -- the same where the third is whether a row is found, whose birth counts
 renewals_agree : (named fits : Bool) (found : Option Row) (birth : Moment) (renew : Moment → KeyedRows) (after : KeyedRows) → (named ≡ true → renew birth ≡ after) → option_and_then (λ (old : BornRow). then_some (named && fits) (renew old.born)) (option_map (λ row. record { row = row; born = birth }) found) ≡ then_some (named && fits && is_some found) after
@@ -35,10 +32,6 @@ renewals_agree true false (Some row) birth renew after same = refl
 renewals_agree false fits (Some row) birth renew after same = refl
 
 module _ (schema : Schema) where
-  -- rows as the table's kept rows
-  abbrev as_kept : List BornRow → KeyedRows
-  as_kept rows = record { key = schema.key; rows = rows }
-
   key_named-no_version : (act : Act) → is_version act ≡ false → key_named schema act ≡ None
   key_named-no_version (Insert table row) none = cc
   key_named-no_version (Update table row) none = cc
@@ -58,25 +51,29 @@ module _ (schema : Schema) where
         ap is_some (row_with-table_rows schema history key)
         ∙ is_some-option_map (λ row. record { row = row; born = born_at schema history key }) (row_at schema history key)
 
+    -- and where a place is found for it
+    pub is_live-found : (key : Key) → is_some (find_row schema.key key (table_rows schema history)) ≡ is_live schema history key
+    is_live-found key = is_some-find_row schema.key key (table_rows schema history) ∙ is_live-kept key
+
     module _ (entry : Entry) where
       by_act : (act : Act) → entry.act ≡ act → changed schema entry.moment act (kept_at schema history) ≡ then_some (version_fits schema history act) (kept_at schema (history ++ entry ∷ []))
       by_act (Insert table row) is =
           let key = key_of schema.key row in
           let put = with_row (record { row = row; born = entry.moment }) (kept_at schema history) in
           ap (λ lives. then_some (bytes_eq table schema.name && row_fits schema row && not lives) put) (is_live-kept key)
-          ∙ words_agree (bytes_eq table schema.name) (row_fits schema row) (not (is_live schema history key)) put (kept_at schema (history ++ entry ∷ []))
-          (λ same. ap as_kept (sym (table_rows-Insert schema history entry table row is same)))
+          ∙ then_some-agrees (bytes_eq table schema.name) (row_fits schema row) (not (is_live schema history key)) put (kept_at schema (history ++ entry ∷ []))
+          (λ same. ap (shown schema.key) (sym (table_rows-Insert schema history entry table row is same)))
       by_act (Update table row) is =
           let key = key_of schema.key row in
           ap (option_and_then (λ old. then_some (bytes_eq table schema.name && row_fits schema row) (renewed row (kept_at schema history) old))) (row_with-table_rows schema history key)
           ∙ renewals_agree (bytes_eq table schema.name) (row_fits schema row) (row_at schema history key) (born_at schema history key)
           (λ born. with_row (record { row = row; born = born }) (kept_at schema history)) (kept_at schema (history ++ entry ∷ []))
-          (λ same. ap as_kept (sym (table_rows-Update schema history entry table row is same)))
+          (λ same. ap (shown schema.key) (sym (table_rows-Update schema history entry table row is same)))
       by_act (Delete table key) is =
           let taken = without_row key (kept_at schema history) in
           ap (λ lives. then_some (bytes_eq table schema.name && key_fits schema key && lives) taken) (is_live-kept key)
-          ∙ words_agree (bytes_eq table schema.name) (key_fits schema key) (is_live schema history key) taken (kept_at schema (history ++ entry ∷ []))
-          (λ same. ap as_kept (sym (table_rows-Delete schema history entry table key is same)))
+          ∙ then_some-agrees (bytes_eq table schema.name) (key_fits schema key) (is_live schema history key) taken (kept_at schema (history ++ entry ∷ []))
+          (λ same. ap (shown schema.key) (sym (table_rows-Delete schema history entry table key is same)))
       by_act act is = refl
 
       -- what an entry does to the kept rows: where it is a version that fits, those of the history with it, and else nothing
@@ -85,7 +82,7 @@ module _ (schema : Schema) where
 
       -- an entry that names no key of the table leaves the kept rows
       pub kept_at-other : key_named schema entry.act ≡ None → kept_at schema (history ++ entry ∷ []) ≡ kept_at schema history
-      kept_at-other names = ap as_kept (table_rows-other schema history entry names)
+      kept_at-other names = ap (shown schema.key) (table_rows-other schema history entry names)
 
       -- as one that is no version does
       pub kept_at-no_version : is_version entry.act ≡ false → kept_at schema (history ++ entry ∷ []) ≡ kept_at schema history

@@ -1,5 +1,5 @@
 -- Rows that are kept in the order of their keys: what a search finds, and what a put and a take leave.
-use Rattle.std.proofs.Common.{◌≡◌, ℕ, zero, suc, ◌+◌, ◌<◌, ◌≤◌, List, [], ◌∷◌, map, length, get_or, set, Option, Some, None, option_map, true, false, if◌then◌else◌, slice_get, IfSome, Result, Ok, Err, sym, ap, ◌∙◌, refl, subst, arith}
+use Rattle.std.proofs.Common.{◌≡◌, ℕ, zero, suc, ◌+◌, ◌<◌, ◌≤◌, List, [], ◌∷◌, map, length, get_or, set, Option, Some, None, option_map, true, false, if◌then◌else◌, slice_get, is_some, IfSome, Result, Ok, Err, sym, ap, ◌∙◌, refl, subst, arith}
 use Rattle.std.specs.Prelude.{Bool, not, nat_lt, position, option_and_then}
 use Rattle.std.specs.Ordering.{is_lt, ordering_index, ordering_reverse, match_ordering}
 use Rattle.std.specs.declared.cmp.Ordering.{Ordering}
@@ -72,6 +72,10 @@ position-first test first rest =
       | false ↦ one_place_on (position_or_len test rest) (length rest)
     ]
 
+pub is_some-option_map : {A B : Type 0} (f : A → B) (found : Option A) → is_some (option_map f found) ≡ is_some found
+is_some-option_map f None = refl
+is_some-option_map f (Some x) = refl
+
 module _ (places : List Place) (key : Key) where
   -- the key at a place is above those before it
   below_at : (kept : List BornRow) (first : Key) (i : ℕ) (d : BornRow) → IsBelowAll first (map (key_in places) kept) → i < length kept → cells_cmp first (key_in places (get_or kept i d)) ≡ Less
@@ -136,6 +140,15 @@ module _ (places : List Place) (key : Key) where
       later : (found : Option ℕ) → option_and_then (slice_get (first ∷ rest)) (option_map suc found) ≡ option_and_then (slice_get rest) found
       later None = refl
       later (Some place) = refl
+
+  -- a place is found where a row is
+  pub is_some-find_row : (rows : List BornRow) → is_some (find_row places key rows) ≡ is_some (row_with key (shown places rows))
+  is_some-find_row [] = refl
+  is_some-find_row (first ∷ rest) =
+      ap is_some (find_row-first first rest) ∙ (elim (same_cells (key_in places first) key) as (λ same. is_some (if same then Some 0 else option_map suc (find_row places key rest)) ≡ is_some (if same then Some first else row_with key (shown places rest))) [
+        | true ↦ refl
+        | false ↦ is_some-option_map suc (find_row places key rest) ∙ is_some-find_row rest
+      ])
 
   IsBelowAll-take : (low : Key) (rows : List BornRow) → IsBelowAll low (map (key_in places) rows) → IsBelowAll low (map (key_in places) (take_row places key rows))
   IsBelowAll-take low [] below = tt
