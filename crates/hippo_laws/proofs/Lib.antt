@@ -11,3 +11,4 @@ pub mod ActCodes
 pub mod TruthWithChange
 pub mod ValidFronts
 pub mod OneStore
+pub mod NeededTuples

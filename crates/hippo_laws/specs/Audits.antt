@@ -17,7 +17,7 @@ pub record StandsIn (meaning : Meaning) (history : History) (entry : Entry) : Ty
 abbrev pub FlagsLast : Type 0
 FlagsLast =
     (meaning : Meaning) (history : History) (entry : Entry) → StandsIn meaning history entry
-        → (later : History) (audit : Audit)
+    → (later : History) (audit : Audit)
     → (shared meaning (history ++ later) audit entry ≡ shared meaning history audit entry)
     × (flagged meaning (history ++ later) audit entry ≡ flagged meaning history audit entry)
 

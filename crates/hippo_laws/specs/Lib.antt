@@ -1,4 +1,6 @@
+pub mod Answers
 pub mod Conditions
 pub mod Histories
 pub mod Stores
 pub mod Audits
+pub mod Needs

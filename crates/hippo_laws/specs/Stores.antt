@@ -7,8 +7,7 @@ use Rattle.hippo_model.specs.StoredForms.{body, stored}
 use Rattle.hippo_model.specs.Keepable.{is_keepable}
 use Rattle.hippo_model.specs.Stores.{IsStoreOf, IsDamagedAt}
 
--- where the bodies of entries that can be kept stand first in the same bytes, the entries are one, and so is what is
--- behind
+-- where the bodies of entries that can be kept stand first in the same bytes, they are one entry, with one rest
 abbrev pub BodyTellsEntry : Type 0
 BodyTellsEntry =
     (a b : Entry) (rest other : List ℕ) → is_keepable a ≡ true → is_keepable b ≡ true → body a ++ rest ≡ body b ++ other
@@ -21,9 +20,8 @@ StoredFormTellsEntry = (a b : Entry) → is_keepable a ≡ true → is_keepable 
 -- stored entries are those of at most one valid history
 abbrev pub StoreTellsHistory : Type 0
 StoreTellsHistory =
-    (meaning : Meaning) (store : List StoredEntry) (a b : History) → IsStoreOf meaning store a
-        → IsStoreOf meaning store b
-    → a ≡ b
+    (meaning : Meaning) (store : List StoredEntry) (a b : History)
+    → IsStoreOf meaning store a → IsStoreOf meaning store b → a ≡ b
 
 -- stored entries that are damaged are those of no valid history, and have one place of damage
 pub record DamageTellsPlace : Type 0 where

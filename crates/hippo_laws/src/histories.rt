@@ -1,7 +1,9 @@
 //! Laws on valid histories.
-ghost use Rattle.hippo_laws.specs.Histories.{WhatIsKeptHolds, ValidWithOneMore, FrontIsValid, EntryHasItsNumber, EntriesBefore};
+ghost use Rattle.hippo_laws.specs.Histories.{WhatIsKeptHolds, ValidWithOneMore, FrontIsValid};
+ghost use Rattle.hippo_laws.specs.Histories.{EntryHasItsNumber, EntriesBefore};
 
-/// What holds of the empty history, and still holds when an entry that may follow is added, holds of each valid history.
+/// What holds of the empty history, and still holds when an entry that may follow is added, holds of each valid
+/// history.
 pub fn what_is_kept_holds()
     ensures { WhatIsKeptHolds }
 {}

@@ -1,0 +1,136 @@
+-- Which combinations an answer cannot do without.
+use Rattle.std.proofs.Common.{◌≡◌, ℕ, ◌+◌, ◌<◌, Bool, true, false, not, cond, ◌&&◌, ◌||◌, List, [], ◌∷◌, ◌++◌, map, refl, sym, ap, ◌∙◌, arith}
+use Rattle.std.specs.Prelude.{filter, ◌==◌}
+use Rattle.std.specs.List.{list_any, list_all}
+use Rattle.std.specs.Cmp.{eq_by_cmp_equiv, nat_eq_equiv}
+use Rattle.std.proofs.lemmas.Bool.{and_parts, and_from, eqb-true}
+use Rattle.std.proofs.lemmas.List.Sums.{sum_by-cons}
+use Rattle.std.proofs.lemmas.List.Folds.{list_all-append}
+use Rattle.hippo_model.specs.declared.cells.Cell.{Cell}
+use Rattle.hippo_model.specs.declared.cells.Cell.TheVariants.{Shown, Denied}
+use Rattle.hippo_model.specs.Terms.{ShownRow}
+use Rattle.hippo_model.specs.Bags.{same_cell, same_row, occurrences, same_bag}
+use Rattle.hippo_model.proofs.Orders.{value_total}
+
+same_cell-refl : (cell : Cell) → same_cell cell cell ≡ true
+same_cell-refl (Shown value) = (eq_by_cmp_equiv value_total).refl value
+same_cell-refl (Denied rule) = nat_eq_equiv.refl rule
+
+same_row-refl : (row : ShownRow) → same_row row row ≡ true
+same_row-refl [] = refl
+same_row-refl (cell ∷ row) = and_from _ _ (same_cell-refl cell) (same_row-refl row)
+
+-- the same rows make the same bag
+same_counts : (rows some : List ShownRow) → list_all (λ row. occurrences row rows == occurrences row rows) some ≡ true
+same_counts rows [] = refl
+same_counts rows (row ∷ some) = and_from _ _ (nat_eq_equiv.refl (occurrences row rows)) (same_counts rows some)
+
+module _ {C : Type 0} (row_of : C → ShownRow) (passes is_out : C → Bool) where
+  abbrev answered : List C → List ShownRow
+  answered combinations = map row_of (filter passes combinations)
+
+  abbrev left : List C → List ShownRow
+  left combinations = answered (filter (λ c. not (is_out c)) combinations)
+
+  abbrev is_lost : C → Bool
+  is_lost c = is_out c && passes c
+
+  abbrev one_if : Bool → ℕ
+  one_if test = cond test 1 0
+
+  -- how often a row is lost
+  abbrev lost : ShownRow → List C → ℕ
+  lost row [] = 0
+  lost row (c ∷ combinations) = one_if (is_lost c && same_row row (row_of c)) + lost row combinations
+
+  one_answer : (test : Bool) (c : C) (rest : List C) → map row_of (cond test (c ∷ rest) rest) ≡ cond test (row_of c ∷ map row_of rest) (map row_of rest)
+  one_answer true c rest = refl
+  one_answer false c rest = refl
+
+  one_left : (out : Bool) (c : C) (rest : List C) → answered (cond (not out) (c ∷ rest) rest) ≡ cond (not out) (answered (c ∷ rest)) (answered rest)
+  one_left true c rest = refl
+  one_left false c rest = refl
+
+  counted : (row first : ShownRow) (rest : List ShownRow) → occurrences row (first ∷ rest) ≡ one_if (same_row row first) + occurrences row rest
+  counted row first rest = sum_by-cons (λ other. cond (same_row row other) 1 0) first rest
+
+  -- what one combination adds to the answer, to what is left and to what is lost
+  sum_of_one : (row : ShownRow) (out test : Bool) (first : ShownRow) (whole part : List ShownRow) (gone : ℕ) → occurrences row whole ≡ occurrences row part + gone
+      → occurrences row (cond test (first ∷ whole) whole) ≡ occurrences row (cond (not out) (cond test (first ∷ part) part) part) + (one_if ((out && test) && same_row row first) + gone)
+  sum_of_one row true true first whole part gone e = let k = counted row first whole in omega arith
+  sum_of_one row true false first whole part gone e = omega arith
+  sum_of_one row false true first whole part gone e = let k = counted row first whole in let m = counted row first part in omega arith
+  sum_of_one row false false first whole part gone e = omega arith
+
+  -- a row stands in the answer as often as in what is left, and as it is lost
+  sum_of : (row : ShownRow) (combinations : List C) → occurrences row (answered combinations) ≡ occurrences row (left combinations) + lost row combinations
+  sum_of row [] = refl
+  sum_of row (c ∷ combinations) =
+      let kept : List C = filter (λ c. not (is_out c)) combinations in
+      let whole : answered (c ∷ combinations) ≡ cond (passes c) (row_of c ∷ answered combinations) (answered combinations) = one_answer (passes c) c (filter passes combinations) in
+      let part : left (c ∷ combinations) ≡ cond (not (is_out c)) (cond (passes c) (row_of c ∷ left combinations) (left combinations)) (left combinations) =
+      one_left (is_out c) c kept ∙ ap (λ (rows : List ShownRow). cond (not (is_out c)) rows (left combinations)) (one_answer (passes c) c (filter passes kept)) in
+      rw (whole, part) (sum_of_one row (is_out c) (passes c) (row_of c) (answered combinations) (left combinations) (lost row combinations) (sum_of row combinations))
+
+  -- nothing is lost
+  same_if : (out test : Bool) (first : ShownRow) (whole part : List ShownRow) → (out && test) ≡ false → part ≡ whole → cond (not out) (cond test (first ∷ part) part) part ≡ cond test (first ∷ whole) whole
+  same_if true true first whole part none e = absurd cc
+  same_if true false first whole part none e = e
+  same_if false true first whole part none e = ap (λ (rows : List ShownRow). first ∷ rows) e
+  same_if false false first whole part none e = e
+
+  or_parts : (x y : Bool) → (x || y) ≡ false → (x ≡ false) × (y ≡ false)
+  or_parts true y e = absurd cc
+  or_parts false y e = (refl, e)
+
+  same_if_none : (combinations : List C) → list_any is_lost combinations ≡ false → left combinations ≡ answered combinations
+  same_if_none [] none = refl
+  same_if_none (c ∷ combinations) none =
+      let kept : List C = filter (λ c. not (is_out c)) combinations in
+      let both = or_parts (is_lost c) (list_any is_lost combinations) none in
+      one_left (is_out c) c kept ∙ ap (λ (rows : List ShownRow). cond (not (is_out c)) rows (left combinations)) (one_answer (passes c) c (filter passes kept))
+      ∙ same_if (is_out c) (passes c) (row_of c) (answered combinations) (left combinations) both.0 (same_if_none combinations both.1) ∙ sym (one_answer (passes c) c (filter passes combinations))
+
+  abbrev LostRow : (ShownRow → Bool) → List C → Type 0
+  LostRow test combinations = (row : ShownRow) × (test row ≡ true) × (0 < lost row combinations)
+
+  lost_here_or_later : (test : ShownRow → Bool) (first : ShownRow) (out pass some : Bool) (whole : List ShownRow) (gone : ShownRow → ℕ)
+      → (some ≡ true → list_all test whole ≡ true → (row : ShownRow) × (test row ≡ true) × (0 < gone row)) → ((out && pass) || some) ≡ true → list_all test (cond pass (first ∷ whole) whole) ≡ true
+      → (row : ShownRow) × (test row ≡ true) × (0 < one_if ((out && pass) && same_row row first) + gone row)
+  lost_here_or_later test first true true some whole gone later any all =
+      let more : 0 < 1 + gone first = omega arith in (first, (and_parts (test first) (list_all test whole) all).0, rw (same_row-refl first) more)
+  lost_here_or_later test first true false some whole gone later any all = let l = later any all in (l.0, l.1, omega (arith, l.2))
+  lost_here_or_later test first false true some whole gone later any all = let l = later any (and_parts (test first) (list_all test whole) all).1 in (l.0, l.1, omega (arith, l.2))
+  lost_here_or_later test first false false some whole gone later any all = let l = later any all in (l.0, l.1, omega (arith, l.2))
+
+  -- a test that each row of an answer passes is passed by a row that is lost, where one is
+  lost_row : (test : ShownRow → Bool) (combinations : List C) → list_any is_lost combinations ≡ true → list_all test (answered combinations) ≡ true → LostRow test combinations
+  lost_row test [] some all = absurd cc
+  lost_row test (c ∷ combinations) some all =
+      let whole : answered (c ∷ combinations) ≡ cond (passes c) (row_of c ∷ answered combinations) (answered combinations) = one_answer (passes c) c (filter passes combinations) in
+      lost_here_or_later test (row_of c) (is_out c) (passes c) (list_any is_lost combinations) (answered combinations) (λ row. lost row combinations) (λ later each. lost_row test combinations later each) some
+      (sym (ap (list_all test) whole) ∙ all)
+
+  abbrev is_as_often : List C → ShownRow → Bool
+  is_as_often combinations row = occurrences row (left combinations) == occurrences row (answered combinations)
+
+  not_the_same : (combinations : List C) → list_any is_lost combinations ≡ true → ¬ (same_bag (left combinations) (answered combinations) ≡ true)
+  not_the_same combinations some bag =
+      let both = and_parts (list_all (is_as_often combinations) (left combinations)) (list_all (is_as_often combinations) (answered combinations)) (sym (list_all-append (is_as_often combinations) (left combinations) (answered combinations)) ∙ bag) in
+      let l = lost_row (is_as_often combinations) combinations some both.1 in
+      let often : occurrences l.0 (left combinations) ≡ occurrences l.0 (answered combinations) = eqb-true _ _ l.1 in
+      omega (arith, sum_of l.0 combinations, l.2, often)
+
+  the_same : (combinations : List C) → list_any is_lost combinations ≡ false → same_bag (left combinations) (answered combinations) ≡ true
+  the_same combinations none = rw (same_if_none combinations none) (same_counts (answered combinations) (answered combinations ++ answered combinations))
+
+  -- an answer becomes another bag exactly where something is lost
+  pub needs_what_is_lost : (combinations : List C) → not (same_bag (left combinations) (answered combinations)) ≡ list_any is_lost combinations
+  needs_what_is_lost combinations =
+      elim (list_any is_lost combinations) as (λ lost. list_any is_lost combinations ≡ lost → not (same_bag (left combinations) (answered combinations)) ≡ lost) [
+        | false ↦ λ none. ap not (the_same combinations none)
+        | true ↦ λ some. elim (same_bag (left combinations) (answered combinations)) as (λ same. same_bag (left combinations) (answered combinations) ≡ same → not same ≡ true) [
+          | true ↦ λ bag. absurd (not_the_same combinations some bag)
+          | false ↦ λ bag. refl
+        ] refl
+      ] refl
