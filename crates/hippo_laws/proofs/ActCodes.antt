@@ -94,7 +94,7 @@ question_within text f = is_within 65536 text (omega arith) (and_parts (nat_le 1
 pub a_question : IsReadOnce question_is_keepable text_bytes
 a_question = record { once = λ x y r s f g e. text_again x y r s (question_within x f) (question_within y g) e }
 
--- ---- values, places, columns
+-- ---- values, columns, and what stands in one byte
 
 value_again : (x y : Value) (r s : List ℕ) → value_is_keepable x ≡ true → value_is_keepable y ≡ true → value_bytes x ++ r ≡ value_bytes y ++ s → (x ≡ y) × (r ≡ s)
 value_again Null Null r s f g e = (refl, cc)

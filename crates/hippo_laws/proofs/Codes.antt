@@ -49,10 +49,6 @@ pair {A = A} {B = B} {fits = fits} {fits_too = fits_too} {write = write} {write_
       (ap (λ (a : A). (a, x.1)) front.0 ∙ ap (λ (b : B). (y.0, b)) back.0, back.1);
 }
 
--- a byte
-pub a_byte : IsReadOnce {A = ℕ} any (λ n. n ∷ [])
-a_byte = record { once = λ x y r s f g e. (cc, cc) }
-
 -- so many bytes, of which the number can be had again
 fixed : (w : Width) (x y : ℕ) (r s : List ℕ) → length (to_be_bytes w x) ≡ length (to_be_bytes w y) → from_be_bytes w (to_be_bytes w x) ≡ x → from_be_bytes w (to_be_bytes w y) ≡ y
     → to_be_bytes w x ++ r ≡ to_be_bytes w y ++ s → (x ≡ y) × (r ≡ s)
