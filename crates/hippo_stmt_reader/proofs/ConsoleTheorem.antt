@@ -1,18 +1,15 @@
 -- The statement of the console that is found is the one of the grammar.
-use Rattle.std.proofs.Common.{◌≡◌, ℕ, codes, List, [], ◌∷◌, Bool, true, false, Option, Some, None, refl, sym, ◌∙◌}
+use Rattle.std.proofs.Common.{◌≡◌, codes, List, [], ◌∷◌, Bool, true, false, Some, None, refl, sym}
 use Rattle.std.proofs.lemmas.Option.{none-some, same_Some, some_pair_parts}
-use Rattle.hippo_values.specs.declared.values.Value.{Value}
 use Rattle.hippo_model.specs.declared.entry.ItemKind.{ItemKind}
 use Rattle.hippo_model.specs.declared.entry.ItemKind.TheVariants.{OptIn, OptOut}
-use Rattle.hippo_model.specs.declared.schema.Column.{Column}
 use Rattle.hippo_model.specs.declared.statement.RawAudit.{RawAudit}
 use Rattle.hippo_model.specs.declared.statement.Stmt.{Stmt}
-use Rattle.hippo_model.specs.declared.statement.Stmt.TheVariants as stmt
 use Rattle.hippo_values.specs.declared.keywords.Keyword as words
 use Rattle.hippo_values.specs.declared.keywords.Keyword.TheVariants.{KAllow, KAnd, KAudit, KAuthorize, KBegin, KChoice, KCreate, KDeauthorize, KDelete, KDuring, KExplain, KFrom, KIn, KInsert, KInto, KIs, KItem, KKey, KNo, KOn, KOpen, KOpt, KOut, KPrimary, KPurpose, KRecipient, KRevoke, KSelect, KSet, KTable, KUpdate, KValues, KWhere, KWith, KYes}
-use Rattle.hippo_lexer.specs.declared.kinds.Symbol.TheVariants.{Comma, LeftParen, RightParen, Semicolon}
+use Rattle.hippo_lexer.specs.declared.kinds.Symbol.TheVariants.{Comma, LeftParen, RightParen}
 use Rattle.hippo_lexer.specs.declared.kinds.TokenKind.{TokenKind}
-use Rattle.hippo_lexer.specs.declared.kinds.TokenKind.TheVariants.{Word, Keyword, Number, Symbol}
+use Rattle.hippo_lexer.specs.declared.kinds.TokenKind.TheVariants.{Word, Keyword, Symbol}
 use Rattle.hippo_spj_reader.specs.ConditionGrammar.{IsLiteral}
 use Rattle.hippo_spj_reader.specs.Front.{after_keyword, after_symbol, after_word, leading_literal}
 use Rattle.hippo_spj_reader.specs.ListFinder.{leading_list}
@@ -22,7 +19,7 @@ use Rattle.hippo_audit_reader.specs.AuditGrammar as audits
 use Rattle.hippo_audit_reader.specs.AuditGrammar.{IsAudit}
 use Rattle.hippo_audit_reader.specs.AuditFinder.{leading_audit}
 use Rattle.hippo_audit_reader.proofs.AuditTheorem as auditing
-use Rattle.hippo_stmt_reader.specs.StatementGrammar.{IsColumnDef, IsSubject, IsWith, AreKeys, AreSettings, AreNames, columns_of, values_of, IsConsole, create_table, create_purpose, create_recipient, create_opt_in, create_opt_out, authorize, deauthorize, allow, revoke, choice_yes, choice_no, insert, update, delete, explain, audit, begin_audit, watch, IsEnd, nothing, semicolon}
+use Rattle.hippo_stmt_reader.specs.StatementGrammar.{IsColumnDef, IsSubject, AreSettings, IsConsole, create_table, create_purpose, create_recipient, create_opt_in, create_opt_out, authorize, deauthorize, allow, revoke, choice_yes, choice_no, insert, update, delete, explain, audit, begin_audit, watch, IsEnd, nothing, semicolon}
 use Rattle.hippo_stmt_reader.specs.StatementFinder.{end_left, leading_column_def, after_column, leading_names, leading_subject, leading_item, leading_retention, leading_number, leading_assignment, leading_grant, leading_disclosure, create_table_of, create_purpose_of, create_recipient_of, leading_item_kind, create_item_of, create_of, authorize_of, deauthorize_of, allow_of, revoke_of, leading_yes_or_no, choice_of, insert_of, update_of, delete_of, explain_of, audit_of, begin_audit_of, watch_of, console_behind, console_by_keyword, console_of}
 use Rattle.hippo_stmt_reader.proofs.PartTheorem.{end_found, end_complete, number_found, column_defs_found, column_defs_complete, names_then, names_whole, subject_found, subject_complete, with_found, with_complete, retention_found, retention_complete, retention-no_with, settings_found, settings_complete, keys_found, keys_complete, literals_found, literals_complete, grant_then, disclosure_then}
 

@@ -1,5 +1,5 @@
 -- The parts of statements that are found are those of the grammar.
-use Rattle.std.proofs.Common.{◌≡◌, ℕ, ℤ, pos, suc, ◌<◌, ◌≤◌, nat_lt, nat_le, ◌&&◌, codes, List, [], ◌∷◌, length, Bool, true, false, if◌then◌else◌, Option, Some, None, refl, sym, ◌∙◌, ap, arith}
+use Rattle.std.proofs.Common.{◌≡◌, ℕ, ℤ, pos, suc, ◌<◌, ◌≤◌, nat_lt, nat_le, ◌&&◌, codes, List, [], ◌∷◌, length, Bool, true, false, if◌then◌else◌, Option, Some, None, refl, ap, arith}
 use Rattle.std.proofs.lemmas.Bool.{and_parts, ltb-true, lt-ltb, leb-true, le-leb}
 use Rattle.std.proofs.lemmas.Option.{none-some, same_Some, some_pair_parts, cond_some}
 use Rattle.hippo_values.specs.declared.values.Value.{Value}

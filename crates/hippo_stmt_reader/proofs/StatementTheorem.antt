@@ -8,7 +8,7 @@ use Rattle.std.specs.Result.{IfOk, IfErr}
 use Rattle.hippo_model.specs.declared.statement.RawSelect.{RawSelect}
 use Rattle.hippo_model.specs.declared.statement.Stmt.{Stmt}
 use Rattle.hippo_model.specs.declared.statement.Stmt.TheVariants as stmt
-use Rattle.hippo_lexer.specs.Words.{words_check, is_too_deep, is_unsupported, support_of}
+use Rattle.hippo_lexer.specs.Words.{words_check, support_of}
 use Rattle.hippo_lexer.specs.declared.faults.SyntaxFault.{SyntaxFault}
 use Rattle.hippo_lexer.specs.declared.faults.SyntaxFault.TheVariants as fault
 use Rattle.hippo_values.specs.declared.keywords.Keyword.TheVariants.{KOpen, KSelect}
@@ -24,7 +24,7 @@ use Rattle.hippo_spj_reader.proofs.FrontTheorem.{found_then, keyword_choice, wor
 use Rattle.hippo_spj_reader.proofs.SelectTheorem as selecting
 use Rattle.hippo_spj_reader.proofs.SuffixTheorem.{front_of, select_suffix}
 use Rattle.hippo_stmt_reader.specs.StatementGrammar.{IsEnd, nothing, semicolon, IsPlacedSelect, placed, IsStatement, console, select, open_select, extract_select, IsRefusal}
-use Rattle.hippo_stmt_reader.specs.StatementFinder.{end_left, console_of, placed_select_of, open_of, extract_of, select_of, statement_of}
+use Rattle.hippo_stmt_reader.specs.StatementFinder.{end_left, placed_select_of, open_of, extract_of, select_of, statement_of}
 use Rattle.hippo_stmt_reader.proofs.ConsoleTheorem.{console_found, console_complete, console-no_select}
 use Rattle.hippo_stmt_reader.proofs.PartTheorem.{end_found, end_complete}
 

@@ -13,7 +13,6 @@ use Rattle.hippo_values.specs.declared.keywords.Keyword as words
 use Rattle.hippo_values.specs.declared.keywords.Keyword.TheVariants.{KAllow, KAnd, KAudit, KAuthorize, KBegin, KChoice, KCreate, KDate, KDeauthorize, KDelete, KDuring, KExplain, KFor, KFrom, KIn, KInsert, KInteger, KInto, KIs, KItem, KKey, KNo, KNot, KNull, KOn, KOpen, KOpt, KOut, KPrimary, KPurpose, KRecipient, KRevoke, KSelect, KSet, KSubject, KTable, KText, KTo, KUpdate, KValues, KWhere, KWith, KYes}
 use Rattle.hippo_lexer.specs.declared.kinds.Symbol.TheVariants.{Comma, Equal, LeftParen, RightParen, Semicolon}
 use Rattle.hippo_lexer.specs.declared.kinds.Token.{Token}
-use Rattle.hippo_lexer.specs.declared.kinds.TokenKind.{TokenKind}
 use Rattle.hippo_lexer.specs.declared.kinds.TokenKind.TheVariants.{Keyword, Number}
 use Rattle.hippo_spj_reader.specs.Promises.{◌>>=◌, either}
 use Rattle.hippo_spj_reader.specs.ConditionFinder.{begins_with_name}

@@ -13,10 +13,9 @@ use Rattle.hippo_lexer.specs.Words.{words_check}
 use Rattle.hippo_lexer.specs.declared.faults.SyntaxFault.{SyntaxFault}
 use Rattle.hippo_lexer.specs.declared.faults.SyntaxFault.TheVariants as fault
 use Rattle.hippo_values.specs.declared.keywords.Keyword as words
-use Rattle.hippo_values.specs.declared.keywords.Keyword.TheVariants.{KAllow, KAnd, KAudit, KAuthorize, KBegin, KChoice, KCreate, KDate, KDeauthorize, KDelete, KExplain, KFor, KFrom, KIn, KInsert, KInteger, KInto, KIs, KItem, KKey, KNo, KNot, KNull, KOn, KOpen, KOpt, KOut, KPrimary, KPurpose, KRecipient, KRevoke, KSelect, KSet, KSubject, KTable, KText, KTo, KUpdate, KValues, KWhere, KWith, KYes}
+use Rattle.hippo_values.specs.declared.keywords.Keyword.TheVariants.{KAllow, KAnd, KAudit, KAuthorize, KBegin, KChoice, KCreate, KDate, KDeauthorize, KDelete, KExplain, KFor, KFrom, KIn, KInsert, KInteger, KInto, KIs, KItem, KKey, KNo, KNot, KNull, KOn, KOpen, KOpt, KOut, KPrimary, KPurpose, KRecipient, KRevoke, KSet, KSubject, KTable, KText, KTo, KUpdate, KValues, KWhere, KWith, KYes}
 use Rattle.hippo_lexer.specs.declared.kinds.Symbol.TheVariants.{Comma, Equal, LeftParen, RightParen, Semicolon}
 use Rattle.hippo_lexer.specs.declared.kinds.Token.{Token}
-use Rattle.hippo_lexer.specs.declared.kinds.TokenKind.{TokenKind}
 use Rattle.hippo_lexer.specs.declared.kinds.TokenKind.TheVariants.{Word, Keyword, Number, Symbol}
 use Rattle.hippo_spj_reader.specs.ConditionGrammar.{IsLiteral}
 use Rattle.hippo_spj_reader.specs.Front.{Kinds, kinds}
@@ -112,7 +111,7 @@ pub data IsConsole : Kinds → Stmt → Kinds → Type 0 where
       (stmt.Authorize user purpose recipient) rest
   deauthorize : {user purpose recipient : List ℕ} {rest : Kinds} →
       IsConsole (Keyword KDeauthorize ∷ Word user ∷ Keyword KFor ∷ Word purpose
-        ∷ Symbol Comma ∷ Word recipient ∷ rest)
+      ∷ Symbol Comma ∷ Word recipient ∷ rest)
       (stmt.Deauthorize user purpose recipient) rest
   -- ALLOW p TO r ON t "(" c {"," c} ")" [WITH i] [RETAIN n DAYS]
   allow : {purpose recipient table : List ℕ} {columns : List (List ℕ)} {item : Option (List ℕ)} {days : Option ℕ}
@@ -121,13 +120,13 @@ pub data IsConsole : Kinds → Stmt → Kinds → Type 0 where
       IsWith behind item kept →
       IsRetention kept days rest →
       IsConsole (Keyword KAllow ∷ Word purpose ∷ Keyword KTo ∷ Word recipient
-        ∷ Keyword KOn ∷ Word table ∷ Symbol LeftParen ∷ named)
+      ∷ Keyword KOn ∷ Word table ∷ Symbol LeftParen ∷ named)
       (stmt.Allow purpose recipient table columns item days) rest
   -- REVOKE p TO r ON t "(" c {"," c} ")"
   revoke : {purpose recipient table : List ℕ} {columns : List (List ℕ)} {named rest : Kinds} →
       AreNames named columns (Symbol RightParen ∷ rest) →
       IsConsole (Keyword KRevoke ∷ Word purpose ∷ Keyword KTo ∷ Word recipient
-        ∷ Keyword KOn ∷ Word table ∷ Symbol LeftParen ∷ named)
+      ∷ Keyword KOn ∷ Word table ∷ Symbol LeftParen ∷ named)
       (stmt.Revoke purpose recipient table columns) rest
   -- CHOICE number ON i IS (YES | NO)
   choice_yes : {n : ℤ} {item : List ℕ} {rest : Kinds} →

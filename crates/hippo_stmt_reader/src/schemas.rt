@@ -4,7 +4,7 @@ ghost use Rattle.hippo_spj_reader.specs.Promises.{Gives, Reads};
 ghost use Rattle.hippo_spj_reader.specs.Front.{kinds};
 ghost use Rattle.hippo_stmt_reader.specs.StatementFinder.{column_kind_of, leading_column_kind, leading_column_def, after_column, leading_subject, create_table_of, create_purpose_of, create_recipient_of, leading_item_kind, create_item_of, create_of};
 
-use crate::parts::{with_end, names};
+use crate::parts::{names, with_end};
 use hippo_lexer::{Keyword, Symbol, SyntaxFault, Token, TokenKind};
 use hippo_model::{Column, ColumnKind, ItemKind, Stmt};
 use hippo_spj_reader::{

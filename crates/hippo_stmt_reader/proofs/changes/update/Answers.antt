@@ -1,4 +1,4 @@
-use Rattle.std.proofs.Common.{◌≡◌, refl, sym}
+use Rattle.std.proofs.Common.{sym}
 use Rattle.hippo_stmt_reader.specs.StatementFinder.{update_of}
 use Rattle.hippo_stmt_reader.proofs.changes.update.Goals as goal
 

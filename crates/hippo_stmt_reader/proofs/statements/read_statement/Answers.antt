@@ -1,7 +1,6 @@
 -- What is found is the statement of the grammar, and each statement of the grammar is found.
-use Rattle.std.proofs.Common.{◌≡◌, Ok, Err, sym, ◌∙◌}
+use Rattle.std.proofs.Common.{sym}
 use Rattle.std.proofs.lemmas.Result.{err_from_is_err_and}
-use Rattle.hippo_lexer.specs.Words.{words_check}
 use Rattle.hippo_stmt_reader.proofs.StatementTheorem.{words_refused, read_found, read_only, read_errors}
 use Rattle.hippo_stmt_reader.proofs.statements.read_statement.Goals as goal
 
