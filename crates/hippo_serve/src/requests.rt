@@ -1,4 +1,4 @@
-ghost use Rattle.std.specs.Prelude.{◌≡◌, ◌==◌, ◌&&◌, not, nat_le, [], ◌∷◌, option_map, IfSome};
+ghost use Rattle.std.specs.Prelude.{◌≡◌, ◌==◌, ◌&&◌, not, nat_eq, nat_le, [], ◌∷◌, option_map, IfSome};
 ghost use Rattle.std.specs.List.{list_all};
 ghost use Rattle.hippo_values.specs.Texts.{keeps_text_rule};
 ghost use Rattle.hippo_model.specs.Validity.{all_differ};
