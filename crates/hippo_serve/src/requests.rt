@@ -1,5 +1,4 @@
-ghost use Rattle.std.specs.Prelude.{◌≡◌, ◌==◌, ◌&&◌, not, nat_eq, nat_le, [], ◌∷◌, option_map, IfSome};
-ghost use Rattle.std.specs.List.{list_all};
+ghost use Rattle.std.specs.Prelude.{◌≡◌, nat_eq, [], ◌∷◌, option_map, IfSome};
 ghost use Rattle.hippo_values.specs.Texts.{keeps_text_rule};
 ghost use Rattle.hippo_model.specs.Validity.{all_differ};
 ghost use Rattle.hippo_serve.specs.Forms.{text_cell, number_cell, cells_from_phone, cells_of, insert_of, allow_of, select_of, meaning_of};
