@@ -2,6 +2,7 @@
 use Rattle.std.specs.Prelude.{ℕ, ◌+◌, Bool, true, false, not, ◌&&◌, ◌==◌, List, [], ◌∷◌, ◌++◌, map, length, count_by, nat_eq, nat_lt, nat_le, int_le, slice_get, Option, Some, None, is_some, is_none, if◌then◌else◌, bytes_eq}
 use Rattle.std.specs.List.{list_any, list_all}
 use Rattle.std.specs.Option.{option_map_or}
+use Rattle.hippo_values.specs.Limits.{retention_limit, table_limit}
 use Rattle.hippo_values.specs.declared.moments.Moment.{Moment}
 use Rattle.hippo_values.specs.declared.names.Name.{Name}
 use Rattle.hippo_model.specs.declared.schema.Column.{Column}
@@ -88,7 +89,7 @@ item_fits history table (Some item) = is_some (item_at history item) && table_pa
 -- 1 to 36,500 days, a hundred years
 abbrev pub days_fit : Option ℕ → Bool
 days_fit None = true
-days_fit (Some days) = nat_le 1 days && nat_le days 36500
+days_fit (Some days) = nat_le 1 days && nat_le days retention_limit
 
 abbrev pub pair_exists : History → Name → Name → Bool
 pair_exists history purpose recipient = is_purpose history purpose && is_recipient history recipient
@@ -101,7 +102,7 @@ rule_fits history purpose recipient table columns =
 -- fewer than 64 tables are created, none of this name, and the schema is well formed
 abbrev pub create_fits : History → Schema → Bool
 create_fits history schema =
-    nat_lt (count_by (λ entry. creates_table entry.act) history) 64 && is_none (schema_at history schema.name)
+    nat_lt (count_by (λ entry. creates_table entry.act) history) table_limit && is_none (schema_at history schema.name)
     && is_well_formed schema
 
 abbrev pub is_table_version : History → Name → Act → Bool

@@ -2,6 +2,7 @@
 use Rattle.std.proofs.Common.{◌≡◌, ℕ, ℤ, pos, suc, ◌<◌, ◌≤◌, nat_lt, nat_le, ◌&&◌, codes, List, [], ◌∷◌, length, Bool, true, false, if◌then◌else◌, Option, Some, None, refl, ap, arith}
 use Rattle.std.proofs.lemmas.Bool.{and_parts, ltb-true, lt-ltb, leb-true, le-leb}
 use Rattle.std.proofs.lemmas.Option.{none-some, same_Some, some_pair_parts, cond_some}
+use Rattle.hippo_values.specs.Limits.{retention_limit}
 use Rattle.hippo_values.specs.declared.values.Value.{Value}
 use Rattle.hippo_model.specs.declared.schema.Column.{Column}
 use Rattle.hippo_model.specs.declared.schema.ColumnKind.{ColumnKind}
@@ -21,7 +22,7 @@ use Rattle.hippo_spj_reader.proofs.NameTheorem.{names_found, names_complete}
 use Rattle.hippo_spj_reader.proofs.OperandTheorem.{literal_found, literal_complete, literal_shorter}
 use Rattle.hippo_stmt_reader.specs.declared.policies.Disclosure.{Disclosure}
 use Rattle.hippo_stmt_reader.specs.declared.policies.Grant.{Grant}
-use Rattle.hippo_stmt_reader.specs.StatementGrammar.{IsColumnKind, integer, text, date, IsColumnDef, nullable, not_null, IsSubject, no_subject, subject, IsWith, no_item, with_item, most_days, IsRetention, no_retention, retain, IsAssignment, assignment, AreKeys, AreSettings, AreNames, IsEnd, nothing, semicolon}
+use Rattle.hippo_stmt_reader.specs.StatementGrammar.{IsColumnKind, integer, text, date, IsColumnDef, nullable, not_null, IsSubject, no_subject, subject, IsWith, no_item, with_item, IsRetention, no_retention, retain, IsAssignment, assignment, AreKeys, AreSettings, AreNames, IsEnd, nothing, semicolon}
 use Rattle.hippo_stmt_reader.specs.StatementFinder.{nothing_left, end_left, column_kind_of, leading_column_kind, leading_column_def, after_column, leading_names, leading_subject, leading_item, leading_number, days_of, leading_retention, leading_assignment, leading_grant, leading_disclosure}
 
 nothing_found : (tokens : List TokenKind) (u : Unit {0}) → nothing_left tokens ≡ Some u → tokens ≡ []
@@ -141,15 +142,15 @@ unfolding leading_item
 with_complete tokens i rest no_item no_with = rw no_with refl
 with_complete tokens i rest with_item no_with = refl
 
-days_of-found : (number : ℤ) (days : ℕ) → days_of number ≡ Some days → (number ≡ pos days) × (0 < days) × (days ≤ most_days)
+days_of-found : (number : ℤ) (days : ℕ) → days_of number ≡ Some days → (number ≡ pos days) × (0 < days) × (days ≤ retention_limit)
 days_of-found (pos n) days e =
-    let p = cond_some (nat_lt 0 n && nat_le n most_days) n days e in
-    let bounds = and_parts (nat_lt 0 n) (nat_le n most_days) p.0 in
-    rw (← p.1) (refl, ltb-true 0 n bounds.0, leb-true n most_days bounds.1)
+    let p = cond_some (nat_lt 0 n && nat_le n retention_limit) n days e in
+    let bounds = and_parts (nat_lt 0 n) (nat_le n retention_limit) p.0 in
+    rw (← p.1) (refl, ltb-true 0 n bounds.0, leb-true n retention_limit bounds.1)
 days_of-found _ days e = absurd (none-some days e)
 
-days_of-complete : (days : ℕ) → 0 < days → days ≤ most_days → days_of (pos days) ≡ Some days
-days_of-complete days some most = rw (lt-ltb 0 days some, le-leb days most_days most) refl
+days_of-complete : (days : ℕ) → 0 < days → days ≤ retention_limit → days_of (pos days) ≡ Some days
+days_of-complete days some most = rw (lt-ltb 0 days some, le-leb days retention_limit most) refl
 
 pub retention_found : (tokens : List TokenKind) (days : Option ℕ) (rest : List TokenKind) → leading_retention tokens ≡ Some (days, rest) → IsRetention tokens days rest
 unfolding leading_retention

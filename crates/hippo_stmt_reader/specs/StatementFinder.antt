@@ -1,5 +1,6 @@
 -- The statement that can be found in a list of tokens, part by part.
 use Rattle.std.specs.Prelude.{ℕ, ℤ, pos, ◌-◌, Bool, true, false, ◌&&◌, nat_lt, nat_le, List, [], ◌∷◌, length, take, drop, Option, Some, None, slice_get, if◌then◌else◌, codes}
+use Rattle.hippo_values.specs.Limits.{retention_limit}
 use Rattle.hippo_values.specs.declared.values.Value.{Value}
 use Rattle.hippo_model.specs.declared.entry.ItemKind.{ItemKind}
 use Rattle.hippo_model.specs.declared.entry.ItemKind.TheVariants.{OptIn, OptOut}
@@ -22,7 +23,7 @@ use Rattle.hippo_spj_reader.specs.SelectFinder.{leading_select}
 use Rattle.hippo_audit_reader.specs.AuditFinder.{leading_audit}
 use Rattle.hippo_stmt_reader.specs.declared.policies.Disclosure.{Disclosure}
 use Rattle.hippo_stmt_reader.specs.declared.policies.Grant.{Grant}
-use Rattle.hippo_stmt_reader.specs.StatementGrammar.{most_days, columns_of, values_of}
+use Rattle.hippo_stmt_reader.specs.StatementGrammar.{columns_of, values_of}
 
 abbrev pub nothing_left : Kinds → Option (Unit {0})
 nothing_left [] = Some tt
@@ -86,7 +87,7 @@ leading_number tokens = None
 
 -- so many days, from one to the most
 abbrev pub days_of : ℤ → Option ℕ
-days_of (pos days) = if nat_lt 0 days && nat_le days most_days then Some days else None
+days_of (pos days) = if nat_lt 0 days && nat_le days retention_limit then Some days else None
 days_of number = None
 
 unfoldable pub leading_retention : Finds (Option ℕ)

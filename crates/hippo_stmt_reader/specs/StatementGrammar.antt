@@ -1,5 +1,6 @@
 -- The grammar of statements. A relation says that the tokens begin with such a part, how it reads, and what follows it.
 use Rattle.std.specs.Prelude.{◌≡◌, ℕ, ◌<◌, ◌≤◌, ℤ, pos, ◌-◌, true, false, List, [], ◌∷◌, ◌++◌, length, map, Option, Some, None, Ok, Err, slice_get, codes}
+use Rattle.hippo_values.specs.Limits.{retention_limit}
 use Rattle.hippo_values.specs.declared.values.Value.{Value}
 use Rattle.hippo_model.specs.declared.entry.ItemKind.TheVariants.{OptIn, OptOut}
 use Rattle.hippo_model.specs.declared.schema.Column.{Column}
@@ -48,14 +49,10 @@ pub data IsWith : Kinds → Option (List ℕ) → Kinds → Type 0 where
   no_item : {rest : Kinds} → IsWith rest None rest
   with_item : {i : List ℕ} {rest : Kinds} → IsWith (Keyword KWith ∷ Word i ∷ rest) (Some i) rest
 
--- for how many days a rule may show a row
-abbrev pub most_days : ℕ
-most_days = 36500
-
 -- [RETAIN n DAYS], from one day to the most
 pub data IsRetention : Kinds → Option ℕ → Kinds → Type 0 where
   no_retention : {rest : Kinds} → IsRetention rest None rest
-  retain : {days : ℕ} {rest : Kinds} → 0 < days → days ≤ most_days →
+  retain : {days : ℕ} {rest : Kinds} → 0 < days → days ≤ retention_limit →
       IsRetention (Word (codes "retain") ∷ Number (pos days) ∷ Word (codes "days") ∷ rest) (Some days) rest
 
 -- c "=" literal

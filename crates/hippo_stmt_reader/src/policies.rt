@@ -10,7 +10,7 @@ use hippo_model::{Names, Stmt};
 use hippo_spj_reader::{
     after_keyword, after_word, expect_keyword, expect_symbol, expect_word, name,
 };
-use hippo_values::Name;
+use hippo_values::{Name, RETENTION_LIMIT};
 use std::alloc::Global;
 
 // Whom AUTHORIZE and DEAUTHORIZE speak of.
@@ -123,14 +123,11 @@ fn with_item(alloc: Global, tokens: &[Token]) -> Result<(Option<Name>, &[Token])
     Ok((Some(item), rest))
 }
 
-/// For how many days a rule may show a row at the most.
-const MOST_DAYS: u32 = 36500;
-
 fn days_of(number: &i64) -> Option<u32>
     ensures { result ≡ days_of number.now }
 {
     match u32::try_from(*number) {
-        Ok(days) if 0 < days && days <= MOST_DAYS => Some(days),
+        Ok(days) if 0 < days && days <= RETENTION_LIMIT => Some(days),
         _ => None,
     }
 }

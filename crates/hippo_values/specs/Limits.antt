@@ -1,4 +1,4 @@
--- How long the parts of the language may be, in bytes.
+-- How long the parts of the language may be, in bytes, how many days a rule may last, and how many tables there may be.
 use Rattle.std.specs.Prelude.{ℕ}
 
 -- a text in a cell
@@ -12,3 +12,11 @@ name_limit = 63
 -- a line of the input before its line feed, and the text of a question
 abbrev pub line_limit : ℕ
 line_limit = 65536
+
+-- the days after a row's birth for which a rule may show its cells: a hundred years
+abbrev pub retention_limit : ℕ
+retention_limit = 36500
+
+-- the tables of a database
+abbrev pub table_limit : ℕ
+table_limit = 64

@@ -4,6 +4,7 @@ use Rattle.std.specs.Option.{option_or}
 use Rattle.std.specs.List.{list_any, list_all}
 use Rattle.std.specs.Map.{lookup}
 use Rattle.std.specs.Char.{is_ascii_alphabetic, is_ascii_digit, to_ascii_lowercase}
+use Rattle.hippo_values.specs.Limits.{name_limit}
 use Rattle.hippo_values.specs.declared.keywords.Keyword.{Keyword}
 use Rattle.hippo_values.specs.declared.keywords.Keyword.TheVariants.{KAnd, KAllow, KAudit, KAuthorize, KBegin, KBetween, KChoice, KCreate, KDate, KDeauthorize, KDelete, KDistinct, KDuring, KExplain, KFor, KFrom, KGroup, KIn, KInner, KInsert, KInteger, KInto, KIs, KItem, KJoin, KKey, KMax, KMin, KNo, KNot, KNull, KOn, KOpen, KOpt, KOtherthan, KOut, KPrimary, KPurpose, KRecipient, KRevoke, KSelect, KSet, KShown, KSubject, KTable, KText, KTo, KUpdate, KValues, KWhere, KWith, KYes, KOr}
 use Rattle.hippo_values.specs.declared.keywords.Reserved.{Reserved}
@@ -75,7 +76,7 @@ is_word word = begins_with_letter word && list_all is_word_byte word
 
 -- a word of at most 63 bytes that is not reserved
 abbrev pub is_name : List ℕ → Bool
-is_name word = is_word word && nat_le (length word) 63 && not (is_reserved word)
+is_name word = is_word word && nat_le (length word) name_limit && not (is_reserved word)
 
 -- the name that a word writes
 abbrev pub name_of : List ℕ → Option (List ℕ)

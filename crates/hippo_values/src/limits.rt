@@ -1,4 +1,4 @@
-//! How long the parts of the language may be, in bytes.
+//! How long the parts of the language may be, in bytes, and how many days a rule may last.
 
 /// A text in a cell.
 pub const TEXT_LIMIT: usize = 4096;
@@ -8,3 +8,6 @@ pub const NAME_LIMIT: usize = 63;
 
 /// A line of the input before its line feed, and the text of a question.
 pub const LINE_LIMIT: usize = 65_536;
+
+/// The most days after a row's birth for which a rule may show its cells.
+pub const RETENTION_LIMIT: u32 = 36_500;

@@ -9,6 +9,7 @@ ghost use Rattle.std.specs.List.{list_all};
 ghost use Rattle.hippo_values.specs.Names.{folded, is_word_byte, begins_with_letter, is_word, reserved_of, is_name, name_of};
 
 use crate::keywords::reserved_of;
+use crate::limits::NAME_LIMIT;
 use crate::memory::{Duplicate, Memory};
 use crate::texts::Txt;
 use std::alloc::Global;
@@ -16,9 +17,6 @@ use std::cmp::Ordering;
 use std::fmt::{self, Debug, Formatter, Write};
 use std::hash::{Hash, Hasher};
 use std::marker::Model;
-
-// The longest name, in bytes.
-const NAME_LIMIT: usize = 63;
 
 fn is_word_byte(byte: u8) -> bool
     ensures { result ≡ is_word_byte byte }
