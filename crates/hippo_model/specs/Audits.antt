@@ -34,7 +34,7 @@ common query audit = filter (λ table. list_any (bytes_eq table) query.tables) a
 abbrev pub shared_rows : History → Name → List SharedRow
 shared_rows history table =
     let by_key : Schema → BornRow → SharedRow =
-        λ schema kept. record { table = table; key = key_of schema.key kept.row } in
+    λ schema kept. record { table = table; key = key_of schema.key kept.row } in
     option_map_or (λ schema. map (by_key schema) (table_rows schema history)) (schema_at history table) []
 
 -- a virtual tuple is a row of each common table; they stand in the order of the product

@@ -29,5 +29,5 @@ IsTurn history reader left (Ok None) made after reader_after left_after =
     × (reader_after.taken ≤ input_limit)
 IsTurn history reader left (Err fault) made after reader_after left_after =
     ((input : List ℕ) (handed : List LineText) → HasHandedOut input handed reader left
-        → HasGivenUp input handed reader_after left_after)
+    → HasGivenUp input handed reader_after left_after)
     × ((fault ≡ TooMuch) ↔ (input_limit < reader_after.taken))
