@@ -1,5 +1,7 @@
 use hippo_lexer::lexer::tokens;
-use hippo_values::{Bytes, Duplicate, Memory, Name, Sequence, Txt, Value, print_value};
+use hippo_values::{
+    Bytes, Duplicate, Memory, Name, RoomySequence, RoomyTxt, Sequence, Txt, Value, print_value,
+};
 use std::alloc::Global;
 use std::test::Fail;
 
@@ -70,5 +72,25 @@ fn tokens_of_the_longest_line(rt: HostRuntime) -> Result<(), Fail> {
     }
     let text = long_text(alloc, "0", 60_000)?;
     assert_eq!(rt; tokens(alloc, text.as_str())?.len(), 1);
+    Ok(())
+}
+
+#[test]
+fn room_that_is_filled_twice(rt: HostRuntime) -> Result<(), Fail> {
+    let alloc = rt.alloc();
+    let mut text = RoomyTxt::<LONGEST>::with_room(alloc)?;
+    let mut list = RoomySequence::<u64, MOST>::with_room(alloc)?;
+    for _ in 0..2 {
+        for _ in 0..LONGEST / 2 {
+            text.push('é')?;
+        }
+        assert_eq!(rt; text.len(), LONGEST);
+        text.clear();
+        for number in 0..100_000 {
+            list.push(number)?;
+        }
+        assert_eq!(rt; list.as_slice().len(), MOST);
+        list.clear();
+    }
     Ok(())
 }
