@@ -23,7 +23,8 @@ use Rattle.hippo_model.specs.declared.entry.ItemKind.TheVariants.{OptIn, OptOut}
 use Rattle.hippo_model.specs.declared.stored.StoredEntry.{StoredEntry}
 use Rattle.hippo_model.specs.Terms.{History, Row, Place}
 use Rattle.hippo_model.specs.StoredForms.{number_bytes, signed_bytes, day_bytes, name_bytes, text_bytes, list_bytes, place_bytes, value_bytes, column_kind, column_bytes, subject_byte, schema_bytes, item_kind, item_bytes, days_bytes, act_format, act_kind, act_bytes, body, stored}
-use Rattle.hippo_model.specs.Keepable.{is_signed_number, is_moment, is_day, is_folded_name, is_text, has_count, is_short, is_place, value_is_keepable, cells_are_keepable, places_are_keepable, columns_are_keepable, key_is_keepable, subject_is_keepable, schema_is_keepable, item_is_keepable, days_are_keepable, question_is_keepable, rule_is_keepable, act_is_keepable, is_keepable}
+use Rattle.hippo_values.specs.Moments.{is_signed_number, is_moment, is_day}
+use Rattle.hippo_model.specs.Keepable.{is_folded_name, is_text, has_count, is_short, is_place, value_is_keepable, cells_are_keepable, places_are_keepable, columns_are_keepable, key_is_keepable, subject_is_keepable, schema_is_keepable, item_is_keepable, days_are_keepable, question_is_keepable, rule_is_keepable, act_is_keepable, is_keepable}
 use Rattle.hippo_laws.proofs.Codes.{IsReadOnce, any, both_fit, one_then_other, split_alike, last, pair, eight_bytes, four_bytes, a_list}
 
 -- ---- numbers with a sign

@@ -10,7 +10,7 @@ use Rattle.hippo_model.specs.declared.cells.Cell.{Cell}
 use Rattle.hippo_model.specs.declared.cells.Cell.TheVariants.{Shown, Denied}
 use Rattle.hippo_model.specs.Terms.{ShownRow}
 use Rattle.hippo_model.specs.Bags.{same_cell, same_row, occurrences, same_bag}
-use Rattle.hippo_model.proofs.Orders.{value_total}
+use Rattle.hippo_values.specs.OrderLaws.{value_total}
 
 same_cell-refl : (cell : Cell) → same_cell cell cell ≡ true
 same_cell-refl (Shown value) = (eq_by_cmp_equiv value_total).refl value

@@ -2,10 +2,9 @@
 //! that rule, or why it is nothing, is written as one line.
 #![tactic(auto)]
 
-mod values;
-
 #[cfg(test)]
 mod tests;
+mod values;
 
 use hippo_audit_reader::read_audit;
 use hippo_lexer::lexer::tokens;

@@ -44,7 +44,11 @@ fn moment(alloc: Global, text: &str) -> Result<String, AllocError> {
         return String::from_str(alloc, "none");
     };
     let printed = moment_text(moment);
-    format!(in alloc; "{} {}", moment.seconds(), str::from_utf8(&printed).unwrap_or(""))
+    format!(in alloc;
+        "{} {}",
+        moment.seconds(),
+        str::from_utf8(&printed).unwrap_or("")
+    )
 }
 
 // The value that a token writes; any other token is NULL.
