@@ -60,7 +60,11 @@ fn rows_stand_in_the_order_of_their_keys(rt: HostRuntime) -> Result<(), Fail> {
     ];
     for (place, (note, room, site, born)) in wanted.into_iter().enumerate() {
         assert_eq!(rt; set.find(&key(alloc, site, room)?), Some(place), "{note}");
-        assert_eq!(rt; set.find_like(&row(alloc, "", room, site)?), Some(place), "{note}");
+        assert_eq!(rt;
+            set.find_like(&row(alloc, "", room, site)?),
+            Some(place),
+            "{note}"
+        );
         assert!(rt; place < set.len());
         assert_eq!(rt; set.row(place), &row(alloc, note, room, site)?, "{note}");
         assert_eq!(rt; set.born(place), moment(born), "{note}");

@@ -1,3 +1,4 @@
+//! Counts of faults, and the lists of calls that are to fail.
 ghost use Rattle.std.specs.Prelude.{◌≡◌, ◌≤◌};
 ghost use Rattle.hippo_io.specs.Faults.{counted};
 ghost use Rattle.hippo_io.specs.Playback.{new_tally, fails_next, after_call, after_fault};

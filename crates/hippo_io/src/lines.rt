@@ -1,3 +1,4 @@
+//! The input cut into lines, however its bytes arrive.
 ghost use Rattle.std.specs.Prelude.{◌≡◌, ◌≢◌, ℕ, List, ◌+◌, ◌-◌, ◌<◌, ◌≤◌, ◌↔◌, ◌⊎◌, length, take, drop, slice_range, true, [], Some, None, Err, OnOk, OnErr, IfOk, IfErr, IsErrOf, IsSome, IsTrue, MatchOption, position, ◌==◌};
 ghost use Rattle.std.specs.Borrow.{sem};
 ghost use Rattle.std.specs.Io.BufRead.{Rests, strip_last};

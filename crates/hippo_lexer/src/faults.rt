@@ -1,3 +1,4 @@
+//! Why a text has no tokens, and why tokens are no statement.
 ghost use Rattle.std.specs.Prelude.{◌≡◌};
 ghost use Rattle.hippo_lexer.specs.declared.faults.LexFault.TheVariants as lexing;
 ghost use Rattle.hippo_lexer.specs.declared.faults.SyntaxFault.TheVariants as syntax;

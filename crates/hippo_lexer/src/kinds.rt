@@ -1,3 +1,4 @@
+//! What a token says, and where it stands.
 use hippo_values::{DayNumber, Keyword, Name, Sequence, Txt};
 
 /// A sign of one or two bytes.

@@ -1,3 +1,4 @@
+//! The first token of a text by its kind: words, numbers, quoted texts, days and signs.
 ghost use Rattle.std.specs.Prelude.{◌≡◌, true, ◌+◌, ◌<◌, ◌≤◌, ◌^◌, length, drop, IfOk, IfSome};
 ghost use Rattle.std.specs.Char.{is_ascii_alphabetic};
 ghost use Rattle.hippo_values.specs.Names.{is_word_byte, is_word};

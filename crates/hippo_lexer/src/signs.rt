@@ -1,3 +1,4 @@
+//! The signs of one and two bytes.
 ghost use Rattle.std.specs.Prelude.{◌≡◌, bytes_eq};
 ghost use Rattle.std.specs.Map.{lookup};
 ghost use Rattle.hippo_lexer.specs.Spelling.{sign_table, sign_of};

@@ -1,3 +1,4 @@
+//! Whether the words of a statement are fit to be read.
 ghost use Rattle.std.specs.Prelude.{◌≡◌, ◌+◌, length, take, nat_lt, position};
 ghost use Rattle.std.specs.List.{list_any, range_with_len};
 ghost use Rattle.hippo_lexer.specs.Words.{opens, closes, negates, is_unsupported, count_of, is_steep, words_check};

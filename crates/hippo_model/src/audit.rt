@@ -1,3 +1,4 @@
+//! Audit expressions, and what an audit finds.
 use crate::cells::Cells;
 use crate::query::{CondOf, Operand, Refs};
 use crate::schema::Names;

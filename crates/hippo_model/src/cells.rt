@@ -1,3 +1,4 @@
+//! Rows, and the cells of an answer.
 ghost use Rattle.std.specs.Prelude.{◌≡◌, IfOk};
 ghost use Rattle.hippo_model.specs.declared.cells.Cell.TheVariants.{Shown};
 

@@ -1,3 +1,4 @@
+//! One row of each table of a statement, the order of joining, and patients' choices.
 ghost use Rattle.std.specs.Prelude.{◌≡◌, ◌<◌, ◌-◌, ◌↔◌, [], ◌∷◌, ◌++◌, length, take, option_map, slice_get, Some, IsTrue, OnOk, OnErr};
 
 use crate::cells::Cells;

@@ -1,3 +1,4 @@
+//! Lists of loans.
 ghost use Rattle.std.specs.Prelude.{◌≡◌, ◌<◌, ◌↔◌, [], ◌∷◌, ◌++◌, length, slice_get, Some, IsTrue, OnOk, OnErr};
 
 use crate::row_set::RowSet;

@@ -1,3 +1,4 @@
+//! Why a statement that is read has no meaning in a history.
 ghost use Rattle.std.specs.Prelude.{◌≡◌};
 ghost use Rattle.hippo_model.specs.declared.name_fault.NameFault.TheVariants as faults;
 

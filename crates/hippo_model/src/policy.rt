@@ -1,3 +1,4 @@
+//! What rules, authorizations and verdicts say, as of some entry number.
 use crate::schema::Places;
 use hippo_values::{Name, Sequence};
 

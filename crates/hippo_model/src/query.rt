@@ -1,3 +1,4 @@
+//! Queries and conditions once their columns are found, and with the policy written into them.
 ghost use Rattle.std.specs.Prelude.{◌≡◌, IfOk};
 ghost use Rattle.hippo_model.specs.declared.query.Operand.TheVariants.{Literal};
 ghost use Rattle.hippo_model.specs.declared.query.Form.TheVariants.{Grouped};

@@ -1,3 +1,4 @@
+//! Tables and their columns.
 use hippo_values::{Duplicate, Memory, Name, Sequence};
 use std::alloc::Global;
 

@@ -1,3 +1,4 @@
+//! Statements as they are written.
 use crate::audit::Pairs;
 use crate::cells::Cells;
 use crate::entry::{Act, ItemKind};

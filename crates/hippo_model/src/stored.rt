@@ -1,3 +1,4 @@
+//! Entries as they are kept.
 use hippo_values::{Bytes, Duplicate, Memory, Sequence, Txt};
 use std::alloc::Global;
 

@@ -79,7 +79,10 @@ fn main(rt: HostRuntime) -> io::Result<()> {
     let alloc = rt.alloc();
     let mut case = Case::new(alloc);
     for line in rt.lines(alloc) {
-        if case.take(alloc, line?.as_str()).map_err(|_| io::ErrorKind::OutOfMemory)? {
+        if case
+            .take(alloc, line?.as_str())
+            .map_err(|_| io::ErrorKind::OutOfMemory)?
+        {
             continue;
         }
         let (sink, status) = outcome(alloc, case).map_err(|_| io::ErrorKind::OutOfMemory)?;

@@ -1,3 +1,4 @@
+//! The history of the one table, and what is kept beside it.
 ghost use Rattle.std.specs.Prelude.{◌≡◌, ℕ, ◌+◌, ◌<◌, ◌⊎◌, ◌∷◌, [], length, nat_eq, slice_index, All, IfOk, OnOk, OnErr, Some, None};
 ghost use Rattle.std.specs.List.{list_any};
 ghost use Rattle.hippo_values.specs.declared.values.Value.TheVariants.{Int};

@@ -1,3 +1,4 @@
+//! Columns by their names, as places in a list of fixed room.
 ghost use Rattle.std.specs.Prelude.{◌≡◌, length, nat_le, ◌<◌, All, IfSome, option_map};
 ghost use Rattle.hippo_serve.specs.Pushes.{IsPushed};
 ghost use Rattle.hippo_serve.specs.Forms.{column_of, columns_of, where_holds};

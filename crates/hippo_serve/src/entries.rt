@@ -1,3 +1,4 @@
+//! Adding entries, and finding the last one that names a patient.
 ghost use Rattle.std.specs.Prelude.{◌≡◌, ◌+◌, ◌∷◌, [], length, unwrap_or, option_copied, IfOk, OnOk, OnErr};
 ghost use Rattle.hippo_values.specs.declared.values.Value.TheVariants.{Null, Int};
 ghost use Rattle.std.specs.Ordering.{is_eq};

@@ -1,3 +1,4 @@
+//! Replies, byte for byte.
 ghost use Rattle.std.specs.Prelude.{◌≡◌, ◌+◌, ◌∷◌, [], ◌++◌, ◌<◌, length, map, flat_map, decimal, codes, All, OnOk};
 ghost use Rattle.hippo_model.specs.declared.cells.Cell.TheVariants.{Shown, Denied};
 ghost use Rattle.hippo_serve.specs.Replies.{cell_text, cells_text, later_cells, row_line, answer_lines, ok_line, key_there_line};

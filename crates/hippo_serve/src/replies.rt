@@ -1,3 +1,4 @@
+//! The reply to a line, by what it asks for.
 ghost use Rattle.std.specs.Prelude.{◌≡◌, ◌==◌, ◌||◌, nat_eq, codes, IfSome};
 ghost use Rattle.std.specs.List.{list_all, starts_with};
 ghost use Rattle.hippo_serve.specs.Replies.{Effect, is_silent, IsEffect};

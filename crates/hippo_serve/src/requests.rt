@@ -1,3 +1,4 @@
+//! What a line asks for.
 ghost use Rattle.std.specs.Prelude.{◌≡◌, nat_eq, [], ◌∷◌, option_map, IfSome};
 ghost use Rattle.hippo_values.specs.Texts.{keeps_text_rule};
 ghost use Rattle.hippo_model.specs.Validity.{all_differ};

@@ -1,3 +1,4 @@
+//! The top call: each line of the input has its reply, and the run its ending.
 ghost use Rattle.std.specs.Prelude.{◌≡◌, ℕ, ◌<◌, ◌≤◌, List, [], Option, Some, None, MatchOption, IfNone, IfOk, ◌⊎◌, ◌≢◌, ◌∷◌, Any, IsTrue, IsFalse};
 ghost use Rattle.hippo_io.specs.Faults.{HasRisen};
 ghost use Rattle.hippo_io.specs.Told.{Appends, AppendsFront};

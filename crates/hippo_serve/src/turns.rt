@@ -1,3 +1,4 @@
+//! One line taken from the source and replied to.
 ghost use Rattle.std.specs.Prelude.{◌≡◌, ◌≢◌, ◌≤◌, Some, None, Err, IsErrOf};
 ghost use Rattle.hippo_io.specs.Faults.{HasRisen};
 ghost use Rattle.hippo_io.specs.declared.lines.LineFault.TheVariants.{Read};

@@ -1,3 +1,4 @@
+//! The built-in table, purpose, recipient and user.
 ghost use Rattle.std.specs.Prelude.{◌≡◌, IfOk};
 ghost use Rattle.hippo_values.specs.Names.{folded};
 

@@ -1,3 +1,4 @@
+//! A box that contracts see as what it holds.
 ghost use Rattle.std.specs.Prelude.{◌≡◌, IfOk};
 
 use crate::memory::Memory;

@@ -1,3 +1,4 @@
+//! Days and moments as texts, and back.
 ghost use Rattle.std.specs.Prelude.{◌≡◌, ◌≢◌, ◌<◌, ℕ, ℤ, pos, unsigned_abs, ◌+ℤ◌, ◌*ℤ◌, [], ◌∷◌, Some, IfSome, IfNone};
 ghost use Rattle.hippo_values.specs.Dates.{two_digits, date_text, clock_text, day_text, time_text, moment_text, HasDate, IsDayText, IsMomentText};
 ghost use Rattle.std.specs.Int.{int_div_euclid, int_rem_euclid};

@@ -1,3 +1,4 @@
+//! Want of memory, and copies that may meet it.
 ghost use Rattle.std.specs.Prelude.{◌≡◌, IfOk};
 
 use std::alloc::{AllocError, AllocFailed, Global};

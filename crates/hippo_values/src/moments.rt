@@ -1,3 +1,4 @@
+//! Days and moments of the years 0001 to 9999, by their numbers.
 ghost use Rattle.std.specs.Prelude.{◌≡◌, SomeIff};
 ghost use Rattle.hippo_values.specs.Moments.{IsDayNumber, IsMoment};
 

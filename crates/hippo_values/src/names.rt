@@ -1,3 +1,4 @@
+//! Names of tables, columns, purposes, recipients, items and users.
 ghost use Rattle.std.specs.Prelude.{◌≡◌, true, nat_eq, refl, Some, IsTrue, IfOk};
 ghost use Rattle.std.specs.Ordering.{nat_cmp};
 ghost use Rattle.std.specs.Cmp.{partial_equiv_from_equiv};

@@ -1,3 +1,4 @@
+//! SQL's three truth values, and comparisons.
 ghost use Rattle.std.specs.Prelude.{◌≡◌};
 ghost use Rattle.hippo_values.specs.Truths.{truth_and, truth_or, truth_not, is_allowed, truth_of, comparison};
 

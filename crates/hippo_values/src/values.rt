@@ -1,3 +1,4 @@
+//! The values of cells, and their order.
 ghost use Rattle.std.specs.Prelude.{◌≡◌, refl, Some, IfOk};
 ghost use Rattle.hippo_values.specs.Order.{kind_rank, value_cmp};
 ghost use Rattle.hippo_values.specs.OrderLaws.{value_total, value_ties, value_po};
