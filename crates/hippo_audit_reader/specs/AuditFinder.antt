@@ -1,5 +1,6 @@
 -- The audit expression that can be found at the front of a list of tokens, part by part: the longest one.
 use Rattle.std.specs.Prelude.{ℕ, Bool, true, false, List, [], ◌∷◌, option_to_list, Some, None}
+use Rattle.hippo_values.specs.Texts.{Txt}
 use Rattle.hippo_model.specs.declared.audit.Pair.{Pair}
 use Rattle.hippo_model.specs.declared.statement.RawAudit.{RawAudit}
 use Rattle.hippo_values.specs.declared.keywords.Keyword.TheVariants.{KAudit, KDuring, KFrom, KOtherthan, KShown, KTo}
@@ -14,7 +15,7 @@ use Rattle.hippo_spj_reader.specs.SelectFinder.{leading_where}
 use Rattle.hippo_spj_reader.specs.SelectGrammar.{whole_condition}
 
 -- the quoted text that stands first
-abbrev pub leading_quoted : Finds (List ℕ)
+abbrev pub leading_quoted : Finds Txt
 leading_quoted (Quoted text ∷ rest) = Some (text, rest)
 leading_quoted tokens = None
 
@@ -31,7 +32,7 @@ unfoldable pub leading_exempt : Finds (List Pair)
 leading_exempt tokens =
     either (after_keyword KOtherthan tokens) (leading_list leading_pair (after_symbol Comma)) (Some ([], tokens))
 
-abbrev pub period_of : List ℕ → List ℕ → Period
+abbrev pub period_of : Txt → Txt → Period
 period_of from to = record { from = from; to = to }
 
 unfoldable pub leading_period : Finds Period

@@ -1,6 +1,8 @@
 -- The grammar of audit expressions. Each relation says that the tokens begin with such a part, how it reads, and what
 -- follows it.
 use Rattle.std.specs.Prelude.{◌≡◌, ℕ, Bool, true, false, List, [], ◌∷◌, Option, option_to_list}
+use Rattle.hippo_values.specs.declared.names.Name.{Name}
+use Rattle.hippo_values.specs.Texts.{Txt}
 use Rattle.hippo_model.specs.declared.audit.Pair.{Pair}
 use Rattle.hippo_model.specs.declared.statement.RawAudit.{RawAudit}
 use Rattle.hippo_model.specs.declared.statement.RawColumn.{RawColumn}
@@ -14,7 +16,7 @@ use Rattle.hippo_spj_reader.specs.SelectGrammar.{IsWhere, whole_condition}
 
 -- pair = "(" p "," r ")"
 pub data IsPair : Kinds → Pair → Kinds → Type 0 where
-  pair : {purpose recipient : List ℕ} {rest : Kinds} →
+  pair : {purpose recipient : Name} {rest : Kinds} →
       IsPair (Symbol LeftParen ∷ Word purpose ∷ Symbol Comma ∷ Word recipient ∷ Symbol RightParen ∷ rest)
       (record { purpose = purpose; recipient = recipient }) rest
 
@@ -32,7 +34,7 @@ pub data IsShown : Kinds → Bool → Kinds → Type 0 where
 -- audit = DURING quoted TO quoted [OTHERTHAN pair {"," pair}]
 --         AUDIT [SHOWN] column {"," column} FROM t {"," t} [WHERE cond]
 pub data IsAudit : Kinds → RawAudit → Kinds → Type 0 where
-  audit : {start end : List ℕ} {exempt : List Pair} {shown : Bool} {columns : List RawColumn} {tables : List (List ℕ)}
+  audit : {start end : Txt} {exempt : List Pair} {shown : Bool} {columns : List RawColumn} {tables : List Name}
       {whole : RawCond} {last : Option RawCond} {tokens audited listed named behind rest : Kinds} →
       AreExempt tokens exempt (Keyword KAudit ∷ audited) →
       IsShown audited shown listed →

@@ -1,5 +1,6 @@
 -- The grammar of conditions. Each relation says that the tokens begin with such a part, how it reads, and what follows.
 use Rattle.std.specs.Prelude.{◌≡◌, ℕ, List, [], ◌∷◌, Some, None}
+use Rattle.hippo_values.specs.declared.names.Name.{Name}
 use Rattle.hippo_values.specs.declared.truths.CompareOp.{CompareOp}
 use Rattle.hippo_values.specs.declared.truths.CompareOp.TheVariants.{Eq, Ne, Lt, Le, Gt, Ge}
 use Rattle.hippo_values.specs.declared.values.Value.{Value}
@@ -20,9 +21,9 @@ RawCond = CondOf RawOperand
 
 -- column = c | t "." c
 pub data IsColumn : Kinds → RawColumn → Kinds → Type 0 where
-  bare : {column : List ℕ} {rest : Kinds} →
+  bare : {column : Name} {rest : Kinds} →
       IsColumn (Word column ∷ rest) (record { table = None; column = column }) rest
-  qualified : {table column : List ℕ} {rest : Kinds} →
+  qualified : {table column : Name} {rest : Kinds} →
       IsColumn (Word table ∷ Symbol Dot ∷ Word column ∷ rest) (record { table = Some table; column = column }) rest
 
 -- literal = number | quoted | day | NULL

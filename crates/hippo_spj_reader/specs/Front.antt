@@ -1,6 +1,8 @@
 -- What stands at the front of a list of tokens.
 use Rattle.std.specs.Prelude.{ℕ, Bool, List, ◌∷◌, map, Option, Some, None, if◌then◌else◌, slice_range, bytes_eq}
 use denote.Enum.Bare.{sameb}
+use Rattle.hippo_values.specs.declared.names.Name.{Name}
+use Rattle.hippo_values.specs.Texts.{Txt}
 use Rattle.hippo_values.specs.declared.values.Value.{Value}
 use Rattle.hippo_values.specs.declared.values.Value.TheVariants as value
 use Rattle.hippo_values.specs.contracts.keywords.Keyword as keywords
@@ -45,12 +47,12 @@ after_symbol symbol (Symbol first ∷ rest) = if same_symbol first symbol then S
 after_symbol symbol tokens = None
 
 -- what follows the word, a name, where it stands first
-abbrev pub after_word : List ℕ → Kinds → Option Kinds
+abbrev pub after_word : Txt → Kinds → Option Kinds
 after_word word (Word first ∷ rest) = if bytes_eq first word then Some rest else None
 after_word word tokens = None
 
 -- the name that stands first, and what follows it
-abbrev pub leading_name : Finds (List ℕ)
+abbrev pub leading_name : Finds Name
 leading_name (Word name ∷ rest) = Some (name, rest)
 leading_name tokens = None
 

@@ -1,12 +1,13 @@
 -- The grammar of lists of parts with a separator between them.
 use Rattle.std.specs.Prelude.{ℕ, List, [], ◌∷◌}
+use Rattle.hippo_values.specs.declared.names.Name.{Name}
 use Rattle.hippo_lexer.specs.declared.kinds.TokenKind.{TokenKind}
 use Rattle.hippo_lexer.specs.declared.kinds.TokenKind.TheVariants.{Word}
 use Rattle.hippo_spj_reader.specs.Front.{Kinds}
 
 -- a name
-pub data IsName : Kinds → List ℕ → Kinds → Type 0 where
-  name : {n : List ℕ} {rest : Kinds} → IsName (Word n ∷ rest) n rest
+pub data IsName : Kinds → Name → Kinds → Type 0 where
+  name : {n : Name} {rest : Kinds} → IsName (Word n ∷ rest) n rest
 
 -- part {separator part}: the tokens begin with such a list, these are its parts, and this follows it
 pub data IsListOf {X : Type 0} (IsPart : Kinds → X → Kinds → Type 0) (separator : TokenKind) :

@@ -1,5 +1,6 @@
 -- The select that can be found at the front of a list of tokens, part by part: the longest one.
 use Rattle.std.specs.Prelude.{ℕ, zero, suc, Bool, true, false, if◌then◌else◌, codes, List, [], ◌∷◌, ◌++◌, length, option_to_list, Option, Some, None}
+use Rattle.hippo_values.specs.declared.names.Name.{Name}
 use Rattle.hippo_model.specs.declared.statement.RawColumn.{RawColumn}
 use Rattle.hippo_model.specs.declared.statement.RawItem.{RawItem}
 use Rattle.hippo_model.specs.declared.statement.RawItem.TheVariants as item
@@ -23,7 +24,7 @@ use Rattle.hippo_spj_reader.specs.ListFinder.{leading_list}
 use Rattle.hippo_spj_reader.specs.SelectGrammar.{whole_condition, select_of}
 
 -- the table of `t.*`
-abbrev pub leading_whole_table : Finds (List ℕ)
+abbrev pub leading_whole_table : Finds Name
 leading_whole_table tokens = do
   table ← leading_name tokens
   behind ← after_symbol Dot table.1
@@ -79,7 +80,7 @@ each_of f (x ∷ xs) = do
 abbrev pub after_join : Kinds → Option Kinds
 after_join tokens = either (after_keyword KInner tokens) (after_keyword KJoin) (after_keyword KJoin tokens)
 
-abbrev pub joined_table : List ℕ → Option RawCond → JoinedTable
+abbrev pub joined_table : Name → Option RawCond → JoinedTable
 joined_table table on = record { table = table; on = on }
 
 abbrev pub leading_joined_by_comma : Finds JoinedTable
@@ -102,7 +103,7 @@ abbrev pub no_sources : Sources
 no_sources = record { names = []; conditions = [] }
 
 -- a table before others
-abbrev pub with_first : List ℕ → Option RawCond → Sources → Sources
+abbrev pub with_first : Name → Option RawCond → Sources → Sources
 with_first table on others =
     record { names = table ∷ others.names; conditions = option_to_list on ++ others.conditions }
 

@@ -1,8 +1,8 @@
 -- The grammar of selects. Each relation says that the tokens begin with such a part, how it reads, and what follows it.
 use Rattle.std.specs.Prelude.{◌≡◌, ℕ, List, [], ◌∷◌, ◌++◌, codes, option_to_list, Option, Some, None}
 use Rattle.std.specs.List.{flat_map}
-use Rattle.hippo_model.specs.declared.query.CondOf.{All, out-CondOf}
-use Rattle.hippo_model.specs.declared.query.CondOf.TheOpen as layer
+use Rattle.hippo_values.specs.declared.names.Name.{Name}
+use Rattle.hippo_model.specs.declared.query.CondOf.{All}
 use Rattle.hippo_model.specs.declared.statement.RawColumn.{RawColumn}
 use Rattle.hippo_model.specs.declared.statement.RawItem.{RawItem}
 use Rattle.hippo_model.specs.declared.statement.RawItem.TheVariants as item
@@ -15,6 +15,7 @@ use Rattle.hippo_model.specs.declared.statement.RawSelect.{RawSelect}
 use Rattle.hippo_values.specs.declared.keywords.Keyword.TheVariants.{KDistinct, KFrom, KGroup, KInner, KJoin, KMax, KMin, KOn, KSelect, KWhere}
 use Rattle.hippo_lexer.specs.declared.kinds.Symbol.TheVariants.{Comma, Dot, LeftParen, RightParen, Star}
 use Rattle.hippo_lexer.specs.declared.kinds.TokenKind.TheVariants.{Word, Keyword, Symbol}
+use Rattle.hippo_model.specs.Conditions.{outer_parts}
 use Rattle.hippo_spj_reader.specs.Front.{Kinds}
 use Rattle.hippo_spj_reader.specs.declared.selects.Scope.{Scope}
 use Rattle.hippo_spj_reader.specs.ConditionGrammar.{RawCond, IsColumn, IsCondition}
@@ -23,7 +24,7 @@ use Rattle.hippo_spj_reader.specs.ListGrammar.{IsListOf}
 -- item = column | t "." "*"
 pub data IsItem : Kinds → RawItem → Kinds → Type 0 where
   one_column : {c : RawColumn} {tokens rest : Kinds} → IsColumn tokens c rest → IsItem tokens (item.One c) rest
-  all_of_table : {table : List ℕ} {rest : Kinds} →
+  all_of_table : {table : Name} {rest : Kinds} →
       IsItem (Word table ∷ Symbol Dot ∷ Symbol Star ∷ rest) (item.AllOf table) rest
 
 -- items = "*" | item {"," item}
@@ -33,16 +34,16 @@ pub data AreItems : Kinds → List RawItem → Kinds → Type 0 where
       IsListOf IsItem (Symbol Comma) tokens items rest → AreItems tokens items rest
 
 -- {"," t | [INNER] JOIN t ON cond}: the tables, and the conditions of ON
-pub data AreJoined : Kinds → List (List ℕ) → List RawCond → Kinds → Type 0 where
+pub data AreJoined : Kinds → List Name → List RawCond → Kinds → Type 0 where
   no_more : {rest : Kinds} → AreJoined rest [] [] rest
-  comma : {table : List ℕ} {tables : List (List ℕ)} {conditions : List RawCond} {others rest : Kinds} →
+  comma : {table : Name} {tables : List Name} {conditions : List RawCond} {others rest : Kinds} →
       AreJoined others tables conditions rest →
       AreJoined (Symbol Comma ∷ Word table ∷ others) (table ∷ tables) conditions rest
-  join : {table : List ℕ} {tables : List (List ℕ)} {condition : RawCond} {conditions : List RawCond}
+  join : {table : Name} {tables : List Name} {condition : RawCond} {conditions : List RawCond}
       {on others rest : Kinds} →
       IsCondition on condition others → AreJoined others tables conditions rest →
       AreJoined (Keyword KJoin ∷ Word table ∷ Keyword KOn ∷ on) (table ∷ tables) (condition ∷ conditions) rest
-  inner_join : {table : List ℕ} {tables : List (List ℕ)} {condition : RawCond} {conditions : List RawCond}
+  inner_join : {table : Name} {tables : List Name} {condition : RawCond} {conditions : List RawCond}
       {on others rest : Kinds} →
       IsCondition on condition others → AreJoined others tables conditions rest →
       AreJoined (Keyword KInner ∷ Keyword KJoin ∷ Word table ∷ Keyword KOn ∷ on)
@@ -54,17 +55,13 @@ pub data IsWhere : Kinds → Option RawCond → Kinds → Type 0 where
   condition : {condition : RawCond} {tokens rest : Kinds} →
       IsCondition tokens condition rest → IsWhere (Keyword KWhere ∷ tokens) (Some condition) rest
 
--- what a condition of ON or WHERE gives to the whole: the parts of an All, else itself
-abbrev pub own_parts : RawCond → List RawCond
-own_parts c = elim (out-CondOf RawOperand c) [ layer.All parts ↦ parts | _ ↦ c ∷ [] ]
-
--- the conditions of ON and WHERE together are one All
+-- the conditions of ON and WHERE together are one All, in which an All among them is dissolved into its parts
 abbrev pub whole_condition : List RawCond → RawCond
-whole_condition conditions = All (flat_map own_parts conditions)
+whole_condition conditions = All (flat_map outer_parts conditions)
 
 -- FROM t {"," t | [INNER] JOIN t ON cond} [WHERE cond]: the tables, and the whole condition
 pub data IsScope : Kinds → Scope → Kinds → Type 0 where
-  scope : {table : List ℕ} {tables : List (List ℕ)} {whole : RawCond} {conditions : List RawCond}
+  scope : {table : Name} {tables : List Name} {whole : RawCond} {conditions : List RawCond}
       {last : Option RawCond} {joined behind rest : Kinds} →
       AreJoined joined tables conditions behind → IsWhere behind last rest →
       whole ≡ whole_condition (conditions ++ option_to_list last) →

@@ -5,7 +5,8 @@ ghost use Rattle.hippo_model.specs.declared.statement.RawSelect.{RawSelect};
 ghost use Rattle.hippo_lexer.specs.Words.{words_check};
 ghost use Rattle.hippo_spj_reader.specs.Promises.{Gives, Reads, Passes, ReadsAll};
 ghost use Rattle.hippo_spj_reader.specs.Front.{kinds, kinds_between};
-ghost use Rattle.hippo_spj_reader.specs.SelectGrammar.{own_parts, whole_condition, IsSelect};
+ghost use Rattle.hippo_spj_reader.specs.SelectGrammar.{whole_condition, IsSelect};
+ghost use Rattle.hippo_model.specs.Conditions.{outer_parts};
 ghost use Rattle.hippo_spj_reader.specs.SelectFinder.{leading_whole_table, leading_item, leading_argument, leading_member, leading_members, out_of, each_of, after_join, leading_joined_by_comma, leading_joined_on, leading_joined, leading_sources, leading_where, leading_scope, leading_draft_of, leading_draft, ungrouped, leading_grouped, leading_select};
 
 use crate::conditions::{ColumnPart, column, condition};
@@ -234,7 +235,7 @@ fn add_condition(list: &mut Conditions, condition: Option<RawCond>) -> Result<()
 }
 
 fn add_parts(list: &mut Conditions, condition: RawCond) -> Result<(), Memory>
-    ensures { OnOk result (list.new ≡ list.old ++ own_parts condition) }
+    ensures { OnOk result (list.new ≡ list.old ++ outer_parts condition) }
 {
     match condition {
         CondOf::All(members) => append(list, members),

@@ -1,5 +1,6 @@
 -- The statement that can be found in a list of tokens, part by part.
 use Rattle.std.specs.Prelude.{ℕ, ℤ, pos, ◌-◌, Bool, true, false, ◌&&◌, nat_lt, nat_le, List, [], ◌∷◌, length, take, drop, Option, Some, None, slice_get, if◌then◌else◌, codes}
+use Rattle.hippo_values.specs.declared.names.Name.{Name}
 use Rattle.hippo_values.specs.Limits.{retention_limit}
 use Rattle.hippo_values.specs.declared.values.Value.{Value}
 use Rattle.hippo_model.specs.declared.entry.ItemKind.{ItemKind}
@@ -61,21 +62,21 @@ abbrev pub after_column : Kinds → Option (Kinds)
 after_column tokens = after_symbol Comma tokens >>= λ behind. if begins_with_name behind then Some behind else None
 
 -- "(" c {"," c} ")"
-unfoldable pub leading_names : Finds (List (List ℕ))
+unfoldable pub leading_names : Finds (List Name)
 leading_names tokens = do
   inside ← after_symbol LeftParen tokens
   names ← leading_list leading_name (after_symbol Comma) inside
   rest ← after_symbol RightParen names.1
   Some (names.0, rest)
 
-unfoldable pub leading_subject : Finds (Option (List ℕ))
+unfoldable pub leading_subject : Finds (Option Name)
 leading_subject tokens =
     either (after_symbol Comma tokens) (λ behind. do
       named ← after_keyword KSubject behind
       c ← leading_name named
       Some (Some c.0, c.1)) (Some (None, tokens))
 
-unfoldable pub leading_item : Finds (Option (List ℕ))
+unfoldable pub leading_item : Finds (Option Name)
 leading_item tokens =
     either (after_keyword KWith tokens) (λ behind. leading_name behind >>= λ i. Some (Some i.0, i.1))
     (Some (None, tokens))
@@ -98,7 +99,7 @@ leading_retention tokens =
       rest ← after_word (codes "days") number.1
       Some (Some days, rest)) (Some (None, tokens))
 
-unfoldable pub leading_assignment : Finds (List ℕ × Value)
+unfoldable pub leading_assignment : Finds (Name × Value)
 leading_assignment tokens = do
   c ← leading_name tokens
   behind ← after_symbol Equal c.1

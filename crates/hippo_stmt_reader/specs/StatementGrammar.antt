@@ -1,5 +1,6 @@
 -- The grammar of statements. A relation says that the tokens begin with such a part, how it reads, and what follows it.
 use Rattle.std.specs.Prelude.{◌≡◌, ℕ, ◌<◌, ◌≤◌, ℤ, pos, ◌-◌, true, false, List, [], ◌∷◌, ◌++◌, length, map, Option, Some, None, Ok, Err, slice_get, codes}
+use Rattle.hippo_values.specs.declared.names.Name.{Name}
 use Rattle.hippo_values.specs.Limits.{retention_limit}
 use Rattle.hippo_values.specs.declared.values.Value.{Value}
 use Rattle.hippo_model.specs.declared.entry.ItemKind.TheVariants.{OptIn, OptOut}
@@ -32,22 +33,22 @@ pub data IsColumnKind : words.Keyword → ColumnKind → Type 0 where
 
 -- coldef = c (INTEGER | TEXT | DATE) [NOT NULL]
 pub data IsColumnDef : Kinds → Column → Kinds → Type 0 where
-  nullable : {c : List ℕ} {k : ColumnKind} {word : words.Keyword} {rest : Kinds} → IsColumnKind word k →
+  nullable : {c : Name} {k : ColumnKind} {word : words.Keyword} {rest : Kinds} → IsColumnKind word k →
       IsColumnDef (Word c ∷ Keyword word ∷ rest) (record { name = c; kind = k; not_null = false }) rest
-  not_null : {c : List ℕ} {k : ColumnKind} {word : words.Keyword} {rest : Kinds} → IsColumnKind word k →
+  not_null : {c : Name} {k : ColumnKind} {word : words.Keyword} {rest : Kinds} → IsColumnKind word k →
       IsColumnDef (Word c ∷ Keyword word ∷ Keyword KNot ∷ Keyword KNull ∷ rest)
       (record { name = c; kind = k; not_null = true }) rest
 
 -- ["," SUBJECT c]
-pub data IsSubject : Kinds → Option (List ℕ) → Kinds → Type 0 where
+pub data IsSubject : Kinds → Option Name → Kinds → Type 0 where
   no_subject : {rest : Kinds} → IsSubject rest None rest
-  subject : {c : List ℕ} {rest : Kinds} →
+  subject : {c : Name} {rest : Kinds} →
       IsSubject (Symbol Comma ∷ Keyword KSubject ∷ Word c ∷ rest) (Some c) rest
 
 -- [WITH i]
-pub data IsWith : Kinds → Option (List ℕ) → Kinds → Type 0 where
+pub data IsWith : Kinds → Option Name → Kinds → Type 0 where
   no_item : {rest : Kinds} → IsWith rest None rest
-  with_item : {i : List ℕ} {rest : Kinds} → IsWith (Keyword KWith ∷ Word i ∷ rest) (Some i) rest
+  with_item : {i : Name} {rest : Kinds} → IsWith (Keyword KWith ∷ Word i ∷ rest) (Some i) rest
 
 -- [RETAIN n DAYS], from one day to the most
 pub data IsRetention : Kinds → Option ℕ → Kinds → Type 0 where
@@ -56,32 +57,32 @@ pub data IsRetention : Kinds → Option ℕ → Kinds → Type 0 where
       IsRetention (Word (codes "retain") ∷ Number (pos days) ∷ Word (codes "days") ∷ rest) (Some days) rest
 
 -- c "=" literal
-pub data IsAssignment : Kinds → List ℕ × Value → Kinds → Type 0 where
-  assignment : {c : List ℕ} {v : Value} {tokens rest : Kinds} →
+pub data IsAssignment : Kinds → Name × Value → Kinds → Type 0 where
+  assignment : {c : Name} {v : Value} {tokens rest : Kinds} →
       IsLiteral tokens v rest → IsAssignment (Word c ∷ Symbol Equal ∷ tokens) (c, v) rest
 
 -- c "=" literal {AND c "=" literal}
-abbrev pub AreKeys : Kinds → List (List ℕ × Value) → Kinds → Type 0
+abbrev pub AreKeys : Kinds → List (Name × Value) → Kinds → Type 0
 AreKeys tokens keys rest = IsListOf IsAssignment (Keyword KAnd) tokens keys rest
 
 -- c "=" literal {"," c "=" literal}
-abbrev pub AreSettings : Kinds → List (List ℕ × Value) → Kinds → Type 0
+abbrev pub AreSettings : Kinds → List (Name × Value) → Kinds → Type 0
 AreSettings tokens settings rest = IsListOf IsAssignment (Symbol Comma) tokens settings rest
 
 -- c {"," c}
-abbrev pub AreNames : Kinds → List (List ℕ) → Kinds → Type 0
+abbrev pub AreNames : Kinds → List Name → Kinds → Type 0
 AreNames tokens names rest = IsListOf IsName (Symbol Comma) tokens names rest
 
-abbrev pub columns_of : List (List ℕ × Value) → List (List ℕ)
-columns_of assignments = map (λ (assignment : List ℕ × Value). assignment.0) assignments
+abbrev pub columns_of : List (Name × Value) → List Name
+columns_of assignments = map (λ (assignment : Name × Value). assignment.0) assignments
 
-abbrev pub values_of : List (List ℕ × Value) → List Value
-values_of assignments = map (λ (assignment : List ℕ × Value). assignment.1) assignments
+abbrev pub values_of : List (Name × Value) → List Value
+values_of assignments = map (λ (assignment : Name × Value). assignment.1) assignments
 
 -- the statements of the console
 pub data IsConsole : Kinds → Stmt → Kinds → Type 0 where
   -- CREATE TABLE t "(" coldef {"," coldef} "," PRIMARY KEY "(" c {"," c} ")" ["," SUBJECT c] ")"
-  create_table : {table : List ℕ} {columns : List Column} {key : List (List ℕ)} {subject : Option (List ℕ)}
+  create_table : {table : Name} {columns : List Column} {key : List Name} {subject : Option Name}
       {defs keys behind rest : Kinds} →
       IsListOf IsColumnDef (Symbol Comma) defs columns
       (Symbol Comma ∷ Keyword KPrimary ∷ Keyword KKey ∷ Symbol LeftParen ∷ keys) →
@@ -90,28 +91,28 @@ pub data IsConsole : Kinds → Stmt → Kinds → Type 0 where
       IsConsole (Keyword KCreate ∷ Keyword KTable ∷ Word table ∷ Symbol LeftParen ∷ defs)
       (stmt.CreateTable table columns key subject) rest
   -- CREATE PURPOSE p | CREATE RECIPIENT r
-  create_purpose : {purpose : List ℕ} {rest : Kinds} →
+  create_purpose : {purpose : Name} {rest : Kinds} →
       IsConsole (Keyword KCreate ∷ Keyword KPurpose ∷ Word purpose ∷ rest) (stmt.CreatePurpose purpose) rest
-  create_recipient : {recipient : List ℕ} {rest : Kinds} →
+  create_recipient : {recipient : Name} {rest : Kinds} →
       IsConsole (Keyword KCreate ∷ Keyword KRecipient ∷ Word recipient ∷ rest)
       (stmt.CreateRecipient recipient) rest
   -- CREATE ITEM i OPT IN | CREATE ITEM i OPT OUT
-  create_opt_in : {item : List ℕ} {rest : Kinds} →
+  create_opt_in : {item : Name} {rest : Kinds} →
       IsConsole (Keyword KCreate ∷ Keyword KItem ∷ Word item ∷ Keyword KOpt ∷ Keyword KIn ∷ rest)
       (stmt.CreateItem item OptIn) rest
-  create_opt_out : {item : List ℕ} {rest : Kinds} →
+  create_opt_out : {item : Name} {rest : Kinds} →
       IsConsole (Keyword KCreate ∷ Keyword KItem ∷ Word item ∷ Keyword KOpt ∷ Keyword KOut ∷ rest)
       (stmt.CreateItem item OptOut) rest
   -- AUTHORIZE u FOR p "," r | DEAUTHORIZE u FOR p "," r
-  authorize : {user purpose recipient : List ℕ} {rest : Kinds} →
+  authorize : {user purpose recipient : Name} {rest : Kinds} →
       IsConsole (Keyword KAuthorize ∷ Word user ∷ Keyword KFor ∷ Word purpose ∷ Symbol Comma ∷ Word recipient ∷ rest)
       (stmt.Authorize user purpose recipient) rest
-  deauthorize : {user purpose recipient : List ℕ} {rest : Kinds} →
+  deauthorize : {user purpose recipient : Name} {rest : Kinds} →
       IsConsole (Keyword KDeauthorize ∷ Word user ∷ Keyword KFor ∷ Word purpose
       ∷ Symbol Comma ∷ Word recipient ∷ rest)
       (stmt.Deauthorize user purpose recipient) rest
   -- ALLOW p TO r ON t "(" c {"," c} ")" [WITH i] [RETAIN n DAYS]
-  allow : {purpose recipient table : List ℕ} {columns : List (List ℕ)} {item : Option (List ℕ)} {days : Option ℕ}
+  allow : {purpose recipient table : Name} {columns : List Name} {item : Option Name} {days : Option ℕ}
       {named behind kept rest : Kinds} →
       AreNames named columns (Symbol RightParen ∷ behind) →
       IsWith behind item kept →
@@ -120,31 +121,31 @@ pub data IsConsole : Kinds → Stmt → Kinds → Type 0 where
       ∷ Keyword KOn ∷ Word table ∷ Symbol LeftParen ∷ named)
       (stmt.Allow purpose recipient table columns item days) rest
   -- REVOKE p TO r ON t "(" c {"," c} ")"
-  revoke : {purpose recipient table : List ℕ} {columns : List (List ℕ)} {named rest : Kinds} →
+  revoke : {purpose recipient table : Name} {columns : List Name} {named rest : Kinds} →
       AreNames named columns (Symbol RightParen ∷ rest) →
       IsConsole (Keyword KRevoke ∷ Word purpose ∷ Keyword KTo ∷ Word recipient
       ∷ Keyword KOn ∷ Word table ∷ Symbol LeftParen ∷ named)
       (stmt.Revoke purpose recipient table columns) rest
   -- CHOICE number ON i IS (YES | NO)
-  choice_yes : {n : ℤ} {item : List ℕ} {rest : Kinds} →
+  choice_yes : {n : ℤ} {item : Name} {rest : Kinds} →
       IsConsole (Keyword KChoice ∷ Number n ∷ Keyword KOn ∷ Word item ∷ Keyword KIs ∷ Keyword KYes ∷ rest)
       (stmt.Choice n item true) rest
-  choice_no : {n : ℤ} {item : List ℕ} {rest : Kinds} →
+  choice_no : {n : ℤ} {item : Name} {rest : Kinds} →
       IsConsole (Keyword KChoice ∷ Number n ∷ Keyword KOn ∷ Word item ∷ Keyword KIs ∷ Keyword KNo ∷ rest)
       (stmt.Choice n item false) rest
   -- INSERT INTO t VALUES "(" literal {"," literal} ")"
-  insert : {table : List ℕ} {values : List Value} {tokens rest : Kinds} →
+  insert : {table : Name} {values : List Value} {tokens rest : Kinds} →
       IsListOf IsLiteral (Symbol Comma) tokens values (Symbol RightParen ∷ rest) →
       IsConsole (Keyword KInsert ∷ Keyword KInto ∷ Word table ∷ Keyword KValues ∷ Symbol LeftParen ∷ tokens)
       (stmt.Insert table values) rest
   -- UPDATE t SET c "=" literal {"," c "=" literal} WHERE keys
-  update : {s : Stmt} {table : List ℕ} {settings keys : List (List ℕ × Value)} {tokens behind rest : Kinds} →
+  update : {s : Stmt} {table : Name} {settings keys : List (Name × Value)} {tokens behind rest : Kinds} →
       AreSettings tokens settings (Keyword KWhere ∷ behind) →
       AreKeys behind keys rest →
       s ≡ stmt.Update table (columns_of settings) (values_of settings) (columns_of keys) (values_of keys) →
       IsConsole (Keyword KUpdate ∷ Word table ∷ Keyword KSet ∷ tokens) s rest
   -- DELETE FROM t WHERE keys
-  delete : {s : Stmt} {table : List ℕ} {keys : List (List ℕ × Value)} {tokens rest : Kinds} →
+  delete : {s : Stmt} {table : Name} {keys : List (Name × Value)} {tokens rest : Kinds} →
       AreKeys tokens keys rest →
       s ≡ stmt.Delete table (columns_of keys) (values_of keys) →
       IsConsole (Keyword KDelete ∷ Keyword KFrom ∷ Word table ∷ Keyword KWhere ∷ tokens) s rest
