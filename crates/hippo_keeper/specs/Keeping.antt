@@ -1,0 +1,51 @@
+-- What a keeper's calls do to the stored entries that it keeps, and to what survives a stop.
+use Rattle.std.specs.Prelude.{◌≡◌, ℕ, ◌+◌, ◌<◌, ◌⊎◌, ⊤, Bool, false, List, [], ◌∷◌, ◌++◌}
+use Rattle.hippo_model.specs.declared.stored.StoredEntry.{StoredEntry}
+
+-- a keeper on which a call may be made: sound, started or not, and neither closed nor spent
+pub record IsReady (is_started : Bool) (sound : Type 0) (started closed spent : Bool) : Type 0 where
+  pub is_sound : sound
+  pub stage : started ≡ is_started
+  pub unclosed : closed ≡ false
+  pub unspent : spent ≡ false
+
+-- each entry's number is above the one before it, and the first above this one
+abbrev pub RisesAbove : ℕ → List StoredEntry → Type 0
+RisesAbove number [] = ⊤
+RisesAbove number (entry ∷ rest) = (number < entry.seq) × RisesAbove entry.seq rest
+
+-- the number of the last entry, or this one where there is none
+abbrev pub last_number : ℕ → List StoredEntry → ℕ
+last_number number [] = number
+last_number number (entry ∷ rest) = last_number entry.seq rest
+
+-- the number of the next entry
+abbrev pub next_number : List StoredEntry → ℕ
+next_number kept = last_number 0 kept + 1
+
+-- a stop now leaves this list
+pub record OnlySurvives (kept : List StoredEntry) (survives : List StoredEntry → Type 0) : Type 0 where
+  pub survives_stop : survives kept
+  pub alone : (list : List StoredEntry) → survives list → list ≡ kept
+
+-- a start that went well: what is kept was found, has numbers that rise from above 0, and survives a stop
+pub record Starts (finds : List StoredEntry → Type 0) (kept : List StoredEntry) (survives : List StoredEntry → Type 0) : Type 0 where
+  pub found : finds kept
+  pub order : RisesAbove 0 kept
+  pub stop : OnlySurvives kept survives
+
+-- an append that went well: one more entry is kept, and survives a stop with those before it
+pub record Appends (before : List StoredEntry) (entry : StoredEntry) (after : List StoredEntry) (survives : List StoredEntry → Type 0) : Type 0 where
+  pub longer : after ≡ before ++ entry ∷ []
+  pub stop : OnlySurvives after survives
+
+-- an append that failed: the old list is kept or the longer one, and of these at most the longer one survives a stop anew
+pub record AppendsOrNot (before : List StoredEntry) (survived : List StoredEntry → Type 0) (entry : StoredEntry) (after : List StoredEntry) (survives : List StoredEntry → Type 0) : Type 0 where
+  pub either : (after ≡ before) ⊎ (after ≡ before ++ entry ∷ [])
+  pub stop : (list : List StoredEntry) → survives list → survived list ⊎ (list ≡ before ++ entry ∷ [])
+
+-- a call that changes nothing: the same list is kept, and no other list survives a stop than before, but one does
+pub record Stays (before : List StoredEntry) (survived : List StoredEntry → Type 0) (after : List StoredEntry) (survives : List StoredEntry → Type 0) : Type 0 where
+  pub same : after ≡ before
+  pub stop : (list : List StoredEntry) → survives list → survived list
+  pub some : ∥ (list : List StoredEntry) × survives list ∥₁

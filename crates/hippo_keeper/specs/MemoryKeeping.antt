@@ -1,0 +1,65 @@
+-- What a keeper in memory is, and what a call does to it.
+use Rattle.std.specs.Prelude.{◌≡◌, ℕ, Bool, true, false, not, ◌&&◌, ◌==◌, List, [], ◌∷◌, ◌++◌, find, Option, option_map, is_ok, Result, if◌then◌else◌}
+use Rattle.std.specs.Option.{option_map_or}
+use Rattle.hippo_io.specs.Faults.{counted}
+use Rattle.hippo_model.specs.declared.stored.StoredEntry.{StoredEntry}
+use Rattle.hippo_keeper.specs.Answering.{has_failed, wants_memory}
+use Rattle.hippo_keeper.specs.declared.faults.KeeperFail.{KeeperFail}
+use Rattle.hippo_keeper.specs.declared.faults.KeeperFault.{KeeperFault}
+
+pub record MemoryStore : Type 0 where
+  pub kept : List StoredEntry
+  -- which calls are to fail, counted from 1
+  pub failing : List KeeperFail
+  -- how many calls were made, and how many faults there were
+  pub made : ℕ
+  pub faults : ℕ
+  pub started : Bool
+  pub spent : Bool
+
+-- a keeper of these entries on which no call was made
+abbrev pub new_store : List StoredEntry → List KeeperFail → MemoryStore
+new_store kept failing =
+    record { kept = kept; failing = failing; made = 0; faults = 0; started = false; spent = false }
+
+-- whether the next call is to fail, and whether an append then keeps its entry
+abbrev pub next_failure : MemoryStore → Option Bool
+next_failure store = option_map (λ fail. fail.keeps) (find (λ fail. fail.call == counted store.made) store.failing)
+
+-- after one more call
+abbrev pub after_call : MemoryStore → MemoryStore
+after_call store = record store { made = counted store.made }
+
+-- after one more fault
+abbrev pub after_fault : MemoryStore → MemoryStore
+after_fault store = record store { faults = counted store.faults; spent = true }
+
+-- after a call with this answer
+abbrev pub after_answer : {A : Type 0} → Result A KeeperFault → MemoryStore → MemoryStore
+after_answer result store = if has_failed result then after_fault (after_call store) else after_call store
+
+-- the same for a start
+abbrev pub after_start : {A : Type 0} → Result A KeeperFault → MemoryStore → MemoryStore
+after_start result store = record (after_answer result store) { started = is_ok result }
+
+-- with one more entry
+abbrev pub with_entry : StoredEntry → MemoryStore → MemoryStore
+with_entry entry store = record store { kept = store.kept ++ entry ∷ [] }
+
+-- whether the next append keeps its entry, if it finds memory for it
+abbrev pub keeps_next : MemoryStore → Bool
+keeps_next store = option_map_or (λ keeps. keeps) (next_failure store) true
+
+-- the same for an append
+abbrev pub after_append : {A : Type 0} → Result A KeeperFault → StoredEntry → MemoryStore → MemoryStore
+after_append result entry store =
+    if keeps_next store && not (wants_memory result)
+    then with_entry entry (after_answer result store)
+    else after_answer result store
+
+-- what a start finds, whatever the name, and what survives a stop: the kept list
+abbrev pub FindsInMemory : MemoryStore → List ℕ → List StoredEntry → Type 0
+FindsInMemory store name list = list ≡ store.kept
+
+abbrev pub SurvivesInMemory : MemoryStore → List StoredEntry → Type 0
+SurvivesInMemory store list = list ≡ store.kept

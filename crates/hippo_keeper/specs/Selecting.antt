@@ -1,0 +1,35 @@
+-- What the reads of a keeper hand over.
+use Rattle.std.specs.Prelude.{ℕ, Bool, true, false, ◌&&◌, ◌||◌, ◌==◌, List, filter, take, count_by, nat_lt, int_le, bytes_eq}
+use Rattle.hippo_values.specs.declared.moments.Moment.{Moment}
+use Rattle.hippo_values.specs.declared.names.Name.{Name}
+use Rattle.hippo_model.specs.declared.stored.StoredEntry.{StoredEntry}
+use Rattle.hippo_keeper.specs.declared.selection.Selection.{Selection}
+use Rattle.hippo_keeper.specs.declared.selection.Selection.TheVariants.{All, VersionsOf, AskedIn}
+
+-- the kinds of an insert, an update and a delete
+abbrev pub is_stored_version : StoredEntry → Bool
+is_stored_version entry = entry.kind == 2 || entry.kind == 3 || entry.kind == 4
+
+abbrev pub is_version_of : Name → StoredEntry → Bool
+is_version_of table entry = is_stored_version entry && bytes_eq entry.table table
+
+-- the kind of a question, and a moment of the period
+abbrev pub was_asked_in : Moment → Moment → StoredEntry → Bool
+was_asked_in from to entry = entry.kind == 13 && int_le from entry.moment && int_le entry.moment to
+
+abbrev pub is_any : StoredEntry → Bool
+is_any entry = true
+
+-- the first so many kept entries above a number that pass a test
+abbrev pub handed_over : (StoredEntry → Bool) → ℕ → ℕ → List StoredEntry → List StoredEntry
+handed_over test after max kept = take max (filter test (filter (λ entry. nat_lt after entry.seq) kept))
+
+-- how many of the entries are versions
+abbrev pub stored_versions : List StoredEntry → ℕ
+stored_versions list = count_by is_stored_version list
+
+-- the test of a read
+abbrev pub is_selected : Selection → StoredEntry → Bool
+is_selected All entry = is_any entry
+is_selected (VersionsOf table) entry = is_version_of table.now entry
+is_selected (AskedIn from to) entry = was_asked_in from to entry

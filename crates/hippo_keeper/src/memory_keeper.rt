@@ -1,0 +1,258 @@
+//! A keeper in memory that tells what it keeps, and fails where it is told to.
+ghost use Rattle.std.specs.Prelude.{◌≡◌, ℕ, ◌+◌, Bool, true, false, List, [], filter, Some, is_some, nat_lt, IfOk, OnOk, OnErr, ⊤};
+ghost use Rattle.hippo_model.specs.declared.stored.StoredEntry.{StoredEntry};
+ghost use Rattle.hippo_keeper.specs.Answering.{has_failed, wants_memory};
+ghost use Rattle.hippo_keeper.specs.Keeping.{RisesAbove, next_number};
+ghost use Rattle.hippo_keeper.specs.MemoryKeeping.{new_store, next_failure, after_call, after_fault, after_answer, after_start, after_append, with_entry, FindsInMemory, SurvivesInMemory};
+ghost use Rattle.hippo_keeper.specs.Selecting.{is_any, is_version_of, was_asked_in, is_selected, handed_over, stored_versions};
+
+use crate::faults::{KeeperFails, KeeperFault};
+use crate::keeper::Keeper;
+use crate::selection::{Selection, count_versions, select};
+use crate::steps::Steps;
+use hippo_model::{StoredEntry, StoredList};
+use hippo_values::{Duplicate, Memory, Moment, Name};
+use std::alloc::Global;
+use std::marker::Model;
+use std::sync::ledger::Ledger;
+
+/// A keeper that holds its entries in memory and fails at the calls that it is told.
+#[derive(Debug, Drop)]
+pub struct MemoryKeeper {
+    kept: StoredList,
+    failing: KeeperFails,
+    made: u64,
+    faults: u64,
+    started: bool,
+    spent: bool,
+}
+
+impl Model for MemoryKeeper {
+    ghost use Rattle.hippo_keeper.specs.Keeping.{RisesAbove};
+    ghost use Rattle.hippo_keeper.specs.MemoryKeeping.{MemoryStore};
+
+    ghost Value = { MemoryStore };
+
+    ghost view = { λ keeper. record {
+      kept = keeper.kept;
+      failing = keeper.failing;
+      made = keeper.made;
+      faults = keeper.faults;
+      started = keeper.started;
+      spent = keeper.spent;
+    } };
+
+    ghost invariant = { λ keeper. RisesAbove 0 keeper.kept };
+}
+
+impl MemoryKeeper {
+    /// A keeper of these entries, whose numbers begin above 0 and rise. Of all calls of the trait `Keeper`, counted from 1,
+    /// those fail that are in `failing`.
+    pub fn new(kept: StoredList, failing: KeeperFails) -> MemoryKeeper
+        requires { RisesAbove 0 kept }
+        ensures { result ≡ new_store kept failing }
+    {
+        MemoryKeeper {
+            kept,
+            failing,
+            made: 0,
+            faults: 0,
+            started: false,
+            spent: false,
+        }
+    }
+
+    /// The entries that are kept, in the order of their numbers.
+    pub fn kept(&self) -> &StoredList
+        ensures kept { result.now ≡ self.now.kept }
+        ensures order { RisesAbove 0 result.now }
+    {
+        &self.kept
+    }
+
+    /// A new keeper of what survives a stop, on which no call fails.
+    pub fn restart(self) -> MemoryKeeper
+        ensures new { result ≡ new_store self.kept [] }
+        ensures survived { SurvivesInMemory self result.kept }
+        ensures finds { (name : List ℕ) (list : List StoredEntry) → FindsInMemory result name list → SurvivesInMemory self list }
+    {
+        let mut failing = self.failing;
+        failing.clear();
+        MemoryKeeper::new(self.kept, failing)
+    }
+
+    // Counts a call, and answers whether it is to fail, and whether an append then keeps its entry.
+    fn begin_call(&mut self) -> Option<bool>
+        ensures failure { result ≡ next_failure self.old }
+        ensures counted { self.new ≡ after_call self.old }
+    {
+        self.made = self.made.saturating_add(1);
+        let number = self.made;
+        let failure = self
+            .failing
+            .as_slice()
+            .iter()
+            .find(|fail| fail.call == number);
+        failure.map(|fail| fail.keeps)
+    }
+
+    // Counts a fault, and makes no more calls.
+    fn fail(&mut self) -> KeeperFault
+        ensures fault { result ≡ Failed }
+        ensures counted { self.new ≡ after_fault self.old }
+    {
+        self.faults = self.faults.saturating_add(1);
+        self.spent = true;
+        KeeperFault::Failed
+    }
+
+    // The kept entries whose numbers are above this one.
+    fn entries_above(&self, after: u64) -> &[StoredEntry]
+        ensures above { result.now ≡ filter (λ entry. nat_lt after entry.seq) self.now.kept }
+        ensures order { RisesAbove after result.now }
+    {
+        let kept = self.kept.as_slice();
+        let place = kept.partition_point(|entry| entry.seq <= after);
+        &kept[place..]
+    }
+
+    fn read(
+        &mut self,
+        alloc: Global,
+        selection: &Selection<'_>,
+        after: u64,
+        max: u64,
+    ) -> Result<StoredList, KeeperFault>
+        ensures store { self.new ≡ after_answer result self.old }
+        ensures fails { has_failed result ≡ is_some (next_failure self.old) }
+        ensures read { IfOk result (λ list. list ≡ handed_over (is_selected selection.now) after max self.old.kept) }
+        ensures order { IfOk result (λ list. RisesAbove after list) }
+    {
+        if self.begin_call().is_some() {
+            return Err(self.fail());
+        }
+        match select(alloc, self.entries_above(after), selection, max) {
+            Ok(list) => Ok(list),
+            Err(_) => Err(KeeperFault::Memory),
+        }
+    }
+
+    // Keeps a copy of an entry.
+    fn keep(&mut self, alloc: Global, entry: &StoredEntry) -> Result<(), Memory>
+        requires { entry.now.seq ≡ next_number self.old.kept }
+        ensures ok { OnOk result (self.new ≡ with_entry entry.now self.old) }
+        ensures err { OnErr result (self.new ≡ self.old) }
+    {
+        let copy = entry.copy(alloc)?;
+        self.kept.push(copy)
+    }
+}
+
+impl Keeper for MemoryKeeper {
+    ghost tells = { λ keeper. ⊤ };
+
+    ghost kept = { λ keeper. keeper.kept };
+
+    ghost started = { λ keeper. keeper.started };
+
+    ghost closed = { λ keeper. false };
+
+    ghost spent = { λ keeper. keeper.spent };
+
+    ghost survives = { SurvivesInMemory };
+
+    ghost finds = { FindsInMemory };
+
+    ghost faults = { λ keeper. keeper.faults };
+
+    ghost sound = { λ keeper. ⊤ };
+
+    fn start(&mut self, _alloc: Global, _name: &str) -> Result<(), KeeperFault>
+        ensures store { self.new ≡ after_start result self.old }
+        ensures fails { has_failed result ≡ is_some (next_failure self.old) }
+        ensures order { RisesAbove 0 self.new.kept }
+        ensures memory { wants_memory result ≡ false }
+        ensures unspent { self.old.spent ≡ false → self.new.spent ≡ has_failed result }
+    {
+        if self.begin_call().is_some() {
+            self.started = false;
+            return Err(self.fail());
+        }
+        self.started = true;
+        Ok(())
+    }
+
+    fn append(&mut self, alloc: Global, entry: &StoredEntry) -> Result<(), KeeperFault>
+        requires next { entry.now.seq ≡ next_number self.old.kept }
+        ensures store { self.new ≡ after_append result entry.now self.old }
+        ensures fails { wants_memory result ≡ false → has_failed result ≡ is_some (next_failure self.old) }
+        ensures keeps { next_failure self.old ≡ Some false → has_failed result ≡ true }
+    {
+        let failure = self.begin_call();
+        if failure == Some(false) {
+            return Err(self.fail());
+        }
+        if self.keep(alloc, entry).is_err() {
+            return Err(KeeperFault::Memory);
+        }
+        if failure.is_some() {
+            return Err(self.fail());
+        }
+        Ok(())
+    }
+
+    fn read_all<L: Ledger>(
+        &mut self,
+        alloc: Global,
+        after: u64,
+        max: u64,
+        steps: &mut Steps<L>,
+    ) -> Result<StoredList, KeeperFault>
+        ensures store { self.new ≡ after_answer result self.old }
+        ensures fails { has_failed result ≡ is_some (next_failure self.old) }
+        ensures read { IfOk result (λ list. list ≡ handed_over is_any after max self.old.kept) }
+        ensures order { IfOk result (λ list. RisesAbove after list) }
+        ensures steps { IfOk result (λ list. steps.new ≡ steps.old + stored_versions list) }
+        ensures unread { OnErr result (steps.new ≡ steps.old) }
+    {
+        let list = self.read(alloc, &Selection::All, after, max)?;
+        count_versions(list.as_slice(), steps);
+        Ok(list)
+    }
+
+    fn read_backlog<L: Ledger>(
+        &mut self,
+        alloc: Global,
+        table: &Name,
+        after: u64,
+        max: u64,
+        steps: &mut Steps<L>,
+    ) -> Result<StoredList, KeeperFault>
+        ensures store { self.new ≡ after_answer result self.old }
+        ensures fails { has_failed result ≡ is_some (next_failure self.old) }
+        ensures read { IfOk result (λ list. list ≡ handed_over (is_version_of table.now) after max self.old.kept) }
+        ensures order { IfOk result (λ list. RisesAbove after list) }
+        ensures steps { IfOk result (λ list. steps.new ≡ steps.old + stored_versions list) }
+        ensures unread { OnErr result (steps.new ≡ steps.old) }
+    {
+        let list = self.read(alloc, &Selection::VersionsOf(table), after, max)?;
+        count_versions(list.as_slice(), steps);
+        Ok(list)
+    }
+
+    fn read_asked(
+        &mut self,
+        alloc: Global,
+        from: Moment,
+        to: Moment,
+        after: u64,
+        max: u64,
+    ) -> Result<StoredList, KeeperFault>
+        ensures store { self.new ≡ after_answer result self.old }
+        ensures fails { has_failed result ≡ is_some (next_failure self.old) }
+        ensures read { IfOk result (λ list. list ≡ handed_over (was_asked_in from to) after max self.old.kept) }
+        ensures order { IfOk result (λ list. RisesAbove after list) }
+    {
+        self.read(alloc, &Selection::AskedIn(from, to), after, max)
+    }
+}
