@@ -48,4 +48,4 @@ pub record AppendsOrNot (before : List StoredEntry) (survived : List StoredEntry
 pub record Stays (before : List StoredEntry) (survived : List StoredEntry → Type 0) (after : List StoredEntry) (survives : List StoredEntry → Type 0) : Type 0 where
   pub same : after ≡ before
   pub stop : (list : List StoredEntry) → survives list → survived list
-  pub some : ∥ (list : List StoredEntry) × survives list ∥₁
+  pub some : ∥ ((list : List StoredEntry) × survives list) ∥₁

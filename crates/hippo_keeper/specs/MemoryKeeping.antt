@@ -1,5 +1,5 @@
 -- What a keeper in memory is, and what a call does to it.
-use Rattle.std.specs.Prelude.{◌≡◌, ℕ, Bool, true, false, not, ◌&&◌, ◌==◌, List, [], ◌∷◌, ◌++◌, find, Option, option_map, is_ok, Result, if◌then◌else◌}
+use Rattle.std.specs.Prelude.{◌≡◌, ℕ, Bool, true, false, not, ◌&&◌, ◌||◌, ◌==◌, List, [], ◌∷◌, ◌++◌, find, Option, option_map, is_ok, Result, if◌then◌else◌}
 use Rattle.std.specs.Option.{option_map_or}
 use Rattle.hippo_io.specs.Faults.{counted}
 use Rattle.hippo_model.specs.declared.stored.StoredEntry.{StoredEntry}
@@ -36,7 +36,11 @@ after_fault store = record store { faults = counted store.faults; spent = true }
 
 -- after a call with this answer
 abbrev pub after_answer : {A : Type 0} → Result A KeeperFault → MemoryStore → MemoryStore
-after_answer result store = if has_failed result then after_fault (after_call store) else after_call store
+after_answer result store = record store {
+  made = counted store.made;
+  faults = if has_failed result then counted store.faults else store.faults;
+  spent = has_failed result || store.spent;
+}
 
 -- the same for a start
 abbrev pub after_start : {A : Type 0} → Result A KeeperFault → MemoryStore → MemoryStore
@@ -46,16 +50,15 @@ after_start result store = record (after_answer result store) { started = is_ok 
 abbrev pub with_entry : StoredEntry → MemoryStore → MemoryStore
 with_entry entry store = record store { kept = store.kept ++ entry ∷ [] }
 
--- whether the next append keeps its entry, if it finds memory for it
-abbrev pub keeps_next : MemoryStore → Bool
-keeps_next store = option_map_or (λ keeps. keeps) (next_failure store) true
+-- what is kept after an append: the entry too, unless the call was to fail without it or found no memory for it
+abbrev pub kept_after : {A : Type 0} → Result A KeeperFault → StoredEntry → MemoryStore → List StoredEntry
+kept_after result entry store =
+    if option_map_or (λ keeps. keeps) (next_failure store) true && not (wants_memory result)
+    then store.kept ++ entry ∷ [] else store.kept
 
 -- the same for an append
 abbrev pub after_append : {A : Type 0} → Result A KeeperFault → StoredEntry → MemoryStore → MemoryStore
-after_append result entry store =
-    if keeps_next store && not (wants_memory result)
-    then with_entry entry (after_answer result store)
-    else after_answer result store
+after_append result entry store = record (after_answer result store) { kept = kept_after result entry store }
 
 -- what a start finds, whatever the name, and what survives a stop: the kept list
 abbrev pub FindsInMemory : MemoryStore → List ℕ → List StoredEntry → Type 0

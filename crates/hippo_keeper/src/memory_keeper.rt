@@ -1,5 +1,5 @@
 //! A keeper in memory that tells what it keeps, and fails where it is told to.
-ghost use Rattle.std.specs.Prelude.{◌≡◌, ℕ, ◌+◌, Bool, true, false, List, [], filter, Some, is_some, nat_lt, IfOk, OnOk, OnErr, ⊤};
+ghost use Rattle.std.specs.Prelude.{◌≡◌, ℕ, ◌+◌, ◌≤◌, Bool, true, false, List, [], filter, Some, is_some, nat_lt, IfOk, OnOk, OnErr, ⊤};
 ghost use Rattle.hippo_model.specs.declared.stored.StoredEntry.{StoredEntry};
 ghost use Rattle.hippo_keeper.specs.Answering.{has_failed, wants_memory};
 ghost use Rattle.hippo_keeper.specs.Keeping.{RisesAbove, next_number};
@@ -98,8 +98,9 @@ impl MemoryKeeper {
 
     // Counts a fault, and makes no more calls.
     fn fail(&mut self) -> KeeperFault
-        ensures fault { result ≡ Failed }
+        ensures fault { result ≡ KeeperFault.Failed }
         ensures counted { self.new ≡ after_fault self.old }
+        ensures rises { self.old.faults ≤ self.new.faults }
     {
         self.faults = self.faults.saturating_add(1);
         self.spent = true;
@@ -126,6 +127,7 @@ impl MemoryKeeper {
         ensures store { self.new ≡ after_answer result self.old }
         ensures fails { has_failed result ≡ is_some (next_failure self.old) }
         ensures read { IfOk result (λ list. list ≡ handed_over (is_selected selection.now) after max self.old.kept) }
+        ensures faults { self.old.faults ≤ self.new.faults }
         ensures order { IfOk result (λ list. RisesAbove after list) }
     {
         if self.begin_call().is_some() {
@@ -144,7 +146,8 @@ impl MemoryKeeper {
         ensures err { OnErr result (self.new ≡ self.old) }
     {
         let copy = entry.copy(alloc)?;
-        self.kept.push(copy)
+        self.kept.push(copy)?;
+        Ok(())
     }
 }
 
@@ -170,9 +173,9 @@ impl Keeper for MemoryKeeper {
     fn start(&mut self, _alloc: Global, _name: &str) -> Result<(), KeeperFault>
         ensures store { self.new ≡ after_start result self.old }
         ensures fails { has_failed result ≡ is_some (next_failure self.old) }
+        ensures faults { self.old.faults ≤ self.new.faults }
         ensures order { RisesAbove 0 self.new.kept }
         ensures memory { wants_memory result ≡ false }
-        ensures unspent { self.old.spent ≡ false → self.new.spent ≡ has_failed result }
     {
         if self.begin_call().is_some() {
             self.started = false;
@@ -186,6 +189,7 @@ impl Keeper for MemoryKeeper {
         requires next { entry.now.seq ≡ next_number self.old.kept }
         ensures store { self.new ≡ after_append result entry.now self.old }
         ensures fails { wants_memory result ≡ false → has_failed result ≡ is_some (next_failure self.old) }
+        ensures faults { self.old.faults ≤ self.new.faults }
         ensures keeps { next_failure self.old ≡ Some false → has_failed result ≡ true }
     {
         let failure = self.begin_call();
@@ -211,6 +215,7 @@ impl Keeper for MemoryKeeper {
         ensures store { self.new ≡ after_answer result self.old }
         ensures fails { has_failed result ≡ is_some (next_failure self.old) }
         ensures read { IfOk result (λ list. list ≡ handed_over is_any after max self.old.kept) }
+        ensures faults { self.old.faults ≤ self.new.faults }
         ensures order { IfOk result (λ list. RisesAbove after list) }
         ensures steps { IfOk result (λ list. steps.new ≡ steps.old + stored_versions list) }
         ensures unread { OnErr result (steps.new ≡ steps.old) }
@@ -231,11 +236,12 @@ impl Keeper for MemoryKeeper {
         ensures store { self.new ≡ after_answer result self.old }
         ensures fails { has_failed result ≡ is_some (next_failure self.old) }
         ensures read { IfOk result (λ list. list ≡ handed_over (is_version_of table.now) after max self.old.kept) }
+        ensures faults { self.old.faults ≤ self.new.faults }
         ensures order { IfOk result (λ list. RisesAbove after list) }
         ensures steps { IfOk result (λ list. steps.new ≡ steps.old + stored_versions list) }
         ensures unread { OnErr result (steps.new ≡ steps.old) }
     {
-        let list = self.read(alloc, &Selection::VersionsOf(table), after, max)?;
+        let list = self.read(alloc, &Selection::VersionsOf(table.as_str()), after, max)?;
         count_versions(list.as_slice(), steps);
         Ok(list)
     }
@@ -251,6 +257,7 @@ impl Keeper for MemoryKeeper {
         ensures store { self.new ≡ after_answer result self.old }
         ensures fails { has_failed result ≡ is_some (next_failure self.old) }
         ensures read { IfOk result (λ list. list ≡ handed_over (was_asked_in from to) after max self.old.kept) }
+        ensures faults { self.old.faults ≤ self.new.faults }
         ensures order { IfOk result (λ list. RisesAbove after list) }
     {
         self.read(alloc, &Selection::AskedIn(from, to), after, max)

@@ -4,7 +4,7 @@ ghost use Rattle.hippo_keeper.specs.Selecting.{is_stored_version, is_selected, s
 
 use crate::steps::Steps;
 use hippo_model::{StoredEntry, StoredList};
-use hippo_values::{Duplicate, Memory, Moment, Name};
+use hippo_values::{Duplicate, Memory, Moment};
 use std::alloc::Global;
 use std::sync::ledger::Ledger;
 
@@ -13,7 +13,7 @@ use std::sync::ledger::Ledger;
 pub(crate) enum Selection<'a> {
     All,
     /// The versions of a table's rows.
-    VersionsOf(&'a Name),
+    VersionsOf(&'a str),
     /// The questions of a period, its ends among it.
     AskedIn(Moment, Moment),
 }
@@ -32,7 +32,7 @@ fn is_among(selection: &Selection<'_>, entry: &StoredEntry) -> bool
     match selection {
         Selection::All => true,
         Selection::VersionsOf(table) => {
-            is_version(entry) && entry.table.as_str() == table.as_str()
+            is_version(entry) && entry.table.as_str() == *table
         }
         Selection::AskedIn(from, to) => {
             entry.kind == 13 && from.seconds() <= entry.moment && entry.moment <= to.seconds()

@@ -1,0 +1,3 @@
+mod RisingLemmas
+mod SearchLemmas
+mod SelectLemmas
