@@ -1,3 +1,4 @@
-mod RisingLemmas
+pub mod RisingLemmas
 mod SearchLemmas
 mod SelectLemmas
+pub mod StoredLemmas

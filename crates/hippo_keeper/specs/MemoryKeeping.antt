@@ -39,12 +39,12 @@ abbrev pub after_answer : {A : Type 0} → Result A KeeperFault → MemoryStore 
 after_answer result store = record store {
   made = counted store.made;
   faults = if has_failed result then counted store.faults else store.faults;
-  spent = has_failed result || store.spent;
+  spent = store.spent || has_failed result;
 }
 
 -- the same for a start
 abbrev pub after_start : {A : Type 0} → Result A KeeperFault → MemoryStore → MemoryStore
-after_start result store = record (after_answer result store) { started = is_ok result }
+after_start result store = record (after_answer result store) { started = store.started || is_ok result }
 
 -- with one more entry
 abbrev pub with_entry : StoredEntry → MemoryStore → MemoryStore

@@ -174,11 +174,10 @@ impl Keeper for MemoryKeeper {
         ensures store { self.new ≡ after_start result self.old }
         ensures fails { has_failed result ≡ is_some (next_failure self.old) }
         ensures faults { self.old.faults ≤ self.new.faults }
-        ensures order { RisesAbove 0 self.new.kept }
+        ensures order { OnOk result (RisesAbove 0 self.new.kept) }
         ensures memory { wants_memory result ≡ false }
     {
         if self.begin_call().is_some() {
-            self.started = false;
             return Err(self.fail());
         }
         self.started = true;

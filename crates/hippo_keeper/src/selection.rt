@@ -8,6 +8,12 @@ use hippo_values::{Duplicate, Memory, Moment};
 use std::alloc::Global;
 use std::sync::ledger::Ledger;
 
+// The kinds of the entries that insert, update or delete a row, and of questions.
+const INSERT: u8 = 2;
+const UPDATE: u8 = 3;
+const DELETE: u8 = 4;
+const ASKED: u8 = 13;
+
 /// What a read asks for.
 #[derive(Clone, Copy, Debug)]
 pub(crate) enum Selection<'a> {
@@ -22,7 +28,7 @@ pub(crate) enum Selection<'a> {
 fn is_version(entry: &StoredEntry) -> bool
     ensures { result ≡ is_stored_version entry.now }
 {
-    matches!(entry.kind, 2..=4)
+    matches!(entry.kind, INSERT | UPDATE | DELETE)
 }
 
 // Whether an entry is among those that a read asks for.
@@ -35,7 +41,7 @@ fn is_among(selection: &Selection<'_>, entry: &StoredEntry) -> bool
             is_version(entry) && entry.table.as_str() == *table
         }
         Selection::AskedIn(from, to) => {
-            entry.kind == 13 && from.seconds() <= entry.moment && entry.moment <= to.seconds()
+            entry.kind == ASKED && from.seconds() <= entry.moment && entry.moment <= to.seconds()
         }
     }
 }
