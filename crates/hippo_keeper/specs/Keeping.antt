@@ -1,13 +1,26 @@
 -- What a keeper's calls do to the stored entries that it keeps, and to what survives a stop.
-use Rattle.std.specs.Prelude.{◌≡◌, ℕ, ◌+◌, ◌<◌, ◌⊎◌, ⊤, Bool, false, List, [], ◌∷◌, ◌++◌}
+use Rattle.std.specs.Prelude.{◌≡◌, ℕ, ◌+◌, ◌<◌, ◌≤◌, ◌⊎◌, ⊤, Bool, true, false, List, [], ◌∷◌, ◌++◌, Result}
+use Rattle.hippo_io.specs.Faults.{HasRisen}
 use Rattle.hippo_model.specs.declared.stored.StoredEntry.{StoredEntry}
+use Rattle.hippo_keeper.specs.Answering.{has_failed}
+use Rattle.hippo_keeper.specs.declared.faults.KeeperFault.{KeeperFault}
 
--- a keeper on which a call may be made: sound, started or not, and neither closed nor spent
-pub record IsReady (is_started : Bool) (sound : Type 0) (started closed spent : Bool) : Type 0 where
+-- a sound keeper's stage: whether it is started, closed and spent
+pub record HasStage (is_started is_closed is_spent : Bool) (sound : Type 0) (started closed spent : Bool) : Type 0 where
   pub is_sound : sound
-  pub stage : started ≡ is_started
-  pub unclosed : closed ≡ false
-  pub unspent : spent ≡ false
+  pub started_is : started ≡ is_started
+  pub closed_is : closed ≡ is_closed
+  pub spent_is : spent ≡ is_spent
+
+-- a keeper on which a call may be made is neither closed nor spent
+abbrev pub IsReady : Bool → Type 0 → Bool → Bool → Bool → Type 0
+IsReady is_started = HasStage is_started false false
+
+-- the count of faults rises where a call failed, and any other answer leaves it
+pub record CountsFaults {A : Type 0} (result : Result A KeeperFault) (before after : ℕ) : Type 0 where
+  pub cause : has_failed result ≡ true → HasRisen before after
+  pub unfailed : has_failed result ≡ false → after ≡ before
+  pub rises : before ≤ after
 
 -- each entry's number is above the one before it, and the first above this one
 abbrev pub RisesAbove : ℕ → List StoredEntry → Type 0

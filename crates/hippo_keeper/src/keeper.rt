@@ -1,10 +1,9 @@
 //! What keeps the history: the calls of every keeper, and what they promise.
-ghost use Rattle.std.specs.Prelude.{◌≡◌, ℕ, ◌+◌, ◌^◌, ◌<◌, ◌≤◌, Bool, true, false, List, length, IsTrue, IsFalse, IfOk, OnOk, OnErr, is_ok};
-ghost use Rattle.hippo_io.specs.Faults.{HasRisen};
+ghost use Rattle.std.specs.Prelude.{◌≡◌, ℕ, ◌+◌, ◌^◌, ◌<◌, ◌≤◌, Bool, true, false, List, IsTrue, IfOk, OnOk, is_ok};
 ghost use Rattle.hippo_model.specs.declared.stored.StoredEntry.{StoredEntry};
 ghost use Rattle.hippo_keeper.specs.Answering.{has_failed, wants_memory};
-ghost use Rattle.hippo_keeper.specs.Keeping.{IsReady, RisesAbove, next_number, Starts, Appends, AppendsOrNot, Stays};
-ghost use Rattle.hippo_keeper.specs.Selecting.{is_any, is_version_of, was_asked_in, handed_over, stored_versions};
+ghost use Rattle.hippo_keeper.specs.Keeping.{HasStage, IsReady, CountsFaults, next_number, Starts, Appends, AppendsOrNot, Stays};
+ghost use Rattle.hippo_keeper.specs.Selecting.{is_any, is_version_of, was_asked_in, versions_read, IsHandedOver};
 
 use crate::faults::KeeperFault;
 use crate::steps::Steps;
@@ -48,14 +47,9 @@ pub trait Keeper {
     /// Opens the store with a name, and keeps the list of entries that it finds there.
     fn start(&mut self, alloc: Global, name: &str) -> Result<(), KeeperFault>
         requires ready { IsReady false (sound self.old) (started self.old) (closed self.old) (spent self.old) }
-        ensures sound { sound self.new }
-        ensures started { started self.new ≡ is_ok result }
-        ensures closed { closed self.new ≡ wants_memory result }
-        ensures spent { spent self.new ≡ has_failed result }
+        ensures stage { HasStage (is_ok result) (wants_memory result) (has_failed result) (sound self.new) (started self.new) (closed self.new) (spent self.new) }
         ensures tells { tells self.new → tells self.old }
-        ensures cause { IsTrue (has_failed result) → HasRisen (faults self.old) (faults self.new) }
-        ensures unfailed { IsFalse (has_failed result) → faults self.new ≡ faults self.old }
-        ensures faults { faults self.old ≤ faults self.new }
+        ensures faults { CountsFaults result (faults self.old) (faults self.new) }
         ensures found { OnOk result (tells self.new → Starts (finds self.old name.now) (kept self.new) (survives self.new)) };
 
     /// Keeps one more entry, whose number is the one after the last. Where the call fails, the entry is kept or not; where
@@ -64,14 +58,9 @@ pub trait Keeper {
         requires ready { IsReady true (sound self.old) (started self.old) (closed self.old) (spent self.old) }
         requires number { entry.now.seq < 2 ^ 63 }
         requires next { tells self.old → entry.now.seq ≡ next_number (kept self.old) }
-        ensures sound { sound self.new }
-        ensures started { started self.new ≡ true }
-        ensures closed { closed self.new ≡ false }
-        ensures spent { spent self.new ≡ has_failed result }
+        ensures stage { HasStage true false (has_failed result) (sound self.new) (started self.new) (closed self.new) (spent self.new) }
         ensures tells { tells self.new → tells self.old }
-        ensures cause { IsTrue (has_failed result) → HasRisen (faults self.old) (faults self.new) }
-        ensures unfailed { IsFalse (has_failed result) → faults self.new ≡ faults self.old }
-        ensures faults { faults self.old ≤ faults self.new }
+        ensures faults { CountsFaults result (faults self.old) (faults self.new) }
         ensures ok { OnOk result (tells self.new → Appends (kept self.old) entry.now (kept self.new) (survives self.new)) }
         ensures failed { IsTrue (has_failed result) → tells self.new → AppendsOrNot (kept self.old) (survives self.old) entry.now (kept self.new) (survives self.new) }
         ensures memory { IsTrue (wants_memory result) → tells self.new → Stays (kept self.old) (survives self.old) (kept self.new) (survives self.new) };
@@ -87,20 +76,12 @@ pub trait Keeper {
         requires ready { IsReady true (sound self.old) (started self.old) (closed self.old) (spent self.old) }
         requires some { 0 < max }
         requires limit { max ≤ 1000 }
-        ensures sound { sound self.new }
-        ensures started { started self.new ≡ true }
-        ensures closed { closed self.new ≡ false }
-        ensures spent { spent self.new ≡ has_failed result }
+        ensures stage { HasStage true false (has_failed result) (sound self.new) (started self.new) (closed self.new) (spent self.new) }
         ensures tells { tells self.new → tells self.old }
-        ensures cause { IsTrue (has_failed result) → HasRisen (faults self.old) (faults self.new) }
-        ensures unfailed { IsFalse (has_failed result) → faults self.new ≡ faults self.old }
-        ensures faults { faults self.old ≤ faults self.new }
+        ensures faults { CountsFaults result (faults self.old) (faults self.new) }
         ensures stays { tells self.new → Stays (kept self.old) (survives self.old) (kept self.new) (survives self.new) }
-        ensures read { IfOk result (λ list. tells self.new → list ≡ handed_over is_any after max (kept self.old)) }
-        ensures count { IfOk result (λ list. length list ≤ max) }
-        ensures order { IfOk result (λ list. RisesAbove after list) }
-        ensures steps { IfOk result (λ list. steps.new ≡ steps.old + stored_versions list) }
-        ensures unread { OnErr result (steps.new ≡ steps.old) };
+        ensures read { IfOk result (IsHandedOver (tells self.new) is_any after max (kept self.old)) }
+        ensures steps { steps.new ≡ steps.old + versions_read result };
 
     /// The first `max` versions of a table's rows, from 1 to 1,000, whose numbers are above `after`. Each is a step.
     fn read_backlog<L: Ledger>(
@@ -114,20 +95,12 @@ pub trait Keeper {
         requires ready { IsReady true (sound self.old) (started self.old) (closed self.old) (spent self.old) }
         requires some { 0 < max }
         requires limit { max ≤ 1000 }
-        ensures sound { sound self.new }
-        ensures started { started self.new ≡ true }
-        ensures closed { closed self.new ≡ false }
-        ensures spent { spent self.new ≡ has_failed result }
+        ensures stage { HasStage true false (has_failed result) (sound self.new) (started self.new) (closed self.new) (spent self.new) }
         ensures tells { tells self.new → tells self.old }
-        ensures cause { IsTrue (has_failed result) → HasRisen (faults self.old) (faults self.new) }
-        ensures unfailed { IsFalse (has_failed result) → faults self.new ≡ faults self.old }
-        ensures faults { faults self.old ≤ faults self.new }
+        ensures faults { CountsFaults result (faults self.old) (faults self.new) }
         ensures stays { tells self.new → Stays (kept self.old) (survives self.old) (kept self.new) (survives self.new) }
-        ensures read { IfOk result (λ list. tells self.new → list ≡ handed_over (is_version_of table.now) after max (kept self.old)) }
-        ensures count { IfOk result (λ list. length list ≤ max) }
-        ensures order { IfOk result (λ list. RisesAbove after list) }
-        ensures steps { IfOk result (λ list. steps.new ≡ steps.old + stored_versions list) }
-        ensures unread { OnErr result (steps.new ≡ steps.old) };
+        ensures read { IfOk result (IsHandedOver (tells self.new) (is_version_of table.now) after max (kept self.old)) }
+        ensures steps { steps.new ≡ steps.old + versions_read result };
 
     /// The first `max` questions, from 1 to 1,000, that were asked from one moment to another, both among them, and whose
     /// numbers are above `after`.
@@ -142,16 +115,9 @@ pub trait Keeper {
         requires ready { IsReady true (sound self.old) (started self.old) (closed self.old) (spent self.old) }
         requires some { 0 < max }
         requires limit { max ≤ 1000 }
-        ensures sound { sound self.new }
-        ensures started { started self.new ≡ true }
-        ensures closed { closed self.new ≡ false }
-        ensures spent { spent self.new ≡ has_failed result }
+        ensures stage { HasStage true false (has_failed result) (sound self.new) (started self.new) (closed self.new) (spent self.new) }
         ensures tells { tells self.new → tells self.old }
-        ensures cause { IsTrue (has_failed result) → HasRisen (faults self.old) (faults self.new) }
-        ensures unfailed { IsFalse (has_failed result) → faults self.new ≡ faults self.old }
-        ensures faults { faults self.old ≤ faults self.new }
+        ensures faults { CountsFaults result (faults self.old) (faults self.new) }
         ensures stays { tells self.new → Stays (kept self.old) (survives self.old) (kept self.new) (survives self.new) }
-        ensures read { IfOk result (λ list. tells self.new → list ≡ handed_over (was_asked_in from to) after max (kept self.old)) }
-        ensures count { IfOk result (λ list. length list ≤ max) }
-        ensures order { IfOk result (λ list. RisesAbove after list) };
+        ensures read { IfOk result (IsHandedOver (tells self.new) (was_asked_in from to) after max (kept self.old)) };
 }

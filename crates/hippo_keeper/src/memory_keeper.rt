@@ -4,7 +4,7 @@ ghost use Rattle.hippo_model.specs.declared.stored.StoredEntry.{StoredEntry};
 ghost use Rattle.hippo_keeper.specs.Answering.{has_failed, wants_memory};
 ghost use Rattle.hippo_keeper.specs.Keeping.{RisesAbove, next_number};
 ghost use Rattle.hippo_keeper.specs.MemoryKeeping.{new_store, next_failure, after_call, after_fault, after_answer, after_start, after_append, with_entry, FindsInMemory, SurvivesInMemory};
-ghost use Rattle.hippo_keeper.specs.Selecting.{is_any, is_version_of, was_asked_in, is_selected, handed_over, stored_versions};
+ghost use Rattle.hippo_keeper.specs.Selecting.{is_any, is_version_of, was_asked_in, is_selected, versions_read, IsHandedOver};
 
 use crate::faults::{KeeperFails, KeeperFault};
 use crate::keeper::Keeper;
@@ -126,9 +126,8 @@ impl MemoryKeeper {
     ) -> Result<StoredList, KeeperFault>
         ensures store { self.new ≡ after_answer result self.old }
         ensures fails { has_failed result ≡ is_some (next_failure self.old) }
-        ensures read { IfOk result (λ list. list ≡ handed_over (is_selected selection.now) after max self.old.kept) }
         ensures faults { self.old.faults ≤ self.new.faults }
-        ensures order { IfOk result (λ list. RisesAbove after list) }
+        ensures read { IfOk result (IsHandedOver ⊤ (is_selected selection.now) after max self.old.kept) }
     {
         if self.begin_call().is_some() {
             return Err(self.fail());
@@ -213,11 +212,9 @@ impl Keeper for MemoryKeeper {
     ) -> Result<StoredList, KeeperFault>
         ensures store { self.new ≡ after_answer result self.old }
         ensures fails { has_failed result ≡ is_some (next_failure self.old) }
-        ensures read { IfOk result (λ list. list ≡ handed_over is_any after max self.old.kept) }
         ensures faults { self.old.faults ≤ self.new.faults }
-        ensures order { IfOk result (λ list. RisesAbove after list) }
-        ensures steps { IfOk result (λ list. steps.new ≡ steps.old + stored_versions list) }
-        ensures unread { OnErr result (steps.new ≡ steps.old) }
+        ensures read { IfOk result (IsHandedOver ⊤ is_any after max self.old.kept) }
+        ensures steps { steps.new ≡ steps.old + versions_read result }
     {
         let list = self.read(alloc, &Selection::All, after, max)?;
         count_versions(list.as_slice(), steps);
@@ -234,11 +231,9 @@ impl Keeper for MemoryKeeper {
     ) -> Result<StoredList, KeeperFault>
         ensures store { self.new ≡ after_answer result self.old }
         ensures fails { has_failed result ≡ is_some (next_failure self.old) }
-        ensures read { IfOk result (λ list. list ≡ handed_over (is_version_of table.now) after max self.old.kept) }
         ensures faults { self.old.faults ≤ self.new.faults }
-        ensures order { IfOk result (λ list. RisesAbove after list) }
-        ensures steps { IfOk result (λ list. steps.new ≡ steps.old + stored_versions list) }
-        ensures unread { OnErr result (steps.new ≡ steps.old) }
+        ensures read { IfOk result (IsHandedOver ⊤ (is_version_of table.now) after max self.old.kept) }
+        ensures steps { steps.new ≡ steps.old + versions_read result }
     {
         let list = self.read(alloc, &Selection::VersionsOf(table.as_str()), after, max)?;
         count_versions(list.as_slice(), steps);
@@ -255,9 +250,8 @@ impl Keeper for MemoryKeeper {
     ) -> Result<StoredList, KeeperFault>
         ensures store { self.new ≡ after_answer result self.old }
         ensures fails { has_failed result ≡ is_some (next_failure self.old) }
-        ensures read { IfOk result (λ list. list ≡ handed_over (was_asked_in from to) after max self.old.kept) }
         ensures faults { self.old.faults ≤ self.new.faults }
-        ensures order { IfOk result (λ list. RisesAbove after list) }
+        ensures read { IfOk result (IsHandedOver ⊤ (was_asked_in from to) after max self.old.kept) }
     {
         self.read(alloc, &Selection::AskedIn(from, to), after, max)
     }
