@@ -1,5 +1,5 @@
 -- Entries whose numbers rise.
-use Rattle.std.proofs.Common.{◌≡◌, ◌∙◌, ℕ, zero, suc, ◌+◌, ◌<◌, ◌≤◌, Bool, true, false, List, [], ◌∷◌, ◌++◌, filter, take, nat_lt, refl, ap, sym, arith, cond}
+use Rattle.std.proofs.Common.{◌≡◌, ℕ, zero, suc, ◌<◌, ◌≤◌, Bool, true, false, List, [], ◌∷◌, ◌++◌, filter, take, nat_lt, refl, arith, cond}
 use Rattle.std.proofs.lemmas.Bool.Decides.{nat_tests}
 use Rattle.hippo_model.specs.declared.stored.StoredEntry.{StoredEntry}
 use Rattle.hippo_keeper.specs.Keeping.{RisesAbove, last_number}

@@ -22,43 +22,53 @@ pub record CountsFaults {A : Type 0} (result : Result A KeeperFault) (before aft
   pub unfailed : has_failed result ≡ false → after ≡ before
   pub rises : before ≤ after
 
+-- stored entries, in the order in which they are kept
+abbrev pub Store : Type 0
+Store = List StoredEntry
+
+-- which entries may be found again after a stop
+abbrev pub Survivors : Type 1
+Survivors = Store → Type 0
+
 -- each entry's number is above the one before it, and the first above this one
-abbrev pub RisesAbove : ℕ → List StoredEntry → Type 0
+abbrev pub RisesAbove : ℕ → Store → Type 0
 RisesAbove number [] = ⊤
 RisesAbove number (entry ∷ rest) = (number < entry.seq) × RisesAbove entry.seq rest
 
 -- the number of the last entry, or this one where there is none
-abbrev pub last_number : ℕ → List StoredEntry → ℕ
+abbrev pub last_number : ℕ → Store → ℕ
 last_number number [] = number
 last_number number (entry ∷ rest) = last_number entry.seq rest
 
 -- the number of the next entry
-abbrev pub next_number : List StoredEntry → ℕ
+abbrev pub next_number : Store → ℕ
 next_number kept = last_number 0 kept + 1
 
 -- a stop now leaves this list
-pub record OnlySurvives (kept : List StoredEntry) (survives : List StoredEntry → Type 0) : Type 0 where
+pub record OnlySurvives (kept : Store) (survives : Survivors) : Type 0 where
   pub survives_stop : survives kept
-  pub alone : (list : List StoredEntry) → survives list → list ≡ kept
+  pub alone : (store : Store) → survives store → store ≡ kept
 
 -- a start that went well: what is kept was found, has numbers that rise from above 0, and survives a stop
-pub record Starts (finds : List StoredEntry → Type 0) (kept : List StoredEntry) (survives : List StoredEntry → Type 0) : Type 0 where
+pub record Starts (finds : Store → Type 0) (kept : Store) (survives : Survivors) : Type 0 where
   pub found : finds kept
   pub order : RisesAbove 0 kept
   pub stop : OnlySurvives kept survives
 
 -- an append that went well: one more entry is kept, and survives a stop with those before it
-pub record Appends (before : List StoredEntry) (entry : StoredEntry) (after : List StoredEntry) (survives : List StoredEntry → Type 0) : Type 0 where
+pub record Appends (before : Store) (entry : StoredEntry) (after : Store) (survives : Survivors) : Type 0 where
   pub longer : after ≡ before ++ entry ∷ []
   pub stop : OnlySurvives after survives
 
--- an append that failed: the old list is kept or the longer one, and of these at most the longer one survives a stop anew
-pub record AppendsOrNot (before : List StoredEntry) (survived : List StoredEntry → Type 0) (entry : StoredEntry) (after : List StoredEntry) (survives : List StoredEntry → Type 0) : Type 0 where
+-- an append that failed: the old list is kept or the longer one, and no list survives a stop that did not before, but
+-- for the longer one
+pub record AppendsOrNot (before : Store) (survived : Survivors) (entry : StoredEntry) (after : Store)
+    (survives : Survivors) : Type 0 where
   pub either : (after ≡ before) ⊎ (after ≡ before ++ entry ∷ [])
-  pub stop : (list : List StoredEntry) → survives list → survived list ⊎ (list ≡ before ++ entry ∷ [])
+  pub stop : (store : Store) → survives store → survived store ⊎ (store ≡ before ++ entry ∷ [])
 
 -- a call that changes nothing: the same list is kept, and no other list survives a stop than before, but one does
-pub record Stays (before : List StoredEntry) (survived : List StoredEntry → Type 0) (after : List StoredEntry) (survives : List StoredEntry → Type 0) : Type 0 where
+pub record Stays (before : Store) (survived : Survivors) (after : Store) (survives : Survivors) : Type 0 where
   pub same : after ≡ before
-  pub stop : (list : List StoredEntry) → survives list → survived list
-  pub some : ∥ ((list : List StoredEntry) × survives list) ∥₁
+  pub stop : (store : Store) → survives store → survived store
+  pub some : ∥ ((store : Store) × survives store) ∥₁

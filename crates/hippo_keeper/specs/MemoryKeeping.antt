@@ -4,11 +4,12 @@ use Rattle.std.specs.Option.{option_map_or}
 use Rattle.hippo_io.specs.Faults.{counted}
 use Rattle.hippo_model.specs.declared.stored.StoredEntry.{StoredEntry}
 use Rattle.hippo_keeper.specs.Answering.{has_failed, wants_memory}
+use Rattle.hippo_keeper.specs.Keeping.{Store, Survivors}
 use Rattle.hippo_keeper.specs.declared.faults.KeeperFail.{KeeperFail}
 use Rattle.hippo_keeper.specs.declared.faults.KeeperFault.{KeeperFault}
 
 pub record MemoryStore : Type 0 where
-  pub kept : List StoredEntry
+  pub kept : Store
   -- which calls are to fail, counted from 1
   pub failing : List KeeperFail
   -- how many calls were made, and how many faults there were
@@ -18,7 +19,7 @@ pub record MemoryStore : Type 0 where
   pub spent : Bool
 
 -- a keeper of these entries on which no call was made
-abbrev pub new_store : List StoredEntry → List KeeperFail → MemoryStore
+abbrev pub new_store : Store → List KeeperFail → MemoryStore
 new_store kept failing =
     record { kept = kept; failing = failing; made = 0; faults = 0; started = false; spent = false }
 
@@ -51,7 +52,7 @@ abbrev pub with_entry : StoredEntry → MemoryStore → MemoryStore
 with_entry entry store = record store { kept = store.kept ++ entry ∷ [] }
 
 -- what is kept after an append: the entry too, unless the call was to fail without it or found no memory for it
-abbrev pub kept_after : {A : Type 0} → Result A KeeperFault → StoredEntry → MemoryStore → List StoredEntry
+abbrev pub kept_after : {A : Type 0} → Result A KeeperFault → StoredEntry → MemoryStore → Store
 kept_after result entry store =
     if option_map_or (λ keeps. keeps) (next_failure store) true && not (wants_memory result)
     then store.kept ++ entry ∷ [] else store.kept
@@ -61,8 +62,8 @@ abbrev pub after_append : {A : Type 0} → Result A KeeperFault → StoredEntry 
 after_append result entry store = record (after_answer result store) { kept = kept_after result entry store }
 
 -- what a start finds, whatever the name, and what survives a stop: the kept list
-abbrev pub FindsInMemory : MemoryStore → List ℕ → List StoredEntry → Type 0
-FindsInMemory store name list = list ≡ store.kept
+abbrev pub FindsInMemory : MemoryStore → List ℕ → Store → Type 0
+FindsInMemory keeper name store = store ≡ keeper.kept
 
-abbrev pub SurvivesInMemory : MemoryStore → List StoredEntry → Type 0
-SurvivesInMemory store list = list ≡ store.kept
+abbrev pub SurvivesInMemory : MemoryStore → Survivors
+SurvivesInMemory keeper store = store ≡ keeper.kept

@@ -1,9 +1,9 @@
 -- What the reads of a keeper hand over.
-use Rattle.std.specs.Prelude.{◌≡◌, ℕ, ◌≤◌, Bool, true, false, ◌&&◌, ◌||◌, ◌==◌, List, length, filter, take, count_by, nat_lt, int_le, bytes_eq, Result, Ok, Err}
+use Rattle.std.specs.Prelude.{◌≡◌, ℕ, ◌≤◌, Bool, true, ◌&&◌, ◌||◌, ◌==◌, length, filter, take, count_by, nat_lt, int_le, bytes_eq, Result, Ok, Err}
 use Rattle.hippo_values.specs.declared.moments.Moment.{Moment}
 use Rattle.hippo_values.specs.declared.names.Name.{Name}
 use Rattle.hippo_model.specs.declared.stored.StoredEntry.{StoredEntry}
-use Rattle.hippo_keeper.specs.Keeping.{RisesAbove}
+use Rattle.hippo_keeper.specs.Keeping.{Store, RisesAbove}
 use Rattle.hippo_keeper.specs.declared.faults.KeeperFault.{KeeperFault}
 use Rattle.hippo_keeper.specs.declared.selection.Selection.{Selection}
 use Rattle.hippo_keeper.specs.declared.selection.Selection.TheVariants.{All, VersionsOf, AskedIn}
@@ -23,21 +23,21 @@ abbrev pub is_any : StoredEntry → Bool
 is_any entry = true
 
 -- the first so many kept entries above a number that pass a test
-abbrev pub handed_over : (StoredEntry → Bool) → ℕ → ℕ → List StoredEntry → List StoredEntry
+abbrev pub handed_over : (StoredEntry → Bool) → ℕ → ℕ → Store → Store
 handed_over test after max kept = take max (filter test (filter (λ entry. nat_lt after entry.seq) kept))
 
 -- how many of the entries are versions
-abbrev pub stored_versions : List StoredEntry → ℕ
+abbrev pub stored_versions : Store → ℕ
 stored_versions list = count_by is_stored_version list
 
 -- how many steps a read takes: one for each version that it hands over
-abbrev pub versions_read : Result (List StoredEntry) KeeperFault → ℕ
+abbrev pub versions_read : Result (Store) KeeperFault → ℕ
 versions_read (Ok list) = stored_versions list
 versions_read (Err fault) = 0
 
 -- the list that a read answers: the one that was asked for, where the keeper tells what it keeps, and always at most so
 -- many entries above the number, in order
-pub record IsHandedOver (tells : Type 0) (test : StoredEntry → Bool) (after max : ℕ) (kept list : List StoredEntry) : Type 0 where
+pub record IsHandedOver (tells : Type 0) (test : StoredEntry → Bool) (after max : ℕ) (kept list : Store) : Type 0 where
   pub told : tells → list ≡ handed_over test after max kept
   pub few : length list ≤ max
   pub order : RisesAbove after list

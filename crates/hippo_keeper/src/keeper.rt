@@ -1,8 +1,7 @@
 //! What keeps the history: the calls of every keeper, and what they promise.
 ghost use Rattle.std.specs.Prelude.{◌≡◌, ℕ, ◌+◌, ◌^◌, ◌<◌, ◌≤◌, Bool, true, false, List, IsTrue, IfOk, OnOk, is_ok};
-ghost use Rattle.hippo_model.specs.declared.stored.StoredEntry.{StoredEntry};
 ghost use Rattle.hippo_keeper.specs.Answering.{has_failed, wants_memory};
-ghost use Rattle.hippo_keeper.specs.Keeping.{HasStage, IsReady, CountsFaults, next_number, Starts, Appends, AppendsOrNot, Stays};
+ghost use Rattle.hippo_keeper.specs.Keeping.{Store, Survivors, HasStage, IsReady, CountsFaults, next_number, Starts, Appends, AppendsOrNot, Stays};
 ghost use Rattle.hippo_keeper.specs.Selecting.{is_any, is_version_of, was_asked_in, versions_read, IsHandedOver};
 
 use crate::faults::KeeperFault;
@@ -14,15 +13,16 @@ use std::sync::ledger::Ledger;
 
 /// What keeps the stored entries of a history.
 ///
-/// A keeper is started once and then appended to and read. It answers `Failed` only where its count of faults rises, and
-/// is then spent; any other answer leaves the count. A start that answers `Memory` closes it. No call is made on a keeper
-/// that is spent or closed. What its calls say of the entries is said where it still tells what it keeps.
+/// A keeper is started once, and then appended to and read. It answers `Failed` only where its count of faults rises,
+/// and is then spent; any other answer leaves the count. A start that answers `Memory` closes it. No call is made on a
+/// keeper that is spent or closed. What a call says of the entries holds where the keeper tells what it keeps when the
+/// call returns.
 pub trait Keeper {
     // Whether the keeper tells what it keeps; a call may end this, and none begins it.
     ghost tells: { Self → Type 0 };
 
     // The entries that it keeps.
-    ghost kept: { Self → List StoredEntry };
+    ghost kept: { Self → Store };
 
     ghost started: { Self → Bool };
 
@@ -33,10 +33,10 @@ pub trait Keeper {
     ghost spent: { Self → Bool };
 
     // Which lists a later start of the same store may find after a stop now.
-    ghost survives: { Self → List StoredEntry → Type 0 };
+    ghost survives: { Self → Survivors };
 
     // Which lists a start with a name may find.
-    ghost finds: { Self → List ℕ → List StoredEntry → Type 0 };
+    ghost finds: { Self → List ℕ → Store → Type 0 };
 
     // How often a call failed; the count stands still at its last value.
     ghost faults: { Self → ℕ };
@@ -52,8 +52,8 @@ pub trait Keeper {
         ensures faults { CountsFaults result (faults self.old) (faults self.new) }
         ensures found { OnOk result (tells self.new → Starts (finds self.old name.now) (kept self.new) (survives self.new)) };
 
-    /// Keeps one more entry, whose number is the one after the last. Where the call fails, the entry is kept or not; where
-    /// memory is short, it is not.
+    /// Keeps one more entry, whose number is the one after the last. Where the call fails, the entry is kept or not;
+    /// where memory is short, it is not.
     fn append(&mut self, alloc: Global, entry: &StoredEntry) -> Result<(), KeeperFault>
         requires ready { IsReady true (sound self.old) (started self.old) (closed self.old) (spent self.old) }
         requires number { entry.now.seq < 2 ^ 63 }
@@ -102,8 +102,8 @@ pub trait Keeper {
         ensures read { IfOk result (IsHandedOver (tells self.new) (is_version_of table.now) after max (kept self.old)) }
         ensures steps { steps.new ≡ steps.old + versions_read result };
 
-    /// The first `max` questions, from 1 to 1,000, that were asked from one moment to another, both among them, and whose
-    /// numbers are above `after`.
+    /// The first `max` questions, from 1 to 1,000, that were asked from one moment to another, both among them, and
+    /// whose numbers are above `after`.
     fn read_asked(
         &mut self,
         alloc: Global,

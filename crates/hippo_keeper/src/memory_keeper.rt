@@ -1,8 +1,7 @@
 //! A keeper in memory that tells what it keeps, and fails where it is told to.
 ghost use Rattle.std.specs.Prelude.{◌≡◌, ℕ, ◌+◌, ◌≤◌, Bool, true, false, List, [], filter, Some, is_some, nat_lt, IfOk, OnOk, OnErr, ⊤};
-ghost use Rattle.hippo_model.specs.declared.stored.StoredEntry.{StoredEntry};
 ghost use Rattle.hippo_keeper.specs.Answering.{has_failed, wants_memory};
-ghost use Rattle.hippo_keeper.specs.Keeping.{RisesAbove, next_number};
+ghost use Rattle.hippo_keeper.specs.Keeping.{Store, RisesAbove, next_number};
 ghost use Rattle.hippo_keeper.specs.MemoryKeeping.{new_store, next_failure, after_call, after_fault, after_answer, after_start, after_append, with_entry, FindsInMemory, SurvivesInMemory};
 ghost use Rattle.hippo_keeper.specs.Selecting.{is_any, is_version_of, was_asked_in, is_selected, versions_read, IsHandedOver};
 
@@ -46,8 +45,9 @@ impl Model for MemoryKeeper {
 }
 
 impl MemoryKeeper {
-    /// A keeper of these entries, whose numbers begin above 0 and rise. Of all calls of the trait `Keeper`, counted from 1,
-    /// those fail that are in `failing`.
+    /// A keeper of these entries, whose numbers begin above 0 and rise. Of all calls of the trait `Keeper`, counted from
+    /// 1, those fail that are in `failing`; where an append is to keep its entry and fail, and finds no memory for it, it
+    /// answers `Memory` instead.
     pub fn new(kept: StoredList, failing: KeeperFails) -> MemoryKeeper
         requires { RisesAbove 0 kept }
         ensures { result ≡ new_store kept failing }
@@ -74,7 +74,7 @@ impl MemoryKeeper {
     pub fn restart(self) -> MemoryKeeper
         ensures new { result ≡ new_store self.kept [] }
         ensures survived { SurvivesInMemory self result.kept }
-        ensures finds { (name : List ℕ) (list : List StoredEntry) → FindsInMemory result name list → SurvivesInMemory self list }
+        ensures finds { (name : List ℕ) (store : Store) → FindsInMemory result name store → SurvivesInMemory self store }
     {
         let mut failing = self.failing;
         failing.clear();

@@ -10,8 +10,11 @@ use std::sync::ledger::Ledger;
 
 // The kinds of the entries that insert, update or delete a row, and of questions.
 const INSERT: u8 = 2;
+
 const UPDATE: u8 = 3;
+
 const DELETE: u8 = 4;
+
 const ASKED: u8 = 13;
 
 /// What a read asks for.
@@ -37,9 +40,7 @@ fn is_among(selection: &Selection<'_>, entry: &StoredEntry) -> bool
 {
     match selection {
         Selection::All => true,
-        Selection::VersionsOf(table) => {
-            is_version(entry) && entry.table.as_str() == *table
-        }
+        Selection::VersionsOf(table) => { is_version(entry) && entry.table.as_str() == *table }
         Selection::AskedIn(from, to) => {
             entry.kind == ASKED && from.seconds() <= entry.moment && entry.moment <= to.seconds()
         }

@@ -1,5 +1,5 @@
 -- The numbers rise, so those above one begin at the place that is found.
-use Rattle.std.proofs.Common.{◌≡◌, ◌∙◌, leb, ap, subst, sym, filter, nat_lt, drop, rules}
+use Rattle.std.proofs.Common.{◌≡◌, ◌∙◌, leb, ap, subst, sym, filter, nat_lt, rules}
 use Rattle.std.proofs.lemmas.List.{take_rest}
 use Rattle.std.proofs.lemmas.List.Sorted.{IsPartitionedBy-leb, IsPartitionPoint-from_clause}
 use Rattle.hippo_keeper.specs.Keeping.{RisesAbove}
@@ -18,5 +18,5 @@ returns c =
     let found = take_rest kept place ∙ entries_from c.args.after kept place split in
     record {
       above = found ∙ ap (λ list. filter (λ entry. nat_lt c.args.after entry.seq) list) same;
-      order = subst (λ list. RisesAbove c.args.after list) (sym found) (RisesAbove-above c.args.after 0 kept rises)
+      order = subst (λ list. RisesAbove c.args.after list) (sym found) (RisesAbove-above c.args.after 0 kept rises);
     }

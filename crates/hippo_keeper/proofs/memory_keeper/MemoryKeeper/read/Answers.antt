@@ -1,5 +1,5 @@
 -- What is selected is so of the entries above the number, and rises as they do.
-use Rattle.std.proofs.Common.{◌≡◌, ◌∙◌, ◌≤◌, length, take, filter, ap, subst, sym, length-take, arith}
+use Rattle.std.proofs.Common.{◌≡◌, ◌∙◌, length, take, filter, ap, subst, sym, length-take, arith}
 use Rattle.hippo_keeper.specs.Keeping.{RisesAbove}
 use Rattle.hippo_keeper.specs.Selecting.{is_selected, handed_over}
 use Rattle.hippo_keeper.proofs.RisingLemmas.{RisesAbove-filter, RisesAbove-take}
@@ -14,5 +14,5 @@ returns-in-Ok-clause-read c =
     record {
       told = λ told. is ∙ ap (λ entries. take c.args.max (filter test entries)) c.entries_above.ensures.above ∙ ap (λ kept. handed_over test c.args.after c.args.max kept) same;
       few = omega (arith, ap length is, length-take c.args.max (filter test above));
-      order = subst (λ list. RisesAbove c.args.after list) (sym is) (RisesAbove-take c.args.max c.args.after _ (RisesAbove-filter test c.args.after above c.entries_above.ensures.order))
+      order = subst (λ list. RisesAbove c.args.after list) (sym is) (RisesAbove-take c.args.max c.args.after _ (RisesAbove-filter test c.args.after above c.entries_above.ensures.order));
     }
