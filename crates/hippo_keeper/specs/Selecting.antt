@@ -31,7 +31,7 @@ abbrev pub stored_versions : Store → ℕ
 stored_versions list = count_by is_stored_version list
 
 -- how many steps a read takes: one for each version that it hands over
-abbrev pub versions_read : Result (Store) KeeperFault → ℕ
+abbrev pub versions_read : Result Store KeeperFault → ℕ
 versions_read (Ok list) = stored_versions list
 versions_read (Err fault) = 0
 
