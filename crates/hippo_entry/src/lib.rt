@@ -1,7 +1,11 @@
 //! How an entry of the history is kept: its stored form, and back.
 #![tactic(auto)]
 
+mod acts;
 mod encoding;
+mod fault;
+mod keeping;
 mod parts;
+mod reading;
 
 pub use encoding::encode;

@@ -1,0 +1,2 @@
+pub mod PartLoops
+pub mod TextLemmas
