@@ -1,5 +1,5 @@
 //! The act of an entry, and the entry, read from bytes.
-ghost use Rattle.std.specs.Prelude.{◌≡◌, ◌×◌};
+ghost use Rattle.std.specs.Prelude.{◌≡◌};
 ghost use Rattle.hippo_model.specs.declared.entry.Act.TheVariants.{Insert, Update, Delete, Authorize, Deauthorize};
 ghost use Rattle.hippo_entry.specs.Readings.{Gives, Reads, leading_create, leading_change, leading_purpose, leading_recipient, leading_new_item, leading_grant, item_of_byte, leading_item, leading_days, leading_allow, leading_revoke, leading_choice, leading_question, act_of_kind, moment_of, leading_entry};
 
