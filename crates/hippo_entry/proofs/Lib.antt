@@ -1,2 +1,3 @@
 pub mod PartLoops
 pub mod TextLemmas
+pub mod Fields

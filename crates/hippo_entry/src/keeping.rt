@@ -1,11 +1,12 @@
 //! Whether an entry has a stored form.
-ghost use Rattle.std.specs.Prelude.{◌≡◌, ◌&&◌, nat_le};
+ghost use Rattle.std.specs.Prelude.{◌≡◌, ◌&&◌, nat_le, nat_lt};
 ghost use Rattle.std.specs.List.{list_all};
 ghost use Rattle.hippo_values.specs.Limits.{text_limit, line_limit};
-ghost use Rattle.hippo_model.specs.Keepable.{is_folded_name, is_text, has_count, is_short, is_place, value_is_keepable, cells_are_keepable, places_are_keepable, columns_are_keepable, key_is_keepable, subject_is_keepable, schema_is_keepable, item_is_keepable, question_is_keepable, rule_is_keepable, act_is_keepable, is_keepable};
+ghost use Rattle.hippo_values.specs.Moments.{is_day, is_moment, is_signed_number};
+ghost use Rattle.hippo_model.specs.Keepable.{is_folded_name, is_text, has_count, is_short, is_place, value_is_keepable, cells_are_keepable, places_are_keepable, columns_are_keepable, key_is_keepable, subject_is_keepable, days_are_keepable, schema_is_keepable, item_is_keepable, question_is_keepable, rule_is_keepable, act_is_keepable, is_keepable};
 
 use hippo_model::{Act, Cells, Column, Columns, Entry, Places, Schema};
-use hippo_values::{LINE_LIMIT, Name, TEXT_LIMIT, Txt, Value, is_name};
+use hippo_values::{DayNumber, LINE_LIMIT, Moment, Name, TEXT_LIMIT, Txt, Value, is_name};
 
 // A list has as many members as one byte counts.
 const COUNT_LIMIT: usize = 255;
@@ -31,19 +32,69 @@ fn is_place(place: usize) -> bool
     place <= COUNT_LIMIT
 }
 
+// Every text is UTF-8 by its type.
+fn is_text(limit: usize, text: &str) -> bool
+    ensures { result ≡ is_text limit text.now }
+{
+    text.len() <= limit
+}
+
+// Every number is one of 64 bits by its type, and every number of days one of 32.
+fn is_number(_number: i64) -> bool
+    ensures { result ≡ is_signed_number _number }
+{
+    true
+}
+
+fn is_count(_number: u64) -> bool
+    ensures { result ≡ nat_lt _number 18446744073709551616 }
+{
+    true
+}
+
+fn days_are_keepable(days: Option<u32>) -> bool
+    ensures { result ≡ days_are_keepable days }
+{
+    match days {
+        None | Some(_) => true,
+    }
+}
+
+fn is_day(day: DayNumber) -> bool
+    ensures { result ≡ is_day day }
+{
+    let number = day.day();
+    number >= DayNumber::FIRST && number <= DayNumber::LAST
+}
+
+fn is_moment(moment: Moment) -> bool
+    ensures { result ≡ is_moment moment }
+{
+    let seconds = moment.seconds();
+    seconds >= Moment::FIRST && seconds <= Moment::LAST
+}
+
 fn value_is_keepable(value: &Value) -> bool
     ensures { result ≡ value_is_keepable value.now }
 {
     match value {
-        Value::Text(text) => text.len() <= TEXT_LIMIT,
-        _ => true,
+        Value::Null => true,
+        Value::Int(number) => is_number(*number),
+        Value::Text(text) => is_text(TEXT_LIMIT, text.as_str()),
+        Value::Day(day) => is_day(*day),
     }
+}
+
+fn are_values(values: &[Value]) -> bool
+    ensures { result ≡ list_all value_is_keepable values.now }
+{
+    values.iter().all(|value| value_is_keepable(value))
 }
 
 fn cells_are_keepable(cells: &Cells) -> bool
     ensures { result ≡ cells_are_keepable cells.now }
 {
-    cells.len() <= COUNT_LIMIT && cells.as_slice().iter().all(|value| value_is_keepable(value))
+    cells.len() <= COUNT_LIMIT && are_values(cells.as_slice())
 }
 
 fn are_places(places: &[usize]) -> bool
@@ -106,7 +157,7 @@ fn item_is_keepable(item: &Option<Name>) -> bool
 fn question_is_keepable(text: &Txt) -> bool
     ensures { result ≡ question_is_keepable text.now }
 {
-    text.len() >= 1 && text.len() <= LINE_LIMIT
+    text.len() >= 1 && is_text(LINE_LIMIT, text.as_str())
 }
 
 fn row_is_keepable(table: &Name, row: &Cells) -> bool
@@ -127,6 +178,33 @@ fn rule_is_keepable(purpose: &Name, recipient: &Name, table: &Name, columns: &Pl
     are_names(purpose, recipient, table) && places_are_keepable(columns)
 }
 
+fn allowance_is_keepable(
+    purpose: &Name,
+    recipient: &Name,
+    table: &Name,
+    columns: &Places,
+    item: &Option<Name>,
+    days: Option<u32>,
+) -> bool
+    ensures { result ≡ rule_is_keepable purpose.now recipient.now table.now columns.now && item_is_keepable item.now && days_are_keepable days }
+{
+    rule_is_keepable(purpose, recipient, table, columns)
+        && item_is_keepable(item)
+        && days_are_keepable(days)
+}
+
+fn choice_is_keepable(subject: i64, item: &Name) -> bool
+    ensures { result ≡ is_signed_number subject && is_folded_name item.now }
+{
+    is_number(subject) && is_folded_name(item)
+}
+
+fn asked_is_keepable(user: &Name, purpose: &Name, recipient: &Name, text: &Txt) -> bool
+    ensures { result ≡ is_folded_name user.now && is_folded_name purpose.now && is_folded_name recipient.now && question_is_keepable text.now }
+{
+    are_names(user, purpose, recipient) && question_is_keepable(text)
+}
+
 fn act_is_keepable(act: &Act) -> bool
     ensures { result ≡ act_is_keepable act.now }
 {
@@ -135,7 +213,7 @@ fn act_is_keepable(act: &Act) -> bool
         Act::Insert { table, row } | Act::Update { table, row } => row_is_keepable(table, row),
         Act::Delete { table, key } => row_is_keepable(table, key),
         Act::Purpose(name) | Act::Recipient(name) => is_folded_name(name),
-        Act::Item { item, .. } | Act::Choice { item, .. } => is_folded_name(item),
+        Act::Item { item, .. } => is_folded_name(item),
         Act::Authorize {
             user,
             purpose,
@@ -152,20 +230,21 @@ fn act_is_keepable(act: &Act) -> bool
             table,
             columns,
             item,
-            ..
-        } => rule_is_keepable(purpose, recipient, table, columns) && item_is_keepable(item),
+            days,
+        } => allowance_is_keepable(purpose, recipient, table, columns, item, *days),
         Act::Revoke {
             purpose,
             recipient,
             table,
             columns,
         } => rule_is_keepable(purpose, recipient, table, columns),
+        Act::Choice { subject, item, .. } => choice_is_keepable(*subject, item),
         Act::Asked {
             user,
             purpose,
             recipient,
             text,
-        } => are_names(user, purpose, recipient) && question_is_keepable(text),
+        } => asked_is_keepable(user, purpose, recipient, text),
     }
 }
 
@@ -173,5 +252,5 @@ fn act_is_keepable(act: &Act) -> bool
 pub fn is_keepable(entry: &Entry) -> bool
     ensures { result ≡ is_keepable entry.now }
 {
-    act_is_keepable(&entry.act)
+    is_count(entry.seq) && is_moment(entry.moment) && act_is_keepable(&entry.act)
 }
