@@ -88,7 +88,7 @@ pub name_again : (name : Name) (rest : List ℕ) → is_folded_name name ≡ tru
 unfolding leading_name
 name_again name rest fits =
     let parts = and_parts (is_name name) (bytes_eq (folded name) name) fits in
-    let same : folded name ≡ name = (bytes_eq-Decides (folded name) name).true parts.1 in
+    let same : folded name ≡ name = (bytes_eq-Decides (folded name) name).0 parts.1 in
     rw (bytes_again (length name) name rest refl, name_is_utf8 name parts.0, parts.0, same) refl
 
 pub a_name : ReadsAgain leading_name is_folded_name name_bytes

@@ -5,7 +5,11 @@ use Rattle.hippo_model.specs.declared.stored.StoredEntry.{StoredEntry}
 use Rattle.hippo_model.specs.StoredForms.{stored}
 use Rattle.hippo_model.specs.Keepable.{is_keepable}
 
--- the entry that can be kept and has this stored form, and none just where no entry has
+-- the entry can be kept, and this is its stored form
+abbrev pub HasForm : StoredEntry → Entry → Type 0
+HasForm kept entry = (is_keepable entry ≡ true) × (stored entry ≡ kept)
+
+-- an entry that is found has this form, and each entry that has it is the one that is found: none just where none has
 pub record IsEntryOf (kept : StoredEntry) (found : Option Entry) : Type 0 where
-  pub sound : IfSome found (λ entry. (is_keepable entry ≡ true) × (stored entry ≡ kept))
-  pub only : (entry : Entry) → is_keepable entry ≡ true → stored entry ≡ kept → found ≡ Some entry
+  pub sound : IfSome found (HasForm kept)
+  pub only : (entry : Entry) → HasForm kept entry → found ≡ Some entry

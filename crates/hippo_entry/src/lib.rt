@@ -2,10 +2,12 @@
 #![tactic(auto)]
 
 mod acts;
+mod decoding;
 mod encoding;
 mod fault;
 mod keeping;
 mod parts;
 mod reading;
 
+pub use decoding::decode;
 pub use encoding::encode;
