@@ -1,6 +1,9 @@
 -- An entry that was written is read again, part by part.
-use Rattle.std.proofs.Common.{◌≡◌, ℕ, ◌+◌, ◌<◌, ◌^◌, ℤ, pos, negsuc, Bool, true, false, ◌&&◌, List, [], ◌∷◌, ◌++◌, length, Option, Some, None, refl, sym, ap, subst, ◌∙◌, append_assoc, arith}
-use Rattle.std.specs.Prelude.{nat_lt, nat_le, int_le}
+use Rattle.std.proofs.Common.{◌≡◌, ℕ, ◌+◌, ◌<◌, ◌^◌, ℤ, pos, negsuc, Bool, true, false, ◌&&◌, List, [], ◌∷◌, ◌++◌, length, Option, Some, None, refl, sym, ap, subst, ◌∙◌, append_assoc, arith, Result, Ok, Err, ◌↔◌}
+use Rattle.std.specs.Prelude.{nat_lt, nat_le, int_le, IsTrue, IfOk}
+use Rattle.std.specs.Bool.{then_some}
+use Rattle.std.specs.Result.{result_map_both}
+use Rattle.hippo_values.specs.declared.memory.Memory.{Memory}
 use Rattle.std.specs.Int.{w32, w64, to_be_bytes, from_bool}
 use Rattle.std.specs.Int.RustNames.{FitsSigned}
 use Rattle.std.specs.List.{list_all}
@@ -245,8 +248,15 @@ read_from_form kept entry form =
     let whole : kept.body ≡ body entry ++ [] = sym (ap (λ (s : StoredEntry). s.body) form.1) ∙ sym (append-nil (body entry)) in
     ap leading_entry whole ∙ entry_again entry [] form.0
 
-same_first : {x y : Entry} {r s : List ℕ} → Some (x, r) ≡ Some (y, s) → x ≡ y
-same_first e = cc
+abbrev read_as : Entry → List ℕ → Option (Entry × List ℕ)
+read_as entry rest = Some (entry, rest)
+
+abbrev first_or : Entry → Option (Entry × List ℕ) → Entry
+first_or entry None = entry
+first_or entry (Some read) = read.0
+
+same_first : {x y : Entry} {r s : List ℕ} → read_as x r ≡ read_as y s → x ≡ y
+same_first {x = x} e = ap (first_or x) e
 
 -- where an entry was read that has the form, it is the one
 pub found_entry : (kept : StoredEntry) (entry : Entry) (rest : List ℕ) → leading_entry kept.body ≡ Some (entry, rest) → HasForm kept entry → IsEntryOf kept (Some entry)
@@ -271,3 +281,17 @@ no_entry kept read = record {
   sound = tt;
   only = λ other has. absurd (never_some (sym (read_from_form kept other has) ∙ read));
 }
+
+false_is_not : false ≡ true → ⊥
+false_is_not e = absurd cc
+
+judged : (kept : StoredEntry) (entry : Entry) (rest : List ℕ) → leading_entry kept.body ≡ Some (entry, rest) → (same : Bool) → IsTrue same ↔ HasForm kept entry
+    → IsEntryOf kept (then_some same entry)
+judged kept entry rest read true form = found_entry kept entry rest read (form.0 refl)
+judged kept entry rest read false form = other_form kept entry rest read (λ has. false_is_not (form.1 has))
+-- what was read, where the test says that it has the form
+pub is_entry_of : (kept : StoredEntry) (entry : Entry) (rest : List ℕ) → leading_entry kept.body ≡ Some (entry, rest)
+    → (test : Result Bool Memory) → IfOk test (λ same. IsTrue same ↔ HasForm kept entry)
+    → (result : Result (Option Entry) Memory) → result ≡ result_map_both (λ holds. then_some holds entry) (λ fault. fault) test → IfOk result (IsEntryOf kept)
+is_entry_of kept entry rest read (Ok same) form result is = rw is (judged kept entry rest read same form)
+is_entry_of kept entry rest read (Err fault) form result is = rw is tt

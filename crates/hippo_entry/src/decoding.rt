@@ -1,7 +1,7 @@
 //! The entry that has a stored form.
-ghost use Rattle.std.specs.Prelude.{◌≡◌, ◌↔◌, true, IsTrue, IfOk};
-ghost use Rattle.hippo_model.specs.StoredForms.{stored};
-ghost use Rattle.hippo_model.specs.Keepable.{is_keepable};
+ghost use Rattle.std.specs.Prelude.{◌≡◌, ◌↔◌, IsTrue, IfOk};
+ghost use Rattle.std.specs.Bool.{then_some};
+ghost use Rattle.std.specs.Result.{result_map_both};
 ghost use Rattle.hippo_entry.specs.Forms.{HasForm, IsEntryOf};
 
 use crate::acts::read_entry;
@@ -33,18 +33,19 @@ fn has_form(alloc: Global, entry: &Entry, kept: &StoredEntry) -> Result<bool, Me
     Ok(is_same(&form, kept))
 }
 
+// The value where the test holds.
+fn only_if<T: Drop>(test: Result<bool, Memory>, value: T) -> Result<Option<T>, Memory>
+    ensures { result ≡ result_map_both (λ holds. then_some holds value) (λ fault. fault) test }
+{
+    if test? { Ok(Some(value)) } else { Ok(None) }
+}
+
 /// The entry that has this stored form; none just where no entry has. It takes time in the length of the form.
 pub fn decode(alloc: Global, kept: &StoredEntry) -> Result<Option<Entry>, Memory>
-    ensures { IfOk result (λ found. IsEntryOf kept.now found) }
+    ensures found { IfOk result (IsEntryOf kept.now) }
 {
     match read_entry(alloc, kept.body.as_slice()) {
-        Ok((entry, _)) => {
-            if has_form(alloc, &entry, kept)? {
-                Ok(Some(entry))
-            } else {
-                Ok(None)
-            }
-        }
+        Ok((entry, _)) => only_if(has_form(alloc, &entry, kept), entry),
         Err(Fault::NoPart) => Ok(None),
         Err(Fault::Memory) => Err(Memory),
     }
