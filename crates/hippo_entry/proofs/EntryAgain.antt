@@ -1,13 +1,12 @@
 -- An entry that was written is read again, part by part.
-use Rattle.std.proofs.Common.{◌≡◌, ℕ, ◌+◌, ◌<◌, ◌^◌, ℤ, pos, negsuc, Bool, true, false, ◌&&◌, List, [], ◌∷◌, ◌++◌, length, Option, Some, None, refl, sym, ap, subst, ◌∙◌, append_assoc, arith, Result, Ok, Err, ◌↔◌}
+use Rattle.std.proofs.Common.{◌≡◌, ℕ, ℤ, pos, negsuc, Bool, true, false, ◌&&◌, List, [], ◌∷◌, ◌++◌, length, Option, Some, None, refl, sym, ap, subst, ◌∙◌, append_assoc, arith, Result, Ok, Err, ◌↔◌}
 use Rattle.std.specs.Prelude.{nat_lt, nat_le, int_le, IsTrue, IfOk}
 use Rattle.std.specs.Bool.{then_some}
 use Rattle.std.specs.Result.{result_map_both}
 use Rattle.hippo_values.specs.declared.memory.Memory.{Memory}
-use Rattle.std.specs.Int.{w32, w64, to_be_bytes, from_bool}
+use Rattle.std.specs.Int.{w32, w64, from_bool}
 use Rattle.std.specs.Int.RustNames.{FitsSigned}
 use Rattle.std.specs.List.{list_all}
-use Rattle.std.specs.Str.{is_utf8}
 use Rattle.std.proofs.lemmas.Bool.{and_parts, ltb-true}
 use Rattle.std.proofs.lemmas.Int.{ints}
 use Rattle.std.proofs.lemmas.List.{append-nil}
@@ -27,9 +26,9 @@ use Rattle.hippo_model.specs.declared.entry.ItemKind.{ItemKind}
 use Rattle.hippo_model.specs.declared.entry.ItemKind.TheVariants.{OptIn, OptOut}
 use Rattle.hippo_model.specs.declared.stored.StoredEntry.{StoredEntry}
 use Rattle.hippo_model.specs.Terms.{Row, Place}
-use Rattle.hippo_model.specs.StoredForms.{number_bytes, signed_bytes, day_bytes, name_bytes, text_bytes, list_bytes, place_bytes, value_bytes, column_kind, column_bytes, subject_byte, schema_bytes, item_kind, item_bytes, days_bytes, act_format, act_kind, act_bytes, body}
+use Rattle.hippo_model.specs.StoredForms.{number_bytes, signed_bytes, name_bytes, text_bytes, list_bytes, place_bytes, value_bytes, column_kind, column_bytes, subject_byte, schema_bytes, item_kind, item_bytes, days_bytes, act_format, act_kind, act_bytes, body}
 use Rattle.hippo_model.specs.Keepable.{is_folded_name, is_text, has_count, is_short, is_place, value_is_keepable, cells_are_keepable, places_are_keepable, columns_are_keepable, key_is_keepable, subject_is_keepable, schema_is_keepable, item_is_keepable, days_are_keepable, question_is_keepable, rule_is_keepable, act_is_keepable, is_keepable}
-use Rattle.hippo_entry.specs.Readings.{◌>>=◌, leading_byte, leading_name, leading_text, leading_list, leading_value, column_kind_of, bool_of, item_kind_of, subject_of_byte, leading_column, leading_schema, leading_create, leading_change, leading_purpose, leading_recipient, leading_new_item, leading_grant, leading_item, leading_days, leading_allow, leading_revoke, leading_choice, leading_question, act_of_kind, moment_of, leading_entry}
+use Rattle.hippo_entry.specs.Readings.{◌>>=◌, leading_byte, leading_list, leading_value, column_kind_of, bool_of, item_kind_of, subject_of_byte, leading_column, leading_schema, leading_create, leading_change, leading_purpose, leading_recipient, leading_new_item, leading_grant, leading_item, leading_days, leading_allow, leading_revoke, leading_choice, leading_question, act_of_kind, leading_entry}
 use Rattle.hippo_entry.specs.Forms.{HasForm, IsEntryOf}
 use Rattle.hippo_entry.proofs.Fields.{ReadsAgain, short_again, long_again, signed_again, short_signed_again, text_again, name_again, list_again}
 
@@ -111,9 +110,12 @@ schema_again x rest fits =
     let key = (and_parts (is_short x.key) (list_all is_place x.key) front.1).1 in
     let subject : List ℕ = subject_byte x.subject ∷ [] in
     ap leading_schema (four (name_bytes x.name) (list_bytes column_bytes x.columns) (list_bytes place_bytes x.key) subject rest)
-    ∙ rw (name_again x.name (list_bytes column_bytes x.columns ++ (list_bytes place_bytes x.key ++ (subject ++ rest))) first.0,
-          list_again a_column x.columns (list_bytes place_bytes x.key ++ (subject ++ rest)) columns,
-          list_again a_place x.key (subject ++ rest) key, subject_again x.subject) refl
+    ∙ rw (
+      name_again x.name (list_bytes column_bytes x.columns ++ (list_bytes place_bytes x.key ++ (subject ++ rest))) first.0,
+      list_again a_column x.columns (list_bytes place_bytes x.key ++ (subject ++ rest)) columns,
+      list_again a_place x.key (subject ++ rest) key,
+      subject_again x.subject,
+    ) refl
 
 -- ---- acts
 
@@ -176,8 +178,14 @@ allow_again format p r t c i d rest fits days =
     let behind_columns : List ℕ = item_bytes i ++ (days_bytes d ++ rest) in
     let behind_table : List ℕ = list_bytes place_bytes c ++ behind_columns in
     ap (leading_allow format) (six (name_bytes p) (name_bytes r) (name_bytes t) (list_bytes place_bytes c) (item_bytes i) (days_bytes d) rest)
-    ∙ rw (name_again p (name_bytes r ++ (name_bytes t ++ behind_table)) first.0, name_again r (name_bytes t ++ behind_table) first.1, name_again t behind_table front.1,
-          places_again c behind_columns all.1, item_again i (days_bytes d ++ rest) both.1, days) refl
+    ∙ rw (
+      name_again p (name_bytes r ++ (name_bytes t ++ behind_table)) first.0,
+      name_again r (name_bytes t ++ behind_table) first.1,
+      name_again t behind_table front.1,
+      places_again c behind_columns all.1,
+      item_again i (days_bytes d ++ rest) both.1,
+      days,
+    ) refl
 
 revoke_again : (p r t : Name) (c : List Place) (rest : List ℕ) → rule_is_keepable p r t c ≡ true
     → leading_revoke ((name_bytes p ++ name_bytes r ++ name_bytes t ++ list_bytes place_bytes c) ++ rest) ≡ Some (Revoke p r t c, rest)
@@ -207,8 +215,12 @@ question_again u p r text rest fits =
     let first = and_parts (is_folded_name u) (is_folded_name p) front.0 in
     let within = (and_parts (nat_le 1 (length text)) (is_text 65536 text) all.1).1 in
     ap leading_question (four (name_bytes u) (name_bytes p) (name_bytes r) (text_bytes text) rest)
-    ∙ rw (name_again u (name_bytes p ++ (name_bytes r ++ (text_bytes text ++ rest))) first.0, name_again p (name_bytes r ++ (text_bytes text ++ rest)) first.1,
-          name_again r (text_bytes text ++ rest) front.1, text_again 65536 text rest (omega arith) within) refl
+    ∙ rw (
+      name_again u (name_bytes p ++ (name_bytes r ++ (text_bytes text ++ rest))) first.0,
+      name_again p (name_bytes r ++ (text_bytes text ++ rest)) first.1,
+      name_again r (text_bytes text ++ rest) front.1,
+      text_again 65536 text rest (omega arith) within,
+    ) refl
 
 act_again : (x : Act) (rest : List ℕ) → act_is_keepable x ≡ true → act_of_kind (act_format x) (act_kind x) (act_bytes x ++ rest) ≡ Some (x, rest)
 act_again (Create schema) rest fits = create_again schema rest fits
@@ -289,6 +301,7 @@ judged : (kept : StoredEntry) (entry : Entry) (rest : List ℕ) → leading_entr
     → IsEntryOf kept (then_some same entry)
 judged kept entry rest read true form = found_entry kept entry rest read (form.0 refl)
 judged kept entry rest read false form = other_form kept entry rest read (λ has. false_is_not (form.1 has))
+
 -- what was read, where the test says that it has the form
 pub is_entry_of : (kept : StoredEntry) (entry : Entry) (rest : List ℕ) → leading_entry kept.body ≡ Some (entry, rest)
     → (test : Result Bool Memory) → IfOk test (λ same. IsTrue same ↔ HasForm kept entry)

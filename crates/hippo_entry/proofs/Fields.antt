@@ -1,11 +1,11 @@
 -- What was written is read again.
-use Rattle.std.proofs.Common.{◌≡◌, ℕ, ◌<◌, ◌≤◌, ◌^◌, ℤ, Bool, true, false, ◌&&◌, List, [], ◌∷◌, ◌++◌, length, Option, Some, None, refl, sym, ap, ◌∙◌, append_assoc, arith, if◌then◌else◌}
+use Rattle.std.proofs.Common.{◌≡◌, ℕ, ◌<◌, ◌≤◌, ◌^◌, ℤ, Bool, true, false, ◌&&◌, List, [], ◌∷◌, ◌++◌, length, Option, Some, refl, ap, ◌∙◌, append_assoc, arith}
 use Rattle.std.specs.Prelude.{nat_lt, nat_le, bytes_eq}
 use Rattle.std.specs.Int.{Width, w32, w64, byte_len, to_be_bytes, from_be_bytes, cast_unsigned, cast_signed}
 use Rattle.std.specs.Int.RustNames.{FitsSigned}
 use Rattle.std.specs.List.{list_all, flat_map}
-use Rattle.std.specs.Str.{IsUtf8, IsAscii, is_utf8}
-use Rattle.std.proofs.lemmas.Bool.{and_parts, ltb-true, leb-true, le-ltb}
+use Rattle.std.specs.Str.{IsAscii, is_utf8}
+use Rattle.std.proofs.lemmas.Bool.{and_parts, leb-true, le-ltb}
 use Rattle.std.proofs.lemmas.Bool.Decides.{nat_tests}
 use Rattle.std.proofs.lemmas.Int.{to_z-of_z, ints}
 use Rattle.std.proofs.lemmas.List.{take_at, drop_at, length-append}
@@ -15,11 +15,10 @@ use Rattle.std.proofs.lemmas.Slice.Eq.{bytes_eq-Decides}
 use Rattle.std.proofs.lemmas.Str.{is_utf8-from_IsUtf8, IsUtf8-from_ascii}
 use Rattle.std.proofs.lemmas.Str.Ascii.{IsAscii-nil, IsAscii-cons}
 use Rattle.hippo_values.specs.declared.names.Name.{Name}
-use Rattle.hippo_values.specs.Texts.{Txt}
-use Rattle.hippo_values.specs.Names.{folded, is_word_byte, begins_with_letter, is_word, is_reserved, is_name, name_of}
+use Rattle.hippo_values.specs.Names.{folded, is_word_byte, begins_with_letter, is_word, is_name}
 use Rattle.hippo_model.specs.StoredForms.{name_bytes, text_bytes, list_bytes}
 use Rattle.hippo_model.specs.Keepable.{is_folded_name, is_text}
-use Rattle.hippo_entry.specs.Readings.{◌>>=◌, leading_byte, leading_bytes, leading_number, leading_signed, text_of, leading_text, leading_name, leading_parts, leading_list}
+use Rattle.hippo_entry.specs.Readings.{◌>>=◌, leading_bytes, leading_number, leading_signed, leading_text, leading_name, leading_parts, leading_list}
 
 -- where a part that fits was written, the reading gives the part, and what stands behind it
 pub record ReadsAgain {A : Type 0} (reading : List ℕ → Option (A × List ℕ)) (fits : A → Bool) (write : A → List ℕ) : Type 0 where

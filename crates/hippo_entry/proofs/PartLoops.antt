@@ -3,7 +3,7 @@ use Rattle.std.proofs.Common.{◌≡◌, ℕ, suc, ◌-◌, ◌+◌, ◌≤◌, 
 use Rattle.std.proofs.lemmas.List.{append-nil}
 use Rattle.hippo_entry.specs.declared.fault.Fault.{Fault}
 use Rattle.hippo_entry.specs.declared.fault.Fault.TheVariants as fault
-use Rattle.hippo_entry.specs.Readings.{◌>>=◌, Reading, Fails, leading_parts}
+use Rattle.hippo_entry.specs.Readings.{◌>>=◌, Fails, leading_parts}
 
 module _ {A : Type 0} (reading : List ℕ → Option (A × List ℕ)) where
   -- what was read before, and what is still read

@@ -238,7 +238,8 @@ fn table_changed(alloc: Global, act: &Act) -> Result<Txt, Memory>
     }
 }
 
-/// The stored form of an entry that can be kept.
+/// The stored form of an entry that can be kept: its number, moment, kind, the table whose row it changes, and its body,
+/// in format 2 for a rule with days, else in format 1. It takes time in the length of the body.
 pub fn encode(alloc: Global, entry: &Entry) -> Result<StoredEntry, Memory>
     requires keepable { is_keepable entry.now ≡ true }
     ensures form { IfOk result (λ kept. kept ≡ stored entry.now) }

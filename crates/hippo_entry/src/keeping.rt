@@ -1,4 +1,4 @@
-//! Whether an entry has a stored form.
+//! Whether an entry can be kept: what the types of its parts leave open.
 ghost use Rattle.std.specs.Prelude.{◌≡◌, ◌&&◌, nat_le, nat_lt};
 ghost use Rattle.std.specs.List.{list_all};
 ghost use Rattle.hippo_values.specs.Limits.{text_limit, line_limit};
@@ -32,14 +32,14 @@ fn is_place(place: usize) -> bool
     place <= COUNT_LIMIT
 }
 
-// Every text is UTF-8 by its type.
+// Every text is UTF-8 by its type, every number one of 64 bits, every number of days one of 32; so where the tests of the
+// definitions say no more, there is nothing to look at.
 fn is_text(limit: usize, text: &str) -> bool
     ensures { result ≡ is_text limit text.now }
 {
     text.len() <= limit
 }
 
-// Every number is one of 64 bits by its type, and every number of days one of 32.
 fn is_number(_number: i64) -> bool
     ensures { result ≡ is_signed_number _number }
 {

@@ -17,7 +17,8 @@ pub trait Part {
         ensures { OnOk result (out.new.items ≡ out.old.items ++ bytes self.now) };
 }
 
-/// A number that has room in one byte, as each count and place of an entry that can be kept has.
+/// A number in one byte. Each count and place of an entry that can be kept has room in one; the case that cannot come is
+/// answered with want of memory.
 pub fn one_byte(number: usize) -> Result<u8, Memory>
     ensures { IfOk result (λ byte. byte ≡ number) }
 {
@@ -27,7 +28,7 @@ pub fn one_byte(number: usize) -> Result<u8, Memory>
     }
 }
 
-// The length of a text that can be kept has room in four bytes.
+// A number in four bytes, as the length of each text that can be kept.
 fn four_bytes(number: usize) -> Result<u32, Memory>
     ensures { IfOk result (λ length. length ≡ number) }
 {
