@@ -1,7 +1,7 @@
 //! The stored form of an entry.
 ghost use Rattle.std.specs.Prelude.{◌≡◌, true, [], ◌∷◌, ◌++◌, IfOk, OnOk};
-ghost use Rattle.std.specs.Int.{from_bool};
-ghost use Rattle.hippo_model.specs.StoredForms.{number_bytes, signed_bytes, name_bytes, text_bytes, list_bytes, place_bytes, value_bytes, subject_byte, schema_bytes, item_kind, item_bytes, days_bytes, act_format, act_kind, act_bytes, body, table_changed, stored};
+ghost use Rattle.hippo_model.specs.declared.entry.Act.TheVariants.{Allow, Revoke, Choice, Asked};
+ghost use Rattle.hippo_model.specs.StoredForms.{name_bytes, list_bytes, value_bytes, subject_byte, schema_bytes, item_kind, item_bytes, days_bytes, act_format, act_kind, act_bytes, body, table_changed, stored};
 ghost use Rattle.hippo_model.specs.Keepable.{is_keepable};
 
 use crate::parts::{Part, one_byte, write_byte, write_number, write_signed, write_text};
@@ -100,7 +100,7 @@ fn write_cells(
     out: &mut Vec<u8>,
 ) -> Result<(), Memory>
     ensures { OnOk result
-        (out.new.items ≡ out.old.items ++ (name_bytes purpose.now ++ name_bytes recipient.now ++ name_bytes table.now ++ list_bytes place_bytes columns.now)) }
+        (out.new.items ≡ out.old.items ++ act_bytes (Revoke purpose.now recipient.now table.now columns.now)) }
 {
     write_names(purpose, recipient, table, out)?;
     columns.write(out)
@@ -132,7 +132,7 @@ fn write_days(days: Option<u32>, out: &mut Vec<u8>) -> Result<(), Memory>
 
 fn write_choice(subject: i64, item: &Name, yes: bool, out: &mut Vec<u8>) -> Result<(), Memory>
     ensures { OnOk result
-        (out.new.items ≡ out.old.items ++ (signed_bytes subject ++ name_bytes item.now ++ from_bool yes ∷ [])) }
+        (out.new.items ≡ out.old.items ++ act_bytes (Choice subject item.now yes)) }
 {
     write_signed(subject, out)?;
     item.write(out)?;
@@ -147,7 +147,7 @@ fn write_question(
     out: &mut Vec<u8>,
 ) -> Result<(), Memory>
     ensures { OnOk result
-        (out.new.items ≡ out.old.items ++ (name_bytes user.now ++ name_bytes purpose.now ++ name_bytes recipient.now ++ text_bytes text.now)) }
+        (out.new.items ≡ out.old.items ++ act_bytes (Asked user.now purpose.now recipient.now text.now)) }
 {
     write_names(user, purpose, recipient, out)?;
     write_text(text, out)
@@ -163,7 +163,8 @@ fn write_rule(
     out: &mut Vec<u8>,
 ) -> Result<(), Memory>
     ensures { OnOk result
-        (out.new.items ≡ out.old.items ++ (name_bytes purpose.now ++ name_bytes recipient.now ++ name_bytes table.now ++ list_bytes place_bytes columns.now ++ item_bytes item.now ++ days_bytes days)) }
+        (out.new.items ≡ out.old.items
+            ++ act_bytes (Allow purpose.now recipient.now table.now columns.now item.now days)) }
 {
     write_cells(purpose, recipient, table, columns, out)?;
     write_item(item, out)?;

@@ -32,8 +32,8 @@ fn is_place(place: usize) -> bool
     place <= COUNT_LIMIT
 }
 
-// Every text is UTF-8 by its type, every number one of 64 bits, every number of days one of 32; so where the tests of the
-// definitions say no more, there is nothing to look at.
+// Every text is UTF-8 by its type, every number one of 64 bits, every number of days one of 32; so where a test of the
+// definitions says no more, there is nothing to look at.
 fn is_text(limit: usize, text: &str) -> bool
     ensures { result ≡ is_text limit text.now }
 {
@@ -186,7 +186,8 @@ fn allowance_is_keepable(
     item: &Option<Name>,
     days: Option<u32>,
 ) -> bool
-    ensures { result ≡ rule_is_keepable purpose.now recipient.now table.now columns.now && item_is_keepable item.now && days_are_keepable days }
+    ensures { result ≡ (rule_is_keepable purpose.now recipient.now table.now columns.now
+        && item_is_keepable item.now && days_are_keepable days) }
 {
     rule_is_keepable(purpose, recipient, table, columns)
         && item_is_keepable(item)
@@ -200,7 +201,8 @@ fn choice_is_keepable(subject: i64, item: &Name) -> bool
 }
 
 fn asked_is_keepable(user: &Name, purpose: &Name, recipient: &Name, text: &Txt) -> bool
-    ensures { result ≡ is_folded_name user.now && is_folded_name purpose.now && is_folded_name recipient.now && question_is_keepable text.now }
+    ensures { result ≡ (is_folded_name user.now && is_folded_name purpose.now
+        && is_folded_name recipient.now && question_is_keepable text.now) }
 {
     are_names(user, purpose, recipient) && question_is_keepable(text)
 }
