@@ -164,7 +164,7 @@ fn write_rule(
 ) -> Result<(), Memory>
     ensures { OnOk result
         (out.new.items ≡ out.old.items
-            ++ act_bytes (Allow purpose.now recipient.now table.now columns.now item.now days)) }
+        ++ act_bytes (Allow purpose.now recipient.now table.now columns.now item.now days)) }
 {
     write_cells(purpose, recipient, table, columns, out)?;
     write_item(item, out)?;

@@ -26,12 +26,6 @@ fn is_short(length: usize) -> bool
     length >= 1 && length <= COLUMN_LIMIT
 }
 
-fn is_place(place: usize) -> bool
-    ensures { result ≡ is_place place }
-{
-    place <= COUNT_LIMIT
-}
-
 // Every text is UTF-8 by its type, every number one of 64 bits, every number of days one of 32; so where a test of the
 // definitions says no more, there is nothing to look at.
 fn is_text(limit: usize, text: &str) -> bool
@@ -100,7 +94,7 @@ fn cells_are_keepable(cells: &Cells) -> bool
 fn are_places(places: &[usize]) -> bool
     ensures { result ≡ list_all is_place places.now }
 {
-    places.iter().all(|place| is_place(*place))
+    places.iter().all(|place| *place <= COUNT_LIMIT)
 }
 
 fn places_are_keepable(places: &Places) -> bool
@@ -160,12 +154,6 @@ fn question_is_keepable(text: &Txt) -> bool
     text.len() >= 1 && is_text(LINE_LIMIT, text.as_str())
 }
 
-fn row_is_keepable(table: &Name, row: &Cells) -> bool
-    ensures { result ≡ is_folded_name table.now && cells_are_keepable row.now }
-{
-    is_folded_name(table) && cells_are_keepable(row)
-}
-
 fn are_names(first: &Name, second: &Name, third: &Name) -> bool
     ensures { result ≡ is_folded_name first.now && is_folded_name second.now && is_folded_name third.now }
 {
@@ -178,42 +166,15 @@ fn rule_is_keepable(purpose: &Name, recipient: &Name, table: &Name, columns: &Pl
     are_names(purpose, recipient, table) && places_are_keepable(columns)
 }
 
-fn allowance_is_keepable(
-    purpose: &Name,
-    recipient: &Name,
-    table: &Name,
-    columns: &Places,
-    item: &Option<Name>,
-    days: Option<u32>,
-) -> bool
-    ensures { result ≡ (rule_is_keepable purpose.now recipient.now table.now columns.now
-        && item_is_keepable item.now && days_are_keepable days) }
-{
-    rule_is_keepable(purpose, recipient, table, columns)
-        && item_is_keepable(item)
-        && days_are_keepable(days)
-}
-
-fn choice_is_keepable(subject: i64, item: &Name) -> bool
-    ensures { result ≡ is_signed_number subject && is_folded_name item.now }
-{
-    is_number(subject) && is_folded_name(item)
-}
-
-fn asked_is_keepable(user: &Name, purpose: &Name, recipient: &Name, text: &Txt) -> bool
-    ensures { result ≡ (is_folded_name user.now && is_folded_name purpose.now
-        && is_folded_name recipient.now && question_is_keepable text.now) }
-{
-    are_names(user, purpose, recipient) && question_is_keepable(text)
-}
-
 fn act_is_keepable(act: &Act) -> bool
     ensures { result ≡ act_is_keepable act.now }
 {
     match act {
         Act::Create(schema) => schema_is_keepable(schema),
-        Act::Insert { table, row } | Act::Update { table, row } => row_is_keepable(table, row),
-        Act::Delete { table, key } => row_is_keepable(table, key),
+        Act::Insert { table, row } | Act::Update { table, row } => {
+            is_folded_name(table) && cells_are_keepable(row)
+        }
+        Act::Delete { table, key } => is_folded_name(table) && cells_are_keepable(key),
         Act::Purpose(name) | Act::Recipient(name) => is_folded_name(name),
         Act::Item { item, .. } => is_folded_name(item),
         Act::Authorize {
@@ -233,20 +194,24 @@ fn act_is_keepable(act: &Act) -> bool
             columns,
             item,
             days,
-        } => allowance_is_keepable(purpose, recipient, table, columns, item, *days),
+        } => {
+            rule_is_keepable(purpose, recipient, table, columns)
+                && item_is_keepable(item)
+                && days_are_keepable(*days)
+        }
         Act::Revoke {
             purpose,
             recipient,
             table,
             columns,
         } => rule_is_keepable(purpose, recipient, table, columns),
-        Act::Choice { subject, item, .. } => choice_is_keepable(*subject, item),
+        Act::Choice { subject, item, .. } => is_number(*subject) && is_folded_name(item),
         Act::Asked {
             user,
             purpose,
             recipient,
             text,
-        } => asked_is_keepable(user, purpose, recipient, text),
+        } => are_names(user, purpose, recipient) && question_is_keepable(text),
     }
 }
 

@@ -62,13 +62,6 @@ pub fn write_signed(number: i64, out: &mut Vec<u8>) -> Result<(), Memory>
     Ok(())
 }
 
-fn write_day(day: i32, out: &mut Vec<u8>) -> Result<(), Memory>
-    ensures { OnOk result (out.new.items ≡ out.old.items ++ day_bytes day) }
-{
-    out.extend_from_slice(&day.cast_unsigned().to_be_bytes())?;
-    Ok(())
-}
-
 /// Adds a text at the end, its length in front of it.
 pub fn write_text(text: &Txt, out: &mut Vec<u8>) -> Result<(), Memory>
     ensures { OnOk result (out.new.items ≡ out.old.items ++ text_bytes text.now) }
@@ -121,7 +114,8 @@ fn write_day_value(day: i32, out: &mut Vec<u8>) -> Result<(), Memory>
     ensures { OnOk result (out.new.items ≡ out.old.items ++ 3 ∷ day_bytes day) }
 {
     out.push(3)?;
-    write_day(day, out)
+    out.extend_from_slice(&day.cast_unsigned().to_be_bytes())?;
+    Ok(())
 }
 
 impl Part for Value {

@@ -75,13 +75,6 @@ pub fn read_signed(bytes: &[u8]) -> Result<(i64, &[u8]), Fault>
     Ok((number.cast_signed(), rest))
 }
 
-fn read_short_signed(bytes: &[u8]) -> Result<(i32, &[u8]), Fault>
-    ensures { Reads (leading_signed w32) bytes.now result }
-{
-    let (number, rest) = read_short(bytes)?;
-    Ok((number.cast_signed(), rest))
-}
-
 fn text_of(bytes: &[u8]) -> Result<&str, Fault>
     ensures { Gives (λ text. text.now) result (text_of bytes.now) }
 {
@@ -192,8 +185,8 @@ fn day_of(number: i32) -> Result<DayNumber, Fault>
 fn read_day(bytes: &[u8]) -> Result<(Value, &[u8]), Fault>
     ensures { Reads leading_day bytes.now result }
 {
-    let (number, rest) = read_short_signed(bytes)?;
-    let day = day_of(number)?;
+    let (number, rest) = read_short(bytes)?;
+    let day = day_of(number.cast_signed())?;
     Ok((Value::Day(day), rest))
 }
 
