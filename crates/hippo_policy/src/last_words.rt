@@ -1,0 +1,91 @@
+//! What was said of a matter, and when: what the entries of a history say, by the key of what they speak of.
+ghost use Rattle.std.specs.Prelude.{◌≡◌, ℕ, List, [], ◌∷◌, ◌++◌, ◌-◌, length, take, Option, option_copied, OnOk, OnErr, if◌then◌else◌};
+ghost use Rattle.std.specs.List.Sorted.{IsNonDecreasingBy};
+ghost use Rattle.hippo_model.specs.Terms.{History};
+ghost use Rattle.hippo_model.specs.Histories.{last_word};
+ghost use Rattle.hippo_model.specs.declared.entry.Entry.{Entry};
+ghost use Rattle.hippo_policy.specs.Words.{Said, words_of, numbered, latest};
+
+use hippo_values::Memory;
+use std::alloc::Global;
+use std::collections::HashMap;
+use std::hash::Hash;
+
+/// What an entry says, and its number.
+#[derive(Drop)]
+pub struct Said<W> {
+    pub number: u64,
+    pub word: W,
+}
+
+// The last word up to entry number `n`, where the numbers rise.
+fn latest<W>(words: &[Said<W>], n: u64) -> Option<&W>
+    ensures { IsNonDecreasingBy (λ said. said.number) words.now → option_copied result ≡ latest n words.now }
+{
+    let end = words.partition_point(|said| said.number <= n);
+    match words[..end].last() {
+        None => None,
+        Some(said) => Some(&said.word),
+    }
+}
+
+/// For each key, what was said of it, in the order of the entries.
+#[derive(Drop)]
+pub struct LastWords<K: Eq + Hash, W> {
+    words: HashMap<K, Vec<Said<W>>>,
+}
+
+impl<K: Eq + Hash + Drop, W: Drop> LastWords<K, W> {
+    /// Nothing said; takes no memory.
+    pub fn new(alloc: Global) -> LastWords<K, W>
+        ensures { (key : K) → words_of K.eq result key ≡ [] }
+    {
+        LastWords {
+            words: HashMap::new(alloc),
+        }
+    }
+
+    /// What was said last of a key up to entry number `n`.
+    pub fn at(&self, n: u64, key: &K) -> Option<&W>
+        ensures { (word : Entry → Option W) (history : History) → words_of K.eq self.now key.now ≡ numbered word history
+            → option_copied result ≡ last_word word (take n history) }
+    {
+        match self.words.get(key) {
+            None => None,
+            Some(words) => latest(words, n),
+        }
+    }
+
+    /// Adds what an entry says of a key.
+    pub fn push(&mut self, alloc: Global, key: K, said: Said<W>) -> Result<(), Memory>
+        ensures ok { OnOk result ((other : K) → words_of K.eq self.new other ≡ (if K.eq key other then words_of K.eq self.old other ++ said ∷ [] else words_of K.eq self.old other)) }
+        ensures err { OnErr result ((other : K) → words_of K.eq self.new other ≡ words_of K.eq self.old other) }
+    {
+        match self.words.get_mut(&key) {
+            Some(words) => {
+                words.push(said)?;
+                Ok(())
+            }
+            None => self.begin(alloc, key, said),
+        }
+    }
+
+    fn begin(&mut self, alloc: Global, key: K, said: Said<W>) -> Result<(), Memory>
+        ensures ok { OnOk result ((other : K) → words_of K.eq self.new other ≡ (if K.eq key other then said ∷ [] else words_of K.eq self.old other)) }
+        ensures err { OnErr result ((other : K) → words_of K.eq self.new other ≡ words_of K.eq self.old other) }
+    {
+        let mut words = Vec::new(alloc);
+        words.push(said)?;
+        self.words.insert(key, words)?;
+        Ok(())
+    }
+
+    /// Takes back what was said last of a key.
+    pub fn pop(&mut self, key: &K)
+        ensures { (other : K) → words_of K.eq self.new other ≡ (if K.eq key.now other then take (length (words_of K.eq self.old other) - 1) (words_of K.eq self.old other) else words_of K.eq self.old other) }
+    {
+        if let Some(words) = self.words.get_mut(key) {
+            let _ = words.pop();
+        }
+    }
+}

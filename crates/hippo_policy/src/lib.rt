@@ -1,0 +1,5 @@
+//! What the rules, choices and authorizations of a history are, at every entry number.
+#![tactic(auto)]
+
+mod keys;
+mod last_words;
