@@ -90,3 +90,98 @@ pub struct ChoiceKey<'a> {
     pub subject: i64,
     pub item: KeyName<'a>,
 }
+
+impl<'a> ChoiceKey<'a> {
+    pub fn owned(alloc: Global, subject: i64, item: &Name) -> Result<ChoiceKey<'a>, Memory>
+        ensures { IfOk result (λ made. made ≡ record { subject = subject; item = item.now }) }
+    {
+        let item = KeyName::owned(alloc, item)?;
+        Ok(ChoiceKey { subject, item })
+    }
+}
+
+/// A user who asks for a purpose and recipient.
+#[derive(Drop, PartialEq, Eq, Hash)]
+pub struct UserKey<'a> {
+    pub user: KeyName<'a>,
+    pub purpose: KeyName<'a>,
+    pub recipient: KeyName<'a>,
+}
+
+impl<'a> UserKey<'a> {
+    pub fn owned(
+        alloc: Global,
+        user: &Name,
+        purpose: &Name,
+        recipient: &Name,
+    ) -> Result<UserKey<'a>, Memory>
+        ensures { IfOk result (λ made. made ≡ record { user = user.now; purpose = purpose.now; recipient = recipient.now }) }
+    {
+        let user = KeyName::owned(alloc, user)?;
+        let purpose = KeyName::owned(alloc, purpose)?;
+        let recipient = KeyName::owned(alloc, recipient)?;
+        Ok(UserKey {
+            user,
+            purpose,
+            recipient,
+        })
+    }
+}
+
+/// A table for a purpose and recipient.
+#[derive(Drop, PartialEq, Eq, Hash)]
+pub struct TableKey<'a> {
+    pub purpose: KeyName<'a>,
+    pub recipient: KeyName<'a>,
+    pub table: KeyName<'a>,
+}
+
+impl<'a> TableKey<'a> {
+    pub fn lent(purpose: &'a Name, recipient: &'a Name, table: &'a Name) -> TableKey<'a>
+        ensures { result ≡ record { purpose = purpose.now; recipient = recipient.now; table = table.now } }
+    {
+        TableKey {
+            purpose: KeyName::lent(purpose),
+            recipient: KeyName::lent(recipient),
+            table: KeyName::lent(table),
+        }
+    }
+
+    pub fn owned(
+        alloc: Global,
+        purpose: &Name,
+        recipient: &Name,
+        table: &Name,
+    ) -> Result<TableKey<'a>, Memory>
+        ensures { IfOk result (λ made. made ≡ record { purpose = purpose.now; recipient = recipient.now; table = table.now }) }
+    {
+        let purpose = KeyName::owned(alloc, purpose)?;
+        let recipient = KeyName::owned(alloc, recipient)?;
+        let table = KeyName::owned(alloc, table)?;
+        Ok(TableKey {
+            purpose,
+            recipient,
+            table,
+        })
+    }
+
+    /// The same table, with loans of its names.
+    pub fn again(&self) -> TableKey<'_>
+        ensures { result ≡ self.now }
+    {
+        TableKey::lent(self.purpose.name(), self.recipient.name(), self.table.name())
+    }
+
+    pub fn copy<'b>(&self, alloc: Global) -> Result<TableKey<'b>, Memory>
+        ensures { IfOk result (λ made. made ≡ self.now) }
+    {
+        TableKey::owned(alloc, self.purpose.name(), self.recipient.name(), self.table.name())
+    }
+}
+
+/// A column of a table for a purpose and recipient.
+#[derive(Drop, PartialEq, Eq, Hash)]
+pub struct CellKey<'a> {
+    pub table: TableKey<'a>,
+    pub column: usize,
+}

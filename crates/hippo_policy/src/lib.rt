@@ -3,3 +3,4 @@
 
 mod keys;
 mod last_words;
+mod ruling;
