@@ -1,12 +1,13 @@
 //! What was said of a matter, and when: what the entries of a history say, by the key of what they speak of.
 ghost use Rattle.std.specs.Prelude.{◌≡◌, ℕ, List, [], ◌∷◌, ◌++◌, ◌-◌, length, take, Option, option_copied, OnOk, OnErr, if◌then◌else◌};
+ghost use Rattle.std.specs.List.{list_any};
 ghost use Rattle.std.specs.List.Sorted.{IsNonDecreasingBy};
 ghost use Rattle.hippo_model.specs.Terms.{History};
 ghost use Rattle.hippo_model.specs.Histories.{last_word};
 ghost use Rattle.hippo_model.specs.declared.entry.Entry.{Entry};
-ghost use Rattle.hippo_policy.specs.Words.{Said, words_of, numbered, latest};
+ghost use Rattle.hippo_policy.specs.Words.{Said, words_of, with_word, without_word, numbered, latest};
 
-use hippo_values::Memory;
+use hippo_values::{Duplicate, Memory};
 use std::alloc::Global;
 use std::collections::HashMap;
 use std::hash::Hash;
@@ -58,7 +59,7 @@ impl<K: Eq + Hash + Drop, W: Drop> LastWords<K, W> {
 
     /// Adds what an entry says of a key.
     pub fn push(&mut self, alloc: Global, key: K, said: Said<W>) -> Result<(), Memory>
-        ensures ok { OnOk result ((other : K) → words_of K.eq self.new other ≡ (if K.eq key other then words_of K.eq self.old other ++ said ∷ [] else words_of K.eq self.old other)) }
+        ensures ok { OnOk result ((other : K) → words_of K.eq self.new other ≡ with_word (K.eq key other) said (words_of K.eq self.old other)) }
         ensures err { OnErr result ((other : K) → words_of K.eq self.new other ≡ words_of K.eq self.old other) }
     {
         match self.words.get_mut(&key) {
@@ -82,10 +83,60 @@ impl<K: Eq + Hash + Drop, W: Drop> LastWords<K, W> {
 
     /// Takes back what was said last of a key.
     pub fn pop(&mut self, key: &K)
-        ensures { (other : K) → words_of K.eq self.new other ≡ (if K.eq key.now other then take (length (words_of K.eq self.old other) - 1) (words_of K.eq self.old other) else words_of K.eq self.old other) }
+        ensures { (other : K) → words_of K.eq self.new other ≡ without_word (K.eq key.now other) (words_of K.eq self.old other) }
     {
         if let Some(words) = self.words.get_mut(key) {
             let _ = words.pop();
         }
+    }
+}
+
+impl<K: Eq + Hash + Duplicate + Drop, W: Duplicate + Drop> LastWords<K, W> {
+    fn push_copy(&mut self, alloc: Global, key: &K, number: u64, word: &W) -> Result<(), Memory>
+        ensures ok { OnOk result ((other : K) → words_of K.eq self.new other
+            ≡ with_word (K.eq key.now other) (record { number = number; word = word.now }) (words_of K.eq self.old other)) }
+        ensures err { OnErr result ((other : K) → words_of K.eq self.new other ≡ words_of K.eq self.old other) }
+    {
+        let key = key.copy(alloc)?;
+        let word = word.copy(alloc)?;
+        self.push(alloc, key, Said { number, word })
+    }
+
+    /// Takes back what was said last of each of these keys.
+    pub fn pop_all(&mut self, keys: &[K])
+        ensures { (other : K) → words_of K.eq self.new other
+            ≡ without_word (list_any (λ key. K.eq key other) keys.now) (words_of K.eq self.old other) }
+    {
+        for place in 0..keys.len() {
+            if !keys[..place].contains(&keys[place]) {
+                self.pop(&keys[place]);
+            }
+        }
+    }
+
+    /// Adds what an entry says of each of these keys.
+    pub fn push_all(
+        &mut self,
+        alloc: Global,
+        keys: &[K],
+        number: u64,
+        word: &W,
+    ) -> Result<(), Memory>
+        ensures ok { OnOk result ((other : K) → words_of K.eq self.new other
+            ≡ with_word (list_any (λ key. K.eq key other) keys.now) (record { number = number; word = word.now }) (words_of K.eq self.old other)) }
+        ensures err { OnErr result ((other : K) → words_of K.eq self.new other ≡ words_of K.eq self.old other) }
+    {
+        for place in 0..keys.len() {
+            if !keys[..place].contains(&keys[place]) {
+                match self.push_copy(alloc, &keys[place], number, word) {
+                    Ok(()) => {}
+                    Err(Memory) => {
+                        self.pop_all(&keys[..place]);
+                        return Err(Memory);
+                    }
+                }
+            }
+        }
+        Ok(())
     }
 }
