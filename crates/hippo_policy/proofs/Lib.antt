@@ -1,1 +1,3 @@
 pub mod SaidLemmas
+pub mod AddLemmas
+pub mod BookLemmas

@@ -48,7 +48,7 @@ module _ {A : Type 0} (word : Entry → Option A) where
   abbrev pub numbered_from : ℕ → History → List (Said A)
   numbered_from number history = filter_map (λ (place, entry). option_map (λ said. record { number = place; word = said }) (word entry)) (enumerate_from number history)
 
-  abbrev with_said : ℕ → Option A → List (Said A) → List (Said A)
+  abbrev pub with_said : ℕ → Option A → List (Said A) → List (Said A)
   with_said number said later = cons_option (option_map (λ (s : A). record { number = number; word = s }) said) later
 
   latest-passed : (n number : ℕ) (said : Option A) (later : List (Said A)) → nat_le number n ≡ true → latest n (with_said number said later) ≡ option_or (latest n later) said

@@ -24,7 +24,7 @@ pub struct KeyName<'a> {
 }
 
 impl<'a> Model for KeyName<'a> {
-    ghost use Rattle.hippo_policy.specs.Keys.{held_name};
+    ghost use Rattle.hippo_policy.specs.HeldNames.{held_name};
     ghost use Rattle.hippo_values.specs.declared.names.Name.{Name};
 
     ghost Value = { Name };
@@ -164,19 +164,6 @@ impl<'a> TableKey<'a> {
             table,
         })
     }
-
-    /// The same table, with loans of its names.
-    pub fn again(&self) -> TableKey<'_>
-        ensures { result ≡ self.now }
-    {
-        TableKey::lent(self.purpose.name(), self.recipient.name(), self.table.name())
-    }
-
-    pub fn copy<'b>(&self, alloc: Global) -> Result<TableKey<'b>, Memory>
-        ensures { IfOk result (λ made. made ≡ self.now) }
-    {
-        TableKey::owned(alloc, self.purpose.name(), self.recipient.name(), self.table.name())
-    }
 }
 
 /// A column of a table for a purpose and recipient.
@@ -184,4 +171,38 @@ impl<'a> TableKey<'a> {
 pub struct CellKey<'a> {
     pub table: TableKey<'a>,
     pub column: usize,
+}
+
+impl<'a> Duplicate for CellKey<'a> {
+    fn copy(&self, alloc: Global) -> Result<CellKey<'a>, Memory> {
+        let table = self.table.copy(alloc)?;
+        Ok(CellKey {
+            table,
+            column: self.column,
+        })
+    }
+}
+
+impl<'a> Duplicate for KeyName<'a> {
+    fn copy(&self, alloc: Global) -> Result<KeyName<'a>, Memory> {
+        KeyName::owned(alloc, self.name())
+    }
+}
+
+impl<'a> Duplicate for ChoiceKey<'a> {
+    fn copy(&self, alloc: Global) -> Result<ChoiceKey<'a>, Memory> {
+        ChoiceKey::owned(alloc, self.subject, self.item.name())
+    }
+}
+
+impl<'a> Duplicate for UserKey<'a> {
+    fn copy(&self, alloc: Global) -> Result<UserKey<'a>, Memory> {
+        UserKey::owned(alloc, self.user.name(), self.purpose.name(), self.recipient.name())
+    }
+}
+
+impl<'a> Duplicate for TableKey<'a> {
+    fn copy(&self, alloc: Global) -> Result<TableKey<'a>, Memory> {
+        TableKey::owned(alloc, self.purpose.name(), self.recipient.name(), self.table.name())
+    }
 }
