@@ -1,5 +1,5 @@
 -- What a book stands for once an entry of each kind is taken in.
-use Rattle.std.proofs.Common.{◌≡◌, ◌∙◌, sym, refl, ap, arith, ℕ, ℤ, ◌+◌, ◌-◌, List, [], ◌∷◌, ◌++◌, length, take, map, Bool, true, false, ◌&&◌, ◌||◌, subst, Option, Some, None, bytes_eq, nat_eq}
+use Rattle.std.proofs.Common.{◌≡◌, ◌∙◌, sym, refl, ap, arith, ℕ, ℤ, ◌+◌, ◌-◌, List, [], ◌∷◌, ◌++◌, length, take, map, Bool, true, false, ◌&&◌, ◌||◌, subst, Option, Some, None, Result, Ok, Err, OnOk, OnErr, bytes_eq, nat_eq}
 use Rattle.std.proofs.lemmas.Bool.{false≢true}
 use Rattle.std.specs.Cmp.{nat_eq_equiv}
 use Rattle.std.specs.Bool.{then_some}
@@ -21,7 +21,7 @@ use Rattle.hippo_policy.specs.declared.keys.ChoiceKey.{ChoiceKey}
 use Rattle.hippo_policy.specs.declared.keys.UserKey.{UserKey}
 use Rattle.hippo_policy.specs.Keys.{same_cell, same_choice, same_user, same_name}
 use Rattle.hippo_policy.specs.Words.{Said, LastWords, words_of, with_word, numbered}
-use Rattle.hippo_policy.specs.Books.{StandsFor, Adds, AddsUser, AddsRule, IsKept, rule_word, choice_word, user_word, item_word, cell_keys, is_silent, cell_of}
+use Rattle.hippo_policy.specs.Books.{StandsFor, IsAsBefore, Adds, AddsUser, AddsRule, IsKept, rule_word, choice_word, user_word, item_word, cell_keys, is_silent, cell_of}
 use Rattle.hippo_policy.proofs.AddLemmas.{IsKept-silent, IsKept-spoken}
 
 pub and-assoc : (a b c : Bool) → (a && b && c) ≡ (a && (b && c))
@@ -151,3 +151,22 @@ module _ (old : PolicyBook) (number : ℕ) where
     stands = λ history entry is seq next kept. subst (λ book. StandsFor book (history ++ entry ∷ [])) (sym added.others) (rule-kept new.rules (Cells (cell_keys purpose recipient table columns)) (cell_keys purpose recipient table columns) (revoked number) history entry added.rules (λ other. rw (is, seq, named purpose recipient table other columns) refl) (λ key. rw is refl) (λ key. rw is refl) (λ item. rw is refl) next kept);
     remembers = ap (λ (book : PolicyBook). book.last) added.others
   }
+
+pub on_err : {A B P : Type 0} (result : Result A B) → P → OnErr result P
+on_err (Ok value) holds = tt
+on_err (Err fault) holds = holds
+
+pub on_ok : {A B P Q : Type 0} (result : Result A B) → (P → Q) → OnOk result P → OnOk result Q
+on_ok (Ok value) then holds = then holds
+on_ok (Err fault) then holds = tt
+
+-- a book whose words on one kind are equal to those before
+module _ (old : PolicyBook) where
+  pub as_before-choices : (choices : LastWords ChoiceKey Bool) → ((other : ChoiceKey) → words_of same_choice choices other ≡ words_of same_choice old.choices other) → IsAsBefore old (record { rules = old.rules; choices = choices; users = old.users; items = old.items; last = old.last })
+  as_before-choices choices same = record { stands = λ history kept. record { rules = kept.rules; choices = λ key. same key ∙ kept.choices key; users = kept.users; items = kept.items }; remembers = refl }
+
+  pub as_before-users : (users : LastWords UserKey Authorization) → ((other : UserKey) → words_of same_user users other ≡ words_of same_user old.users other) → IsAsBefore old (record { rules = old.rules; choices = old.choices; users = users; items = old.items; last = old.last })
+  as_before-users users same = record { stands = λ history kept. record { rules = kept.rules; choices = kept.choices; users = λ key. same key ∙ kept.users key; items = kept.items }; remembers = refl }
+
+  pub as_before-rules : (rules : LastWords CellKey Rule) → ((other : CellKey) → words_of same_cell rules other ≡ words_of same_cell old.rules other) → IsAsBefore old (record { rules = rules; choices = old.choices; users = old.users; items = old.items; last = old.last })
+  as_before-rules rules same = record { stands = λ history kept. record { rules = λ key. same key ∙ kept.rules key; choices = kept.choices; users = kept.users; items = kept.items }; remembers = refl }

@@ -25,10 +25,10 @@ enum Matter {
 /// The rules, choices, authorizations and items of a history, at every entry number.
 #[derive(Drop)]
 pub struct PolicyBook {
-    rules: LastWords<CellKey<'static>, Ruling>,
-    choices: LastWords<ChoiceKey<'static>, bool>,
-    users: LastWords<UserKey<'static>, Authorization>,
-    items: LastWords<KeyName<'static>, ItemKind>,
+    pub(crate) rules: LastWords<CellKey<'static>, Ruling>,
+    pub(crate) choices: LastWords<ChoiceKey<'static>, bool>,
+    pub(crate) users: LastWords<UserKey<'static>, Authorization>,
+    pub(crate) items: LastWords<KeyName<'static>, ItemKind>,
     last: Matter,
 }
 
@@ -94,11 +94,11 @@ impl PolicyBook {
         &mut self,
         alloc: Global,
         number: u64,
-        subject: i64,
+        subject: &i64,
         item: &Name,
         yes: bool,
     ) -> Result<(), Memory>
-        ensures ok { OnOk result (Adds self.old self.new number (Choice subject item.now yes)) }
+        ensures ok { OnOk result (Adds self.old self.new number (Choice subject.now item.now yes)) }
         ensures err { OnErr result (IsAsBefore self.old self.new) }
     {
         let key = ChoiceKey::owned(alloc, subject, item)?;
@@ -114,7 +114,7 @@ impl PolicyBook {
         key: UserKey<'static>,
         word: Authorization,
     ) -> Result<(), Memory>
-        ensures ok { OnOk result (AddsUser self.old self.new number key word) }
+        ensures ok { OnOk result (AddsUser self.old self.new number key.entry word) }
         ensures err { OnErr result (IsAsBefore self.old self.new) }
     {
         self.users.push_copy(alloc, &key, Said { number, word })?;
@@ -159,7 +159,7 @@ impl PolicyBook {
         keys: Sequence<CellKey<'static>>,
         ruling: &Ruling,
     ) -> Result<(), Memory>
-        ensures ok { OnOk result (AddsRule self.old self.new number keys ruling.now) }
+        ensures ok { OnOk result (AddsRule self.old self.new number keys.entry ruling.now) }
         ensures err { OnErr result (IsAsBefore self.old self.new) }
     {
         self.rules.push_all(alloc, keys.as_slice(), number, ruling)?;
@@ -245,7 +245,7 @@ impl PolicyBook {
                 columns,
             } => self.add_revoke(alloc, number, purpose, recipient, table, columns),
             Act::Choice { subject, item, yes } => {
-                self.add_choice(alloc, number, *subject, item, *yes)
+                self.add_choice(alloc, number, subject, item, *yes)
             }
             Act::Create(_) => Ok(self.pass_over()),
             Act::Insert { .. } => Ok(self.pass_over()),

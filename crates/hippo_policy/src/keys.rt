@@ -92,11 +92,14 @@ pub struct ChoiceKey<'a> {
 }
 
 impl<'a> ChoiceKey<'a> {
-    pub fn owned(alloc: Global, subject: i64, item: &Name) -> Result<ChoiceKey<'a>, Memory>
-        ensures { IfOk result (λ made. made ≡ record { subject = subject; item = item.now }) }
+    pub fn owned(alloc: Global, subject: &i64, item: &Name) -> Result<ChoiceKey<'a>, Memory>
+        ensures { IfOk result (λ made. made ≡ record { subject = subject.now; item = item.now }) }
     {
         let item = KeyName::owned(alloc, item)?;
-        Ok(ChoiceKey { subject, item })
+        Ok(ChoiceKey {
+            subject: *subject,
+            item,
+        })
     }
 }
 
@@ -109,6 +112,16 @@ pub struct UserKey<'a> {
 }
 
 impl<'a> UserKey<'a> {
+    pub fn lent(user: &'a Name, purpose: &'a Name, recipient: &'a Name) -> UserKey<'a>
+        ensures { result ≡ record { user = user.now; purpose = purpose.now; recipient = recipient.now } }
+    {
+        UserKey {
+            user: KeyName::lent(user),
+            purpose: KeyName::lent(purpose),
+            recipient: KeyName::lent(recipient),
+        }
+    }
+
     pub fn owned(
         alloc: Global,
         user: &Name,
@@ -191,7 +204,7 @@ impl<'a> Duplicate for KeyName<'a> {
 
 impl<'a> Duplicate for ChoiceKey<'a> {
     fn copy(&self, alloc: Global) -> Result<ChoiceKey<'a>, Memory> {
-        ChoiceKey::owned(alloc, self.subject, self.item.name())
+        ChoiceKey::owned(alloc, &self.subject, self.item.name())
     }
 }
 

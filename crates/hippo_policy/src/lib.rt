@@ -4,4 +4,7 @@
 mod book;
 mod keys;
 mod last_words;
+mod lookups;
 mod ruling;
+
+pub use book::PolicyBook;
