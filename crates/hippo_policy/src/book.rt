@@ -1,9 +1,10 @@
 //! The rules, choices, authorizations and items of a history, at every entry number.
 ghost use Rattle.std.specs.Prelude.{◌≡◌, ℕ, true, IsOk, ◌∷◌, [], ◌++◌, ◌+◌, length, take, map, option_map, OnOk, OnErr, IfOk};
 ghost use Rattle.hippo_model.specs.Terms.{History};
+ghost use Rattle.hippo_model.specs.declared.entry.Entry.{Entry as HistoryEntry};
 ghost use Rattle.hippo_model.specs.declared.entry.Act.{Act as HistoryAct};
 ghost use Rattle.hippo_model.specs.declared.entry.Act.TheVariants.{Item, Authorize, Deauthorize, Allow, Revoke, Choice};
-ghost use Rattle.hippo_policy.specs.Books.{StandsFor, Adds, AddsUser, AddsRule, IsAsBefore, cell_keys, is_silent};
+ghost use Rattle.hippo_policy.specs.Books.{StandsFor, Remembers, Adds, AddsUser, AddsRule, IsAsBefore, cell_keys, is_silent};
 
 use crate::keys::{CellKey, ChoiceKey, KeyName, TableKey, UserKey};
 use crate::last_words::{LastWords, Said};
@@ -254,6 +255,21 @@ impl PolicyBook {
             Act::Purpose(_) => Ok(self.pass_over()),
             Act::Recipient(_) => Ok(self.pass_over()),
             Act::Asked { .. } => Ok(self.pass_over()),
+        }
+    }
+
+    /// Takes back the entry that was added last: the book then stands for the history before it. Takes no memory. The
+    /// last call that changed the book must have added an entry; without this the book stands for no history.
+    pub fn take_back(&mut self)
+        ensures { (history : History) (entry : HistoryEntry) → Remembers self.old entry.act
+            → StandsFor self.old (history ++ entry ∷ []) → StandsFor self.new history }
+    {
+        match &self.last {
+            Matter::Nothing => {}
+            Matter::Cells(keys) => self.rules.pop_all(keys.as_slice()),
+            Matter::Choice(key) => self.choices.pop(key),
+            Matter::User(key) => self.users.pop(key),
+            Matter::Item(key) => self.items.pop(key),
         }
     }
 }

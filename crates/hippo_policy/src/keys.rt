@@ -92,6 +92,15 @@ pub struct ChoiceKey<'a> {
 }
 
 impl<'a> ChoiceKey<'a> {
+    pub fn lent(subject: &i64, item: &'a Name) -> ChoiceKey<'a>
+        ensures { result ≡ record { subject = subject.now; item = item.now } }
+    {
+        ChoiceKey {
+            subject: *subject,
+            item: KeyName::lent(item),
+        }
+    }
+
     pub fn owned(alloc: Global, subject: &i64, item: &Name) -> Result<ChoiceKey<'a>, Memory>
         ensures { IfOk result (λ made. made ≡ record { subject = subject.now; item = item.now }) }
     {

@@ -6,5 +6,6 @@ mod keys;
 mod last_words;
 mod lookups;
 mod ruling;
+mod verdicts;
 
 pub use book::PolicyBook;

@@ -13,7 +13,7 @@ use hippo_model::{Authorization, ItemKind, RuleAt};
 use hippo_values::Name;
 
 impl PolicyBook {
-    fn ruling_at<'a>(
+    pub(crate) fn ruling_at<'a>(
         &'a self,
         n: u64,
         purpose: &'a Name,
