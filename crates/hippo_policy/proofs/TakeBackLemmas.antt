@@ -1,5 +1,5 @@
 -- What a book stands for once its last entry is taken back.
-use Rattle.std.proofs.Common.{◌≡◌, ◌∙◌, sym, refl, ap, List, [], ◌∷◌, ◌++◌, length, Bool, ◌&&◌, Option, None, bytes_eq}
+use Rattle.std.proofs.Common.{◌≡◌, ◌∙◌, refl, List, [], ◌∷◌, ◌++◌, Bool, Option, None, bytes_eq}
 use Rattle.std.specs.Bool.{then_some}
 use Rattle.std.specs.List.{list_any}
 use Rattle.hippo_values.specs.declared.names.Name.{Name}
@@ -82,49 +82,49 @@ module _ (old : PolicyBook) (history : History) (entry : Entry) (kept : StandsFo
         rules = IsKept-before same_cell rule_word history entry old.rules says.rules kept.rules;
         choices = IsKept-before same_choice choice_word history entry old.choices says.agreed kept.choices;
         users = IsKept-before same_user user_word history entry old.users says.asked kept.users;
-        items = IsKept-before same_name item_word history entry old.items says.kinds kept.items
+        items = IsKept-before same_name item_word history entry old.items says.kinds kept.items;
       }
 
   pub before-cells : (keys : List CellKey) → Cells keys ≡ matter_of entry.act → (rules : LastWords CellKey Rule) → ((other : CellKey) → words_of same_cell rules other ≡ without_word (list_any (λ key. same_cell key other) keys) (words_of same_cell old.rules other))
-    → StandsFor (record { rules = rules; choices = old.choices; users = old.users; items = old.items; last = old.last }) history
+      → StandsFor (record { rules = rules; choices = old.choices; users = old.users; items = old.items; last = old.last }) history
   before-cells keys of rules taken =
       let said = says-cells entry keys entry.act refl of in
       record {
         rules = IsKept-unspoken same_cell rule_word history entry old.rules rules (λ other. list_any (λ key. same_cell key other) keys) said.0 taken said.1.rules kept.rules;
         choices = IsKept-before same_choice choice_word history entry old.choices said.1.agreed kept.choices;
         users = IsKept-before same_user user_word history entry old.users said.1.asked kept.users;
-        items = IsKept-before same_name item_word history entry old.items said.1.kinds kept.items
+        items = IsKept-before same_name item_word history entry old.items said.1.kinds kept.items;
       }
 
   pub before-choice : (key : ChoiceKey) → OfChoice key ≡ matter_of entry.act → (choices : LastWords ChoiceKey Bool) → ((other : ChoiceKey) → words_of same_choice choices other ≡ without_word (same_choice key other) (words_of same_choice old.choices other))
-    → StandsFor (record { rules = old.rules; choices = choices; users = old.users; items = old.items; last = old.last }) history
+      → StandsFor (record { rules = old.rules; choices = choices; users = old.users; items = old.items; last = old.last }) history
   before-choice key of choices taken =
       let said = says-choice entry key entry.act refl of in
       record {
         rules = IsKept-before same_cell rule_word history entry old.rules said.1.rules kept.rules;
         choices = IsKept-unspoken same_choice choice_word history entry old.choices choices (same_choice key) said.0 taken said.1.agreed kept.choices;
         users = IsKept-before same_user user_word history entry old.users said.1.asked kept.users;
-        items = IsKept-before same_name item_word history entry old.items said.1.kinds kept.items
+        items = IsKept-before same_name item_word history entry old.items said.1.kinds kept.items;
       }
 
   pub before-user : (key : UserKey) → User key ≡ matter_of entry.act → (users : LastWords UserKey Authorization) → ((other : UserKey) → words_of same_user users other ≡ without_word (same_user key other) (words_of same_user old.users other))
-    → StandsFor (record { rules = old.rules; choices = old.choices; users = users; items = old.items; last = old.last }) history
+      → StandsFor (record { rules = old.rules; choices = old.choices; users = users; items = old.items; last = old.last }) history
   before-user key of users taken =
       let said = says-user entry key entry.act refl of in
       record {
         rules = IsKept-before same_cell rule_word history entry old.rules said.1.rules kept.rules;
         choices = IsKept-before same_choice choice_word history entry old.choices said.1.agreed kept.choices;
         users = IsKept-unspoken same_user user_word history entry old.users users (same_user key) said.0 taken said.1.asked kept.users;
-        items = IsKept-before same_name item_word history entry old.items said.1.kinds kept.items
+        items = IsKept-before same_name item_word history entry old.items said.1.kinds kept.items;
       }
 
   pub before-item : (key : Name) → OfItem key ≡ matter_of entry.act → (items : LastWords Name ItemKind) → ((other : Name) → words_of same_name items other ≡ without_word (same_name key other) (words_of same_name old.items other))
-    → StandsFor (record { rules = old.rules; choices = old.choices; users = old.users; items = items; last = old.last }) history
+      → StandsFor (record { rules = old.rules; choices = old.choices; users = old.users; items = items; last = old.last }) history
   before-item key of items taken =
       let said = says-item entry key entry.act refl of in
       record {
         rules = IsKept-before same_cell rule_word history entry old.rules said.1.rules kept.rules;
         choices = IsKept-before same_choice choice_word history entry old.choices said.1.agreed kept.choices;
         users = IsKept-before same_user user_word history entry old.users said.1.asked kept.users;
-        items = IsKept-unspoken same_name item_word history entry old.items items (same_name key) said.0 taken said.1.kinds kept.items
+        items = IsKept-unspoken same_name item_word history entry old.items items (same_name key) said.0 taken said.1.kinds kept.items;
       }

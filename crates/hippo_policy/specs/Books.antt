@@ -83,20 +83,20 @@ Remembers book act = book.last ≡ matter_of act
 -- behind, where that has the next number
 pub record Adds (old new : PolicyBook) (number : ℕ) (act : Act) : Type 0 where
   pub stands : (history : History) (entry : Entry) → entry.act ≡ act → entry.seq ≡ number → number ≡ length history + 1
-    → StandsFor old history → StandsFor new (history ++ entry ∷ [])
+      → StandsFor old history → StandsFor new (history ++ entry ∷ [])
   pub remembers : Remembers new act
 
 -- a book has one word more on a user
 pub record AddsUser (old new : PolicyBook) (number : ℕ) (key : UserKey) (word : Authorization) : Type 0 where
   pub users : (other : UserKey) → words_of same_user new.users other
-    ≡ with_word (same_user key other) (record { number = number; word = word }) (words_of same_user old.users other)
+      ≡ with_word (same_user key other) (record { number = number; word = word }) (words_of same_user old.users other)
   pub others : new ≡ record { rules = old.rules; choices = old.choices; users = new.users; items = old.items; last = User key }
 
 -- a book has one word more on some cells
 pub record AddsRule (old new : PolicyBook) (number : ℕ) (keys : List CellKey) (word : Rule) : Type 0 where
   pub rules : (other : CellKey) → words_of same_cell new.rules other
-    ≡ with_word (list_any (λ key. same_cell key other) keys) (record { number = number; word = word })
-    (words_of same_cell old.rules other)
+      ≡ with_word (list_any (λ key. same_cell key other) keys) (record { number = number; word = word })
+      (words_of same_cell old.rules other)
   pub others : new ≡ record { rules = new.rules; choices = old.choices; users = old.users; items = old.items; last = Cells keys }
 
 -- a book stands for what it stood for

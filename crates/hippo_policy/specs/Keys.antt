@@ -1,5 +1,5 @@
 -- The keys of look-ups.
-use Rattle.std.specs.Prelude.{ℕ, Bool, ◌&&◌, nat_eq, bytes_eq}
+use Rattle.std.specs.Prelude.{Bool, ◌&&◌, nat_eq, bytes_eq}
 use Rattle.std.specs.Ordering.{int_eq}
 use Rattle.hippo_values.specs.declared.names.Name.{Name}
 use Rattle.hippo_policy.specs.declared.keys.CellKey.{CellKey}

@@ -86,7 +86,8 @@ impl PolicyBook {
         ensures err { OnErr result (IsAsBefore self.old self.new) }
     {
         let key = KeyName::owned(alloc, item)?;
-        self.items.push_copy(alloc, &key, Said { number, word: kind })?;
+        self.items
+            .push_copy(alloc, &key, Said { number, word: kind })?;
         self.remember(Matter::Item(key));
         Ok(())
     }
@@ -103,7 +104,8 @@ impl PolicyBook {
         ensures err { OnErr result (IsAsBefore self.old self.new) }
     {
         let key = ChoiceKey::owned(alloc, subject, item)?;
-        self.choices.push_copy(alloc, &key, Said { number, word: yes })?;
+        self.choices
+            .push_copy(alloc, &key, Said { number, word: yes })?;
         self.remember(Matter::Choice(key));
         Ok(())
     }
@@ -238,7 +240,9 @@ impl PolicyBook {
                 columns,
                 item,
                 days,
-            } => self.add_allow(alloc, number, purpose, recipient, table, columns, item, *days),
+            } => self.add_allow(
+                alloc, number, purpose, recipient, table, columns, item, *days,
+            ),
             Act::Revoke {
                 purpose,
                 recipient,

@@ -219,12 +219,22 @@ impl<'a> Duplicate for ChoiceKey<'a> {
 
 impl<'a> Duplicate for UserKey<'a> {
     fn copy(&self, alloc: Global) -> Result<UserKey<'a>, Memory> {
-        UserKey::owned(alloc, self.user.name(), self.purpose.name(), self.recipient.name())
+        UserKey::owned(
+            alloc,
+            self.user.name(),
+            self.purpose.name(),
+            self.recipient.name(),
+        )
     }
 }
 
 impl<'a> Duplicate for TableKey<'a> {
     fn copy(&self, alloc: Global) -> Result<TableKey<'a>, Memory> {
-        TableKey::owned(alloc, self.purpose.name(), self.recipient.name(), self.table.name())
+        TableKey::owned(
+            alloc,
+            self.purpose.name(),
+            self.recipient.name(),
+            self.table.name(),
+        )
     }
 }

@@ -56,7 +56,10 @@ impl PolicyBook {
             → result ≡ authorized_at (take n history) user.now purpose.now recipient.now }
     {
         let key = UserKey::lent(user, purpose, recipient);
-        self.users.at(n, &key).copied().unwrap_or(Authorization::No(0))
+        self.users
+            .at(n, &key)
+            .copied()
+            .unwrap_or(Authorization::No(0))
     }
 
     /// The last rule among the first `n` entries that names a column of a table for a purpose and recipient.
@@ -86,7 +89,10 @@ impl PolicyBook {
     {
         match ruling.as_rule_at() {
             RuleAt::With {
-                rule, item, days, ..
+                rule,
+                item,
+                days,
+                ..
             } => RuleAt::With {
                 rule,
                 item,

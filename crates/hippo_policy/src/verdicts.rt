@@ -86,7 +86,10 @@ impl PolicyBook {
                 }
             }
             RuleAt::With {
-                rule, item, days, ..
+                rule,
+                item,
+                days,
+                ..
             } => {
                 if has_ended(moment, born, days) || !self.consents(n, subject, item) {
                     Verdict::Denied(rule)
@@ -113,7 +116,7 @@ impl PolicyBook {
     ) -> Verdict
         ensures { (history : History) → StandsFor self.now history
             → result ≡ verdict (take n history) (record { purpose = purpose.now; recipient = recipient.now; moment = moment })
-                schema.now (record { row = row.now; born = born }) column }
+            schema.now (record { row = row.now; born = born }) column }
     {
         match self.ruling_at(n, purpose, recipient, &schema.name, column) {
             None => Verdict::Denied(0),

@@ -1,5 +1,5 @@
 -- The words are parted by the number, and the last one before the place is taken.
-use Rattle.std.proofs.Common.{rules, ◌≡◌, ◌∙◌, sym, ap, Option, option_map, take, nat_le}
+use Rattle.std.proofs.Common.{rules, ◌∙◌, sym, ap, option_map, nat_le}
 use Rattle.std.proofs.lemmas.List.Sorted.{IsPartitionPoint-from_clause, IsPartitionedBy-leb}
 use Rattle.hippo_policy.specs.Words.{Said}
 use Rattle.hippo_policy.proofs.SaidLemmas.{latest-parted}

@@ -1,5 +1,5 @@
 -- What was said last of the keys so far is taken back.
-use Rattle.std.proofs.Common.{◌≡◌, ◌≤◌, length, take}
+use Rattle.std.proofs.Common.{◌≡◌, take}
 use Rattle.std.specs.List.{list_any}
 use Rattle.hippo_policy.specs.Words.{words_of, without_word}
 use Rattle.hippo_policy.proofs.last_words.LastWords.pop_all.Given as goal

@@ -1,5 +1,5 @@
 -- What the entry says is added for the keys so far.
-use Rattle.std.proofs.Common.{◌≡◌, ◌≤◌, length, take}
+use Rattle.std.proofs.Common.{◌≡◌, take}
 use Rattle.std.specs.List.{list_any}
 use Rattle.hippo_policy.specs.Words.{words_of, with_word}
 use Rattle.hippo_policy.proofs.last_words.LastWords.push_all.Given as goal
