@@ -1,5 +1,5 @@
 -- What a policy book keeps of a history.
-use Rattle.std.specs.Prelude.{◌≡◌, ℕ, ◌+◌, Bool, true, false, List, [], ◌∷◌, ◌++◌, length, map, Option}
+use Rattle.std.specs.Prelude.{◌≡◌, ℕ, ℤ, ◌+◌, Bool, true, false, List, [], ◌∷◌, ◌++◌, length, map, Option}
 use Rattle.std.specs.List.{list_any}
 use Rattle.hippo_values.specs.declared.names.Name.{Name}
 use Rattle.hippo_model.specs.declared.entry.Entry.{Entry}
@@ -17,7 +17,7 @@ use Rattle.hippo_policy.specs.declared.keys.CellKey.{CellKey}
 use Rattle.hippo_policy.specs.declared.keys.ChoiceKey.{ChoiceKey}
 use Rattle.hippo_policy.specs.declared.keys.UserKey.{UserKey}
 use Rattle.hippo_policy.specs.Keys.{same_cell, same_choice, same_user, same_name}
-use Rattle.hippo_policy.specs.Words.{LastWords, words_of, with_word, numbered}
+use Rattle.hippo_policy.specs.Words.{LastWords, words_of, with_word, numbered, latest}
 
 abbrev pub cell_of : CellKey → RuledCell
 cell_of key =
@@ -103,3 +103,8 @@ pub record AddsRule (old new : PolicyBook) (number : ℕ) (keys : List CellKey) 
 pub record IsAsBefore (old new : PolicyBook) : Type 0 where
   pub stands : (history : History) → StandsFor old history → StandsFor new history
   pub remembers : new.last ≡ old.last
+
+-- the choice of a patient on an item that a book keeps, up to an entry number
+abbrev pub choice_kept : PolicyBook → ℕ → ℤ → Name → Option Bool
+choice_kept book n subject item =
+    latest n (words_of same_choice book.choices (record { subject = subject; item = item }))

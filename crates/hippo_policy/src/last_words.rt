@@ -48,8 +48,10 @@ impl<K: Eq + Hash + Drop, W: Drop> LastWords<K, W> {
 
     /// What was said last of a key up to entry number `n`.
     pub fn at(&self, n: u64, key: &K) -> Option<&W>
-        ensures { (word : Entry → Option W) (history : History) → words_of K.eq self.now key.now ≡ numbered word history
+        ensures history { (word : Entry → Option W) (history : History) → words_of K.eq self.now key.now ≡ numbered word history
             → option_copied result ≡ last_word word (take n history) }
+        ensures latest { IsNonDecreasingBy (λ said. said.number) (words_of K.eq self.now key.now)
+            → option_copied result ≡ latest n (words_of K.eq self.now key.now) }
     {
         match self.words.get(key) {
             None => None,

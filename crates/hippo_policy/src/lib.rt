@@ -2,6 +2,7 @@
 #![tactic(auto)]
 
 mod book;
+mod choices;
 mod keys;
 mod last_words;
 mod lookups;
@@ -9,3 +10,4 @@ mod ruling;
 mod verdicts;
 
 pub use book::PolicyBook;
+pub use choices::ChoicesAt;

@@ -9,5 +9,5 @@ use Rattle.hippo_policy.proofs.book.PolicyBook.authorized_at.Goals as goal
 pub returns : goal.returns
 returns c history kept =
     let key : UserKey = record { user = c.args.user.now; purpose = c.args.purpose.now; recipient = c.args.recipient.now } in
-    let found = rw c.lent-key.ensures at c.at.ensures in
+    let found = rw c.lent-key.ensures at c.at.ensures.history in
     c.unwrap_or.ensures ∙ ap (λ word. unwrap_or word (No 0)) (c.copied.ensures ∙ found (user_word key) history (kept.users key))

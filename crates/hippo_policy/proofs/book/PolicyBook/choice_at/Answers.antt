@@ -8,5 +8,5 @@ use Rattle.hippo_policy.proofs.book.PolicyBook.choice_at.Goals as goal
 pub returns : goal.returns
 returns c history kept =
     let key : ChoiceKey = record { subject = c.args.subject; item = c.args.item.now } in
-    let found = rw (to_z-of_z w64 c.args.subject c.ranges.subject, c.lent-item.ensures) at c.at.ensures in
+    let found = rw (to_z-of_z w64 c.args.subject c.ranges.subject, c.lent-item.ensures) at c.at.ensures.history in
     c.copied.ensures ∙ found (choice_word key) history (kept.choices key)

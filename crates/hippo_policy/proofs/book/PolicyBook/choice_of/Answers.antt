@@ -7,5 +7,5 @@ use Rattle.hippo_policy.proofs.book.PolicyBook.choice_of.Goals as goal
 pub returns : goal.returns
 returns c history kept =
     let key : ChoiceKey = record { subject = c.args.subject.now; item = c.args.item.now } in
-    let found = rw c.lent.ensures at c.at.ensures in
+    let found = rw c.lent.ensures at c.at.ensures.history in
     c.copied.ensures ∙ found (choice_word key) history (kept.choices key)
