@@ -26,7 +26,10 @@ impl<'a> ChoiceView for ChoicesAt<'a> {
 
     fn choice(&self, subject: i64, item: &Name) -> Option<bool> {
         let item = KeyName::lent(item);
-        self.book.choices.at(self.n, &ChoiceKey { subject, item }).copied()
+        self.book
+            .choices
+            .at(self.n, &ChoiceKey { subject, item })
+            .copied()
     }
 }
 

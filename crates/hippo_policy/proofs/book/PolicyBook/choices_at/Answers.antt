@@ -1,5 +1,5 @@
 -- What is kept of choices is what the history says, whose numbers rise.
-use Rattle.std.proofs.Common.{◌≡◌, ◌∙◌, sym, ap, subst, List, Bool}
+use Rattle.std.proofs.Common.{◌∙◌, sym, ap, subst, List, Bool}
 use Rattle.std.specs.List.Sorted.{IsNonDecreasingBy}
 use Rattle.hippo_policy.specs.declared.keys.ChoiceKey.{ChoiceKey}
 use Rattle.hippo_policy.specs.Words.{Said, latest}
