@@ -1,0 +1,4 @@
+pub mod SaidLemmas
+pub mod AddLemmas
+pub mod BookLemmas
+pub mod TakeBackLemmas

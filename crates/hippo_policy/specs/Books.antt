@@ -1,0 +1,110 @@
+-- What a policy book keeps of a history.
+use Rattle.std.specs.Prelude.{◌≡◌, ℕ, ℤ, ◌+◌, Bool, true, false, List, [], ◌∷◌, ◌++◌, length, map, Option}
+use Rattle.std.specs.List.{list_any}
+use Rattle.hippo_values.specs.declared.names.Name.{Name}
+use Rattle.hippo_model.specs.declared.entry.Entry.{Entry}
+use Rattle.hippo_model.specs.declared.entry.ItemKind.{ItemKind}
+use Rattle.hippo_model.specs.declared.entry.Act.{Act}
+use Rattle.hippo_model.specs.declared.entry.Act.TheVariants.{Item, Authorize, Deauthorize, Allow, Revoke, Choice}
+use Rattle.hippo_model.specs.declared.policy.Authorization.{Authorization}
+use Rattle.hippo_model.specs.Terms.{History, Place}
+use Rattle.hippo_model.specs.Histories.{item_created}
+use Rattle.hippo_model.specs.Rules.{Rule, RuledCell, rule_in, choice_in, authorization_in}
+use Rattle.hippo_policy.specs.declared.book.Matter.{Matter}
+use Rattle.hippo_policy.specs.declared.book.Matter.TheVariants.{Nothing, Cells, Choice as OfChoice, User, Item as OfItem}
+use Rattle.hippo_policy.specs.declared.book.PolicyBook.{PolicyBook}
+use Rattle.hippo_policy.specs.declared.keys.CellKey.{CellKey}
+use Rattle.hippo_policy.specs.declared.keys.ChoiceKey.{ChoiceKey}
+use Rattle.hippo_policy.specs.declared.keys.UserKey.{UserKey}
+use Rattle.hippo_policy.specs.Keys.{same_cell, same_choice, same_user, same_name}
+use Rattle.hippo_policy.specs.Words.{LastWords, words_of, with_word, numbered, latest}
+
+abbrev pub cell_of : CellKey → RuledCell
+cell_of key =
+    record { purpose = key.table.purpose; recipient = key.table.recipient; table = key.table.table; column = key.column }
+
+-- what an entry says of a cell, of a patient's choice, of a user's authorization, of an item
+abbrev pub rule_word : CellKey → Entry → Option Rule
+rule_word key entry = rule_in (cell_of key) entry.seq entry.act
+
+abbrev pub choice_word : ChoiceKey → Entry → Option Bool
+choice_word key entry = choice_in key.subject key.item entry.act
+
+abbrev pub user_word : UserKey → Entry → Option Authorization
+user_word key entry = authorization_in key.user key.purpose key.recipient entry.seq entry.act
+
+abbrev pub item_word : Name → Entry → Option ItemKind
+item_word item entry = item_created item entry.act
+
+-- at each key stands what the entries of a history say of it, with their numbers
+abbrev pub IsKept : {K A : Type 0} → (K → K → Bool) → LastWords K A → (K → Entry → Option A) → History → Type 0
+IsKept {K} same kept word history = (key : K) → words_of same kept key ≡ numbered (word key) history
+
+-- a book that holds what a history says
+pub record StandsFor (book : PolicyBook) (history : History) : Type 0 where
+  pub rules : IsKept same_cell book.rules rule_word history
+  pub choices : IsKept same_choice book.choices choice_word history
+  pub users : IsKept same_user book.users user_word history
+  pub items : IsKept same_name book.items item_word history
+
+abbrev pub cell_keys : Name → Name → Name → List Place → List CellKey
+cell_keys purpose recipient table columns =
+    map
+    (λ column. record { table = record { purpose = purpose; recipient = recipient; table = table }; column = column })
+    columns
+
+-- what an act speaks of
+abbrev pub matter_of : Act → Matter
+matter_of (Item item kind) = OfItem item
+matter_of (Authorize user purpose recipient) =
+    User (record { user = user; purpose = purpose; recipient = recipient })
+matter_of (Deauthorize user purpose recipient) =
+    User (record { user = user; purpose = purpose; recipient = recipient })
+matter_of (Allow purpose recipient table columns item days) = Cells (cell_keys purpose recipient table columns)
+matter_of (Revoke purpose recipient table columns) = Cells (cell_keys purpose recipient table columns)
+matter_of (Choice subject item agreed) = OfChoice (record { subject = subject; item = item })
+matter_of act = Nothing
+
+-- whether an act says nothing that a book keeps
+abbrev pub is_silent : Act → Bool
+is_silent (Item item kind) = false
+is_silent (Authorize user purpose recipient) = false
+is_silent (Deauthorize user purpose recipient) = false
+is_silent (Allow purpose recipient table columns item days) = false
+is_silent (Revoke purpose recipient table columns) = false
+is_silent (Choice subject item agreed) = false
+is_silent act = true
+
+-- a book knows what its last entry speaks of
+abbrev pub Remembers : PolicyBook → Act → Type 0
+Remembers book act = book.last ≡ matter_of act
+
+-- a book has taken in an entry with this number and act: it stands for each history that it stood for, with the entry
+-- behind, where that has the next number
+pub record Adds (old new : PolicyBook) (number : ℕ) (act : Act) : Type 0 where
+  pub stands : (history : History) (entry : Entry) → entry.act ≡ act → entry.seq ≡ number → number ≡ length history + 1
+      → StandsFor old history → StandsFor new (history ++ entry ∷ [])
+  pub remembers : Remembers new act
+
+-- a book has one word more on a user
+pub record AddsUser (old new : PolicyBook) (number : ℕ) (key : UserKey) (word : Authorization) : Type 0 where
+  pub users : (other : UserKey) → words_of same_user new.users other
+      ≡ with_word (same_user key other) (record { number = number; word = word }) (words_of same_user old.users other)
+  pub others : new ≡ record { rules = old.rules; choices = old.choices; users = new.users; items = old.items; last = User key }
+
+-- a book has one word more on some cells
+pub record AddsRule (old new : PolicyBook) (number : ℕ) (keys : List CellKey) (word : Rule) : Type 0 where
+  pub rules : (other : CellKey) → words_of same_cell new.rules other
+      ≡ with_word (list_any (λ key. same_cell key other) keys) (record { number = number; word = word })
+      (words_of same_cell old.rules other)
+  pub others : new ≡ record { rules = new.rules; choices = old.choices; users = old.users; items = old.items; last = Cells keys }
+
+-- a book stands for what it stood for
+pub record IsAsBefore (old new : PolicyBook) : Type 0 where
+  pub stands : (history : History) → StandsFor old history → StandsFor new history
+  pub remembers : new.last ≡ old.last
+
+-- the choice of a patient on an item that a book keeps, up to an entry number
+abbrev pub choice_kept : PolicyBook → ℕ → ℤ → Name → Option Bool
+choice_kept book n subject item =
+    latest n (words_of same_choice book.choices (record { subject = subject; item = item }))

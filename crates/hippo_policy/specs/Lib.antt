@@ -1,0 +1,5 @@
+pub mod HeldNames
+pub mod Keys
+pub mod Words
+pub mod Rulings
+pub mod Books

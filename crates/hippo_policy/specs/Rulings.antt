@@ -1,0 +1,37 @@
+-- How a rule is held and answered.
+use Rattle.std.specs.Prelude.{Bool, true, false, Option, Some, None}
+use Rattle.hippo_model.specs.declared.entry.ItemKind.{ItemKind}
+use Rattle.hippo_model.specs.declared.entry.ItemKind.TheVariants.{OptIn, OptOut}
+use Rattle.hippo_model.specs.Terms.{History}
+use Rattle.hippo_model.specs.Histories.{item_at}
+use Rattle.hippo_model.specs.declared.policy.RuleAt.{RuleAt}
+use Rattle.hippo_model.specs.declared.policy.RuleAt.TheVariants.{Unnamed, Always, With, Revoked}
+use Rattle.hippo_model.specs.Rules.{Rule, allowed, revoked}
+use Rattle.hippo_policy.specs.declared.ruling.Held.{Held}
+use Rattle.hippo_policy.specs.declared.ruling.Held.TheVariants.{Allowed, Revoked as HeldRevoked}
+
+abbrev pub held_rule : Held → Rule
+held_rule (Allowed rule item days) = allowed rule item days
+held_rule (HeldRevoked rule) = revoked rule
+
+-- the rule that is answered, whatever is said of its item
+abbrev pub ruling_of : RuleAt → Option Rule
+ruling_of Unnamed = None
+ruling_of (Always rule days) = Some (allowed rule None days)
+ruling_of (With rule item opt_in days) = Some (allowed rule (Some item.now) days)
+ruling_of (Revoked rule) = Some (revoked rule)
+
+-- whether an item needs a YES; one that no entry creates does
+abbrev pub is_opt_in : Option ItemKind → Bool
+is_opt_in None = true
+is_opt_in (Some OptIn) = true
+is_opt_in (Some OptOut) = false
+
+-- what is answered of a rule's item, where it has one
+abbrev pub asks_opt_in : RuleAt → Option Bool
+asks_opt_in (With rule item opt_in days) = Some opt_in
+asks_opt_in rule = None
+
+abbrev pub opt_in_at : History → Option Rule → Option Bool
+opt_in_at history (Some (allowed rule (Some item) days)) = Some (is_opt_in (item_at history item))
+opt_in_at history rule = None

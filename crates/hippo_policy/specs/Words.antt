@@ -1,0 +1,33 @@
+-- What the entries of a history say of a matter, each with its number.
+use Rattle.std.specs.Prelude.{ℕ, ◌-◌, Bool, List, [], ◌∷◌, ◌++◌, length, take, Option, if◌then◌else◌, None, nat_le, filter_map, option_map}
+use Rattle.std.specs.Bool.{then_some}
+use Rattle.std.specs.List.{enumerate_from}
+use Rattle.std.specs.Option.{option_or, option_map_or}
+use Rattle.std.specs.HashMap.{get}
+use Rattle.hippo_model.specs.declared.entry.Entry.{Entry}
+use Rattle.hippo_model.specs.Terms.{History}
+pub use Rattle.hippo_policy.specs.declared.last_words.LastWords.{LastWords}
+pub use Rattle.hippo_policy.specs.declared.last_words.Said.{Said}
+
+-- what each entry that speaks of the matter says, with the entry's number
+abbrev pub numbered : {A : Type 0} → (Entry → Option A) → History → List (Said A)
+numbered word history =
+    filter_map (λ (number, entry). option_map (λ said. record { number = number; word = said }) (word entry))
+    (enumerate_from 1 history)
+
+-- the last word up to a number
+abbrev pub latest : {A : Type 0} → ℕ → List (Said A) → Option A
+latest n [] = None
+latest n (said ∷ later) = option_or (latest n later) (then_some (nat_le said.number n) said.word)
+
+-- what is kept at a key
+abbrev pub words_of : {K A : Type 0} → (K → K → Bool) → LastWords K A → K → List (Said A)
+words_of same kept key = option_map_or (λ words. words.items) (get same kept.words key) []
+
+-- one word more, where something is said
+abbrev pub with_word : {A : Type 0} → Bool → Said A → List (Said A) → List (Said A)
+with_word is_said said words = if is_said then words ++ said ∷ [] else words
+
+-- the last word taken back, where something was said
+abbrev pub without_word : {A : Type 0} → Bool → List (Said A) → List (Said A)
+without_word was_said words = if was_said then take (length words - 1) words else words

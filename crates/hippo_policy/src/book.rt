@@ -1,0 +1,279 @@
+//! The rules, choices, authorizations and items of a history, at every entry number.
+ghost use Rattle.std.specs.Prelude.{◌≡◌, ℕ, true, IsOk, ◌∷◌, [], ◌++◌, ◌+◌, length, take, map, option_map, OnOk, OnErr, IfOk};
+ghost use Rattle.hippo_model.specs.Terms.{History};
+ghost use Rattle.hippo_model.specs.declared.entry.Entry.{Entry as HistoryEntry};
+ghost use Rattle.hippo_model.specs.declared.entry.Act.{Act as HistoryAct};
+ghost use Rattle.hippo_model.specs.declared.entry.Act.TheVariants.{Item, Authorize, Deauthorize, Allow, Revoke, Choice};
+ghost use Rattle.hippo_policy.specs.Books.{StandsFor, Remembers, Adds, AddsUser, AddsRule, IsAsBefore, cell_keys, is_silent};
+
+use crate::keys::{CellKey, ChoiceKey, KeyName, TableKey, UserKey};
+use crate::last_words::{LastWords, Said};
+use crate::ruling::Ruling;
+use hippo_model::{Act, Authorization, Entry, ItemKind, Places};
+use hippo_values::{Memory, Name, Sequence};
+use std::alloc::Global;
+
+/// What the last entry that was added speaks of.
+#[derive(Drop)]
+enum Matter {
+    Nothing,
+    Cells(Sequence<CellKey<'static>>),
+    Choice(ChoiceKey<'static>),
+    User(UserKey<'static>),
+    Item(KeyName<'static>),
+}
+
+/// The rules, choices, authorizations and items of a history, at every entry number.
+#[derive(Drop)]
+pub struct PolicyBook {
+    pub(crate) rules: LastWords<CellKey<'static>, Ruling>,
+    pub(crate) choices: LastWords<ChoiceKey<'static>, bool>,
+    pub(crate) users: LastWords<UserKey<'static>, Authorization>,
+    pub(crate) items: LastWords<KeyName<'static>, ItemKind>,
+    last: Matter,
+}
+
+// The keys of a table's cells in these columns.
+fn cell_keys(
+    alloc: Global,
+    purpose: &Name,
+    recipient: &Name,
+    table: &Name,
+    columns: &[usize],
+) -> Result<Sequence<CellKey<'static>>, Memory>
+    ensures { IfOk result (λ keys. keys ≡ cell_keys purpose.now recipient.now table.now columns.now) }
+{
+    let mut keys = Sequence::new(alloc);
+    for column in columns {
+        let table = TableKey::owned(alloc, purpose, recipient, table)?;
+        keys.push(CellKey {
+            table,
+            column: *column,
+        })?;
+    }
+    Ok(keys)
+}
+
+impl PolicyBook {
+    /// The book of the empty history; takes no memory.
+    pub fn new(alloc: Global) -> PolicyBook
+        ensures { StandsFor result [] }
+    {
+        PolicyBook {
+            rules: LastWords::new(alloc),
+            choices: LastWords::new(alloc),
+            users: LastWords::new(alloc),
+            items: LastWords::new(alloc),
+            last: Matter::Nothing,
+        }
+    }
+
+    // What the last entry speaks of.
+    fn remember(&mut self, last: Matter)
+        ensures { self.new ≡ record { rules = self.old.rules; choices = self.old.choices; users = self.old.users; items = self.old.items; last = last } }
+    {
+        self.last = last;
+    }
+
+    fn add_item(
+        &mut self,
+        alloc: Global,
+        number: u64,
+        item: &Name,
+        kind: ItemKind,
+    ) -> Result<(), Memory>
+        ensures ok { OnOk result (Adds self.old self.new number (Item item.now kind)) }
+        ensures err { OnErr result (IsAsBefore self.old self.new) }
+    {
+        let key = KeyName::owned(alloc, item)?;
+        self.items
+            .push_copy(alloc, &key, Said { number, word: kind })?;
+        self.remember(Matter::Item(key));
+        Ok(())
+    }
+
+    fn add_choice(
+        &mut self,
+        alloc: Global,
+        number: u64,
+        subject: &i64,
+        item: &Name,
+        yes: bool,
+    ) -> Result<(), Memory>
+        ensures ok { OnOk result (Adds self.old self.new number (Choice subject.now item.now yes)) }
+        ensures err { OnErr result (IsAsBefore self.old self.new) }
+    {
+        let key = ChoiceKey::owned(alloc, subject, item)?;
+        self.choices
+            .push_copy(alloc, &key, Said { number, word: yes })?;
+        self.remember(Matter::Choice(key));
+        Ok(())
+    }
+
+    fn add_user(
+        &mut self,
+        alloc: Global,
+        number: u64,
+        key: UserKey<'static>,
+        word: Authorization,
+    ) -> Result<(), Memory>
+        ensures ok { OnOk result (AddsUser self.old self.new number key.entry word) }
+        ensures err { OnErr result (IsAsBefore self.old self.new) }
+    {
+        self.users.push_copy(alloc, &key, Said { number, word })?;
+        self.remember(Matter::User(key));
+        Ok(())
+    }
+
+    fn add_authorize(
+        &mut self,
+        alloc: Global,
+        number: u64,
+        user: &Name,
+        purpose: &Name,
+        recipient: &Name,
+    ) -> Result<(), Memory>
+        ensures ok { OnOk result (Adds self.old self.new number (Authorize user.now purpose.now recipient.now)) }
+        ensures err { OnErr result (IsAsBefore self.old self.new) }
+    {
+        let key = UserKey::owned(alloc, user, purpose, recipient)?;
+        self.add_user(alloc, number, key, Authorization::Yes)
+    }
+
+    fn add_deauthorize(
+        &mut self,
+        alloc: Global,
+        number: u64,
+        user: &Name,
+        purpose: &Name,
+        recipient: &Name,
+    ) -> Result<(), Memory>
+        ensures ok { OnOk result (Adds self.old self.new number (Deauthorize user.now purpose.now recipient.now)) }
+        ensures err { OnErr result (IsAsBefore self.old self.new) }
+    {
+        let key = UserKey::owned(alloc, user, purpose, recipient)?;
+        self.add_user(alloc, number, key, Authorization::No(number))
+    }
+
+    fn add_rule(
+        &mut self,
+        alloc: Global,
+        number: u64,
+        keys: Sequence<CellKey<'static>>,
+        ruling: &Ruling,
+    ) -> Result<(), Memory>
+        ensures ok { OnOk result (AddsRule self.old self.new number keys.entry ruling.now) }
+        ensures err { OnErr result (IsAsBefore self.old self.new) }
+    {
+        self.rules.push_all(alloc, keys.as_slice(), number, ruling)?;
+        self.remember(Matter::Cells(keys));
+        Ok(())
+    }
+
+    fn add_allow(
+        &mut self,
+        alloc: Global,
+        number: u64,
+        purpose: &Name,
+        recipient: &Name,
+        table: &Name,
+        columns: &Places,
+        item: &Option<Name>,
+        days: Option<u32>,
+    ) -> Result<(), Memory>
+        ensures ok { OnOk result (Adds self.old self.new number (Allow purpose.now recipient.now table.now columns.now item.now days)) }
+        ensures err { OnErr result (IsAsBefore self.old self.new) }
+    {
+        let keys = cell_keys(alloc, purpose, recipient, table, columns.as_slice())?;
+        let ruling = Ruling::allowed(alloc, number, item, days)?;
+        self.add_rule(alloc, number, keys, &ruling)
+    }
+
+    fn add_revoke(
+        &mut self,
+        alloc: Global,
+        number: u64,
+        purpose: &Name,
+        recipient: &Name,
+        table: &Name,
+        columns: &Places,
+    ) -> Result<(), Memory>
+        ensures ok { OnOk result (Adds self.old self.new number (Revoke purpose.now recipient.now table.now columns.now)) }
+        ensures err { OnErr result (IsAsBefore self.old self.new) }
+    {
+        let keys = cell_keys(alloc, purpose, recipient, table, columns.as_slice())?;
+        let ruling = Ruling::revoked(number);
+        self.add_rule(alloc, number, keys, &ruling)
+    }
+
+    // An entry that says nothing of what the book keeps.
+    fn pass_over(&mut self)
+        ensures { (number : ℕ) (act : HistoryAct) → is_silent act ≡ true → Adds self.old self.new number act }
+    {
+        self.remember(Matter::Nothing);
+    }
+
+    /// Takes in the entry that comes next: the book then stands for the history with the entry behind. It is unchanged
+    /// where memory is short, which it never is for a Delete.
+    pub fn add(&mut self, alloc: Global, entry: &Entry) -> Result<(), Memory>
+        ensures ok { OnOk result (Adds self.old self.new entry.now.seq entry.now.act) }
+        ensures err { OnErr result (IsAsBefore self.old self.new) }
+        ensures deletes { is_silent entry.now.act ≡ true → IsOk result }
+    {
+        let number = entry.seq;
+        match &entry.act {
+            Act::Item { item, kind } => self.add_item(alloc, number, item, *kind),
+            Act::Authorize {
+                user,
+                purpose,
+                recipient,
+            } => self.add_authorize(alloc, number, user, purpose, recipient),
+            Act::Deauthorize {
+                user,
+                purpose,
+                recipient,
+            } => self.add_deauthorize(alloc, number, user, purpose, recipient),
+            Act::Allow {
+                purpose,
+                recipient,
+                table,
+                columns,
+                item,
+                days,
+            } => self.add_allow(
+                alloc, number, purpose, recipient, table, columns, item, *days,
+            ),
+            Act::Revoke {
+                purpose,
+                recipient,
+                table,
+                columns,
+            } => self.add_revoke(alloc, number, purpose, recipient, table, columns),
+            Act::Choice { subject, item, yes } => {
+                self.add_choice(alloc, number, subject, item, *yes)
+            }
+            Act::Create(_) => Ok(self.pass_over()),
+            Act::Insert { .. } => Ok(self.pass_over()),
+            Act::Update { .. } => Ok(self.pass_over()),
+            Act::Delete { .. } => Ok(self.pass_over()),
+            Act::Purpose(_) => Ok(self.pass_over()),
+            Act::Recipient(_) => Ok(self.pass_over()),
+            Act::Asked { .. } => Ok(self.pass_over()),
+        }
+    }
+
+    /// Takes back the entry that was added last: the book then stands for the history before it. Takes no memory. The
+    /// last call that changed the book must have added an entry; without this the book stands for no history.
+    pub fn take_back(&mut self)
+        ensures { (history : History) (entry : HistoryEntry) → Remembers self.old entry.act
+            → StandsFor self.old (history ++ entry ∷ []) → StandsFor self.new history }
+    {
+        match &self.last {
+            Matter::Nothing => {}
+            Matter::Cells(keys) => self.rules.pop_all(keys.as_slice()),
+            Matter::Choice(key) => self.choices.pop(key),
+            Matter::User(key) => self.users.pop(key),
+            Matter::Item(key) => self.items.pop(key),
+        }
+    }
+}

@@ -1,0 +1,240 @@
+//! Keys of look-ups: a map owns their names, and a look-up lends them.
+ghost use Rattle.std.specs.Prelude.{◌≡◌, nat_eq, IfOk};
+ghost use Rattle.std.specs.Cmp.{partial_equiv_from_equiv};
+ghost use Rattle.std.specs.Cmp.Lexicographic.{pointwise, nat_list_eq_equiv};
+ghost use Rattle.std.specs.Cmp.Rules.{hashing};
+ghost use Rattle.std.specs.Hash as fed;
+ghost use Rattle.std.proofs.Common.{rules};
+
+use hippo_values::{Duplicate, Memory, Name};
+use std::alloc::Global;
+use std::hash::{Hash, Hasher};
+use std::marker::Model;
+
+#[derive(Drop)]
+enum Held<'a> {
+    Owned(Name),
+    Lent(&'a Name),
+}
+
+/// A name that is owned or lent.
+#[derive(Drop)]
+pub struct KeyName<'a> {
+    held: Held<'a>,
+}
+
+impl<'a> Model for KeyName<'a> {
+    ghost use Rattle.hippo_policy.specs.HeldNames.{held_name};
+    ghost use Rattle.hippo_values.specs.declared.names.Name.{Name};
+
+    ghost Value = { Name };
+
+    ghost view = { λ name. held_name name.held };
+}
+
+impl<'a> KeyName<'a> {
+    pub fn lent(name: &'a Name) -> KeyName<'a>
+        ensures { result ≡ name.now }
+    {
+        KeyName {
+            held: Held::Lent(name),
+        }
+    }
+
+    pub fn owned(alloc: Global, name: &Name) -> Result<KeyName<'a>, Memory>
+        ensures { IfOk result (λ made. made ≡ name.now) }
+    {
+        let name = name.copy(alloc)?;
+        Ok(KeyName {
+            held: Held::Owned(name),
+        })
+    }
+
+    pub fn name(&self) -> &Name
+        ensures { result.now ≡ self.now }
+    {
+        match &self.held {
+            Held::Owned(name) => name,
+            Held::Lent(name) => name,
+        }
+    }
+}
+
+impl<'a> PartialEq for KeyName<'a> {
+    ghost eq = { pointwise nat_eq };
+
+    ghost laws = { partial_equiv_from_equiv nat_list_eq_equiv };
+
+    fn eq(&self, other: &KeyName<'a>) -> bool {
+        self.name() == other.name()
+    }
+}
+
+impl<'a> Eq for KeyName<'a> {
+    ghost laws = { nat_list_eq_equiv };
+}
+
+impl<'a> Hash for KeyName<'a> {
+    ghost hash_input = { fed.str };
+
+    ghost respects_eq = { Prim.search (hashing, rules) };
+
+    fn hash<H: Hasher>(&self, state: &mut H) {
+        self.name().hash(state);
+    }
+}
+
+/// A patient and an item.
+#[derive(Drop, PartialEq, Eq, Hash)]
+pub struct ChoiceKey<'a> {
+    pub subject: i64,
+    pub item: KeyName<'a>,
+}
+
+impl<'a> ChoiceKey<'a> {
+    pub fn lent(subject: &i64, item: &'a Name) -> ChoiceKey<'a>
+        ensures { result ≡ record { subject = subject.now; item = item.now } }
+    {
+        ChoiceKey {
+            subject: *subject,
+            item: KeyName::lent(item),
+        }
+    }
+
+    pub fn owned(alloc: Global, subject: &i64, item: &Name) -> Result<ChoiceKey<'a>, Memory>
+        ensures { IfOk result (λ made. made ≡ record { subject = subject.now; item = item.now }) }
+    {
+        let item = KeyName::owned(alloc, item)?;
+        Ok(ChoiceKey {
+            subject: *subject,
+            item,
+        })
+    }
+}
+
+/// A user who asks for a purpose and recipient.
+#[derive(Drop, PartialEq, Eq, Hash)]
+pub struct UserKey<'a> {
+    pub user: KeyName<'a>,
+    pub purpose: KeyName<'a>,
+    pub recipient: KeyName<'a>,
+}
+
+impl<'a> UserKey<'a> {
+    pub fn lent(user: &'a Name, purpose: &'a Name, recipient: &'a Name) -> UserKey<'a>
+        ensures { result ≡ record { user = user.now; purpose = purpose.now; recipient = recipient.now } }
+    {
+        UserKey {
+            user: KeyName::lent(user),
+            purpose: KeyName::lent(purpose),
+            recipient: KeyName::lent(recipient),
+        }
+    }
+
+    pub fn owned(
+        alloc: Global,
+        user: &Name,
+        purpose: &Name,
+        recipient: &Name,
+    ) -> Result<UserKey<'a>, Memory>
+        ensures { IfOk result (λ made. made ≡ record { user = user.now; purpose = purpose.now; recipient = recipient.now }) }
+    {
+        let user = KeyName::owned(alloc, user)?;
+        let purpose = KeyName::owned(alloc, purpose)?;
+        let recipient = KeyName::owned(alloc, recipient)?;
+        Ok(UserKey {
+            user,
+            purpose,
+            recipient,
+        })
+    }
+}
+
+/// A table for a purpose and recipient.
+#[derive(Drop, PartialEq, Eq, Hash)]
+pub struct TableKey<'a> {
+    pub purpose: KeyName<'a>,
+    pub recipient: KeyName<'a>,
+    pub table: KeyName<'a>,
+}
+
+impl<'a> TableKey<'a> {
+    pub fn lent(purpose: &'a Name, recipient: &'a Name, table: &'a Name) -> TableKey<'a>
+        ensures { result ≡ record { purpose = purpose.now; recipient = recipient.now; table = table.now } }
+    {
+        TableKey {
+            purpose: KeyName::lent(purpose),
+            recipient: KeyName::lent(recipient),
+            table: KeyName::lent(table),
+        }
+    }
+
+    pub fn owned(
+        alloc: Global,
+        purpose: &Name,
+        recipient: &Name,
+        table: &Name,
+    ) -> Result<TableKey<'a>, Memory>
+        ensures { IfOk result (λ made. made ≡ record { purpose = purpose.now; recipient = recipient.now; table = table.now }) }
+    {
+        let purpose = KeyName::owned(alloc, purpose)?;
+        let recipient = KeyName::owned(alloc, recipient)?;
+        let table = KeyName::owned(alloc, table)?;
+        Ok(TableKey {
+            purpose,
+            recipient,
+            table,
+        })
+    }
+}
+
+/// A column of a table for a purpose and recipient.
+#[derive(Drop, PartialEq, Eq, Hash)]
+pub struct CellKey<'a> {
+    pub table: TableKey<'a>,
+    pub column: usize,
+}
+
+impl<'a> Duplicate for CellKey<'a> {
+    fn copy(&self, alloc: Global) -> Result<CellKey<'a>, Memory> {
+        let table = self.table.copy(alloc)?;
+        Ok(CellKey {
+            table,
+            column: self.column,
+        })
+    }
+}
+
+impl<'a> Duplicate for KeyName<'a> {
+    fn copy(&self, alloc: Global) -> Result<KeyName<'a>, Memory> {
+        KeyName::owned(alloc, self.name())
+    }
+}
+
+impl<'a> Duplicate for ChoiceKey<'a> {
+    fn copy(&self, alloc: Global) -> Result<ChoiceKey<'a>, Memory> {
+        ChoiceKey::owned(alloc, &self.subject, self.item.name())
+    }
+}
+
+impl<'a> Duplicate for UserKey<'a> {
+    fn copy(&self, alloc: Global) -> Result<UserKey<'a>, Memory> {
+        UserKey::owned(
+            alloc,
+            self.user.name(),
+            self.purpose.name(),
+            self.recipient.name(),
+        )
+    }
+}
+
+impl<'a> Duplicate for TableKey<'a> {
+    fn copy(&self, alloc: Global) -> Result<TableKey<'a>, Memory> {
+        TableKey::owned(
+            alloc,
+            self.purpose.name(),
+            self.recipient.name(),
+            self.table.name(),
+        )
+    }
+}

@@ -1,0 +1,155 @@
+//! What was said of a matter, and when: what the entries of a history say, by the key of what they speak of.
+ghost use Rattle.std.specs.Prelude.{◌≡◌, ℕ, List, [], ◌∷◌, ◌++◌, ◌-◌, length, take, Option, option_copied, OnOk, OnErr, if◌then◌else◌};
+ghost use Rattle.std.specs.List.{list_any};
+ghost use Rattle.std.specs.List.Sorted.{IsNonDecreasingBy};
+ghost use Rattle.hippo_model.specs.Terms.{History};
+ghost use Rattle.hippo_model.specs.Histories.{last_word};
+ghost use Rattle.hippo_model.specs.declared.entry.Entry.{Entry};
+ghost use Rattle.hippo_policy.specs.Words.{Said, words_of, with_word, without_word, numbered, latest};
+
+use hippo_values::{Duplicate, Memory};
+use std::alloc::Global;
+use std::collections::HashMap;
+use std::hash::Hash;
+
+/// What an entry says, and its number.
+#[derive(Drop)]
+pub struct Said<W> {
+    pub number: u64,
+    pub word: W,
+}
+
+// The last word up to entry number `n`, where the numbers rise.
+fn latest<W>(words: &[Said<W>], n: u64) -> Option<&W>
+    ensures { IsNonDecreasingBy (λ said. said.number) words.now → option_copied result ≡ latest n words.now }
+{
+    let end = words.partition_point(|said| said.number <= n);
+    match words[..end].last() {
+        None => None,
+        Some(said) => Some(&said.word),
+    }
+}
+
+/// For each key, what was said of it, in the order of the entries.
+#[derive(Drop)]
+pub struct LastWords<K: Eq + Hash, W> {
+    words: HashMap<K, Vec<Said<W>>>,
+}
+
+impl<K: Eq + Hash + Drop, W: Drop> LastWords<K, W> {
+    /// Nothing said; takes no memory.
+    pub fn new(alloc: Global) -> LastWords<K, W>
+        ensures { (key : K) → words_of K.eq result key ≡ [] }
+    {
+        LastWords {
+            words: HashMap::new(alloc),
+        }
+    }
+
+    /// What was said last of a key up to entry number `n`.
+    pub fn at(&self, n: u64, key: &K) -> Option<&W>
+        ensures history { (word : Entry → Option W) (history : History) → words_of K.eq self.now key.now ≡ numbered word history
+            → option_copied result ≡ last_word word (take n history) }
+        ensures latest { IsNonDecreasingBy (λ said. said.number) (words_of K.eq self.now key.now)
+            → option_copied result ≡ latest n (words_of K.eq self.now key.now) }
+    {
+        match self.words.get(key) {
+            None => None,
+            Some(words) => latest(words, n),
+        }
+    }
+
+    /// Adds what an entry says of a key.
+    pub fn push(&mut self, alloc: Global, key: K, said: Said<W>) -> Result<(), Memory>
+        ensures ok { OnOk result ((other : K) → words_of K.eq self.new other ≡ with_word (K.eq key other) said (words_of K.eq self.old other)) }
+        ensures err { OnErr result ((other : K) → words_of K.eq self.new other ≡ words_of K.eq self.old other) }
+    {
+        match self.words.get_mut(&key) {
+            Some(words) => {
+                words.push(said)?;
+                Ok(())
+            }
+            None => self.begin(alloc, key, said),
+        }
+    }
+
+    fn begin(&mut self, alloc: Global, key: K, said: Said<W>) -> Result<(), Memory>
+        ensures ok { OnOk result ((other : K) → words_of K.eq self.new other ≡ (if K.eq key other then said ∷ [] else words_of K.eq self.old other)) }
+        ensures err { OnErr result ((other : K) → words_of K.eq self.new other ≡ words_of K.eq self.old other) }
+    {
+        let mut words = Vec::new(alloc);
+        words.push(said)?;
+        self.words.insert(key, words)?;
+        Ok(())
+    }
+
+    /// Takes back what was said last of a key.
+    pub fn pop(&mut self, key: &K)
+        ensures { (other : K) → words_of K.eq self.new other ≡ without_word (K.eq key.now other) (words_of K.eq self.old other) }
+    {
+        if let Some(words) = self.words.get_mut(key) {
+            let _ = words.pop();
+        }
+    }
+}
+
+impl<K: Eq + Hash + Duplicate + Drop, W: Drop> LastWords<K, W> {
+    /// Adds what an entry says of a key, of which a copy is kept.
+    pub fn push_copy(&mut self, alloc: Global, key: &K, said: Said<W>) -> Result<(), Memory>
+        ensures ok { OnOk result ((other : K) → words_of K.eq self.new other
+            ≡ with_word (K.eq key.now other) said (words_of K.eq self.old other)) }
+        ensures err { OnErr result ((other : K) → words_of K.eq self.new other ≡ words_of K.eq self.old other) }
+    {
+        let key = key.copy(alloc)?;
+        self.push(alloc, key, said)
+    }
+}
+
+impl<K: Eq + Hash + Duplicate + Drop, W: Duplicate + Drop> LastWords<K, W> {
+    fn push_both(&mut self, alloc: Global, key: &K, number: u64, word: &W) -> Result<(), Memory>
+        ensures ok { OnOk result ((other : K) → words_of K.eq self.new other
+            ≡ with_word (K.eq key.now other) (record { number = number; word = word.now }) (words_of K.eq self.old other)) }
+        ensures err { OnErr result ((other : K) → words_of K.eq self.new other ≡ words_of K.eq self.old other) }
+    {
+        let word = word.copy(alloc)?;
+        self.push_copy(alloc, key, Said { number, word })
+    }
+
+    /// Takes back what was said last of each of these keys.
+    pub fn pop_all(&mut self, keys: &[K])
+        ensures { (other : K) → words_of K.eq self.new other
+            ≡ without_word (list_any (λ key. K.eq key other) keys.now) (words_of K.eq self.old other) }
+    {
+        for place in 0..keys.len() {
+            if !keys[..place].contains(&keys[place]) {
+                self.pop(&keys[place]);
+            }
+        }
+    }
+
+    /// Adds what an entry says of each of these keys.
+    pub fn push_all(
+        &mut self,
+        alloc: Global,
+        keys: &[K],
+        number: u64,
+        word: &W,
+    ) -> Result<(), Memory>
+        ensures ok { OnOk result ((other : K) → words_of K.eq self.new other
+            ≡ with_word (list_any (λ key. K.eq key other) keys.now) (record { number = number; word = word.now }) (words_of K.eq self.old other)) }
+        ensures err { OnErr result ((other : K) → words_of K.eq self.new other ≡ words_of K.eq self.old other) }
+    {
+        for place in 0..keys.len() {
+            if !keys[..place].contains(&keys[place]) {
+                match self.push_both(alloc, &keys[place], number, word) {
+                    Ok(()) => {}
+                    Err(Memory) => {
+                        self.pop_all(&keys[..place]);
+                        return Err(Memory);
+                    }
+                }
+            }
+        }
+        Ok(())
+    }
+}

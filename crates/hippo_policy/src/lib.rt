@@ -1,0 +1,13 @@
+//! What the rules, choices and authorizations of a history are, at every entry number.
+#![tactic(auto)]
+
+mod book;
+mod choices;
+mod keys;
+mod last_words;
+mod lookups;
+mod ruling;
+mod verdicts;
+
+pub use book::PolicyBook;
+pub use choices::ChoicesAt;

@@ -1,0 +1,112 @@
+//! What the rules, choices and authorizations were at an entry number.
+ghost use Rattle.std.specs.Prelude.{◌≡◌, ℕ, take, option_copied, option_map, Bool, Some};
+ghost use Rattle.hippo_model.specs.Terms.{History};
+ghost use Rattle.hippo_model.specs.Histories.{item_at};
+ghost use Rattle.hippo_model.specs.Rules.{rule_at, choice_at, authorized_at};
+ghost use Rattle.hippo_policy.specs.Books.{StandsFor};
+ghost use Rattle.hippo_policy.specs.Rulings.{ruling_of, asks_opt_in, opt_in_at, is_opt_in};
+
+use crate::book::PolicyBook;
+use crate::keys::{CellKey, ChoiceKey, KeyName, TableKey, UserKey};
+use crate::ruling::Ruling;
+use hippo_model::{Authorization, ItemKind, RuleAt};
+use hippo_values::Name;
+
+impl PolicyBook {
+    pub(crate) fn ruling_at<'a>(
+        &'a self,
+        n: u64,
+        purpose: &'a Name,
+        recipient: &'a Name,
+        table: &'a Name,
+        column: usize,
+    ) -> Option<&'a Ruling>
+        ensures { (history : History) → StandsFor self.now history
+            → option_copied result ≡ rule_at (take n history) purpose.now recipient.now table.now column }
+    {
+        let table = TableKey::lent(purpose, recipient, table);
+        self.rules.at(n, &CellKey { table, column })
+    }
+
+    /// How silence on an item is read, as of the first `n` entries; none where no entry creates it.
+    pub fn item_at(&self, n: u64, item: &Name) -> Option<ItemKind>
+        ensures { (history : History) → StandsFor self.now history → result ≡ item_at (take n history) item.now }
+    {
+        self.items.at(n, &KeyName::lent(item)).copied()
+    }
+
+    /// The last choice of a patient on an item, among the first `n` entries.
+    pub fn choice_at(&self, n: u64, subject: i64, item: &Name) -> Option<bool>
+        ensures { (history : History) → StandsFor self.now history → result ≡ choice_at (take n history) subject item.now }
+    {
+        let item = KeyName::lent(item);
+        self.choices.at(n, &ChoiceKey { subject, item }).copied()
+    }
+
+    /// Whether a user may ask for a purpose and recipient, as the last entry among the first `n` says that speaks of
+    /// them.
+    pub fn authorized_at(
+        &self,
+        n: u64,
+        user: &Name,
+        purpose: &Name,
+        recipient: &Name,
+    ) -> Authorization
+        ensures { (history : History) → StandsFor self.now history
+            → result ≡ authorized_at (take n history) user.now purpose.now recipient.now }
+    {
+        let key = UserKey::lent(user, purpose, recipient);
+        self.users
+            .at(n, &key)
+            .copied()
+            .unwrap_or(Authorization::No(0))
+    }
+
+    /// The last rule among the first `n` entries that names a column of a table for a purpose and recipient.
+    pub fn rule_at<'a>(
+        &'a self,
+        n: u64,
+        purpose: &'a Name,
+        recipient: &'a Name,
+        table: &'a Name,
+        column: usize,
+    ) -> RuleAt<'a>
+        ensures rule { (history : History) → StandsFor self.now history
+            → ruling_of result ≡ rule_at (take n history) purpose.now recipient.now table.now column }
+        ensures silence { (history : History) → StandsFor self.now history
+            → asks_opt_in result ≡ opt_in_at (take n history) (rule_at (take n history) purpose.now recipient.now table.now column) }
+    {
+        match self.ruling_at(n, purpose, recipient, table, column) {
+            None => RuleAt::Unnamed,
+            Some(ruling) => self.answered(n, ruling),
+        }
+    }
+
+    fn answered<'a>(&'a self, n: u64, ruling: &'a Ruling) -> RuleAt<'a>
+        ensures rule { ruling_of result ≡ Some ruling.now }
+        ensures silence { (history : History) → StandsFor self.now history
+            → asks_opt_in result ≡ opt_in_at (take n history) (Some ruling.now) }
+    {
+        match ruling.as_rule_at() {
+            RuleAt::With {
+                rule,
+                item,
+                days,
+                ..
+            } => RuleAt::With {
+                rule,
+                item,
+                opt_in: self.is_opt_in(n, item),
+                days,
+            },
+            rule => rule,
+        }
+    }
+
+    // Whether an item needs a YES; one that no entry creates does.
+    fn is_opt_in(&self, n: u64, item: &Name) -> bool
+        ensures { (history : History) → StandsFor self.now history → result ≡ is_opt_in (item_at (take n history) item.now) }
+    {
+        !matches!(self.item_at(n, item), Some(ItemKind::OptOut))
+    }
+}

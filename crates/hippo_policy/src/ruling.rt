@@ -1,0 +1,103 @@
+//! What an ALLOW or a REVOKE says of a cell.
+ghost use Rattle.std.specs.Prelude.{◌≡◌, IfOk, Some, option_map};
+ghost use Rattle.hippo_model.specs.Rules.{allowed, revoked};
+ghost use Rattle.hippo_policy.specs.Rulings.{ruling_of};
+
+use hippo_model::RuleAt;
+use hippo_values::{Duplicate, Memory, Name};
+use std::alloc::Global;
+use std::marker::Model;
+
+#[derive(Drop)]
+enum Held {
+    Allowed {
+        rule: u64,
+        item: Option<Name>,
+        days: Option<u32>,
+    },
+    Revoked(u64),
+}
+
+/// What entry number `rule` says of a cell, as the model's `Rule`.
+#[derive(Drop)]
+pub struct Ruling {
+    held: Held,
+}
+
+impl Model for Ruling {
+    ghost use Rattle.hippo_model.specs.Rules.{Rule};
+    ghost use Rattle.hippo_policy.specs.Rulings.{held_rule};
+
+    ghost Value = { Rule };
+
+    ghost view = { λ ruling. held_rule ruling.held };
+}
+
+fn copied_item(alloc: Global, item: &Option<Name>) -> Result<Option<Name>, Memory>
+    ensures { IfOk result (λ made. made ≡ item.now) }
+{
+    match item {
+        None => Ok(None),
+        Some(item) => Ok(Some(item.copy(alloc)?)),
+    }
+}
+
+impl Ruling {
+    pub fn allowed(
+        alloc: Global,
+        rule: u64,
+        item: &Option<Name>,
+        days: Option<u32>,
+    ) -> Result<Ruling, Memory>
+        ensures { IfOk result (λ made. made ≡ allowed rule item.now days) }
+    {
+        let item = copied_item(alloc, item)?;
+        Ok(Ruling {
+            held: Held::Allowed { rule, item, days },
+        })
+    }
+
+    pub fn revoked(rule: u64) -> Ruling
+        ensures { result ≡ revoked rule }
+    {
+        Ruling {
+            held: Held::Revoked(rule),
+        }
+    }
+
+    /// The rule as it is answered, its item being read as opt-in where it is not known.
+    pub fn as_rule_at(&self) -> RuleAt<'_>
+        ensures { ruling_of result ≡ Some self.now }
+    {
+        match &self.held {
+            Held::Revoked(rule) => RuleAt::Revoked(*rule),
+            Held::Allowed {
+                rule,
+                item: None,
+                days,
+            } => RuleAt::Always {
+                rule: *rule,
+                days: *days,
+            },
+            Held::Allowed {
+                rule,
+                item: Some(item),
+                days,
+            } => RuleAt::With {
+                rule: *rule,
+                item,
+                opt_in: true,
+                days: *days,
+            },
+        }
+    }
+}
+
+impl Duplicate for Ruling {
+    fn copy(&self, alloc: Global) -> Result<Ruling, Memory> {
+        match &self.held {
+            Held::Allowed { rule, item, days } => Ruling::allowed(alloc, *rule, item, *days),
+            Held::Revoked(rule) => Ok(Ruling::revoked(*rule)),
+        }
+    }
+}

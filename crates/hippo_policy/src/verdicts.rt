@@ -1,0 +1,129 @@
+//! Whether a cell is shown, at an entry number.
+ghost use Rattle.std.specs.Prelude.{◌≡◌, take, option_copied, Some, ◌-ℤ◌, pos, ◌*◌};
+ghost use Rattle.hippo_model.specs.Terms.{History};
+ghost use Rattle.hippo_model.specs.Rules.{choice_at};
+ghost use Rattle.hippo_model.specs.Verdicts.{subject_of, consents, days_long, has_ended, verdict, verdict_by};
+ghost use Rattle.hippo_policy.specs.Books.{StandsFor};
+
+use crate::book::PolicyBook;
+use crate::keys::ChoiceKey;
+use crate::ruling::Ruling;
+use hippo_model::{Cells, ItemKind, RuleAt, Schema, Verdict};
+use hippo_values::{Moment, Name, Value};
+
+const DAY: i64 = 86_400;
+
+// The number of the patient whom a row is about.
+fn subject_of<'a>(schema: &Schema, row: &'a Cells) -> Option<&'a i64>
+    ensures { option_copied result ≡ subject_of schema.now row.now }
+{
+    match row.as_slice().get(schema.subject?) {
+        Some(Value::Int(number)) => Some(number),
+        _ => None,
+    }
+}
+
+// Whether a rule that shows cells for so many days has ended for a row.
+fn has_ended(moment: &Moment, born: &Moment, days: Option<u32>) -> bool
+    ensures { result ≡ has_ended (moment.now -ℤ born.now) days }
+{
+    match days {
+        None => false,
+        Some(days) => moment.seconds() - born.seconds() >= DAY * i64::from(days),
+    }
+}
+
+impl PolicyBook {
+    fn choice_of(&self, n: u64, subject: &i64, item: &Name) -> Option<bool>
+        ensures { (history : History) → StandsFor self.now history → result ≡ choice_at (take n history) subject.now item.now }
+    {
+        self.choices.at(n, &ChoiceKey::lent(subject, item)).copied()
+    }
+
+    // Whether a patient agrees to an item.
+    fn agrees(&self, n: u64, subject: &i64, item: &Name) -> bool
+        ensures { (history : History) → StandsFor self.now history
+            → result ≡ consents (take n history) (Some subject.now) (Some item.now) }
+    {
+        let choice = self.choice_of(n, subject, item);
+        match self.item_at(n, item) {
+            None => false,
+            Some(ItemKind::OptIn) => choice.unwrap_or(false),
+            Some(ItemKind::OptOut) => choice.unwrap_or(true),
+        }
+    }
+
+    fn consents(&self, n: u64, subject: Option<&i64>, item: &Name) -> bool
+        ensures { (history : History) → StandsFor self.now history
+            → result ≡ consents (take n history) (option_copied subject.entry) (Some item.now) }
+    {
+        match subject {
+            None => false,
+            Some(subject) => self.agrees(n, subject, item),
+        }
+    }
+
+    // The verdict of a rule on a cell of a row that was born at a moment and is about a patient.
+    fn verdict_by(
+        &self,
+        n: u64,
+        moment: &Moment,
+        born: &Moment,
+        subject: Option<&i64>,
+        ruling: &Ruling,
+    ) -> Verdict
+        ensures { (history : History) → StandsFor self.now history
+            → result ≡ verdict_by (take n history) (moment.now -ℤ born.now) (option_copied subject.entry) (Some ruling.now) }
+    {
+        match ruling.as_rule_at() {
+            RuleAt::Unnamed => Verdict::Denied(0),
+            RuleAt::Revoked(rule) => Verdict::Denied(rule),
+            RuleAt::Always { rule, days } => {
+                if has_ended(moment, born, days) {
+                    Verdict::Denied(rule)
+                } else {
+                    Verdict::Shown
+                }
+            }
+            RuleAt::With {
+                rule,
+                item,
+                days,
+                ..
+            } => {
+                if has_ended(moment, born, days) || !self.consents(n, subject, item) {
+                    Verdict::Denied(rule)
+                } else {
+                    Verdict::Shown
+                }
+            }
+        }
+    }
+
+    /// Whether the cell in a row's column is shown for a purpose and recipient at a moment, by the first `n` entries, or
+    /// the number of the rule that denies it, 0 where no rule names it. A row's age counts from the moment at which it
+    /// was born, the last INSERT of its key.
+    pub fn verdict(
+        &self,
+        n: u64,
+        moment: Moment,
+        purpose: &Name,
+        recipient: &Name,
+        schema: &Schema,
+        row: &Cells,
+        born: Moment,
+        column: usize,
+    ) -> Verdict
+        ensures { (history : History) → StandsFor self.now history
+            → result ≡ verdict (take n history) (record { purpose = purpose.now; recipient = recipient.now; moment = moment })
+            schema.now (record { row = row.now; born = born }) column }
+    {
+        match self.ruling_at(n, purpose, recipient, &schema.name, column) {
+            None => Verdict::Denied(0),
+            Some(ruling) => {
+                let subject = subject_of(schema, row);
+                self.verdict_by(n, &moment, &born, subject, ruling)
+            }
+        }
+    }
+}
