@@ -71,7 +71,10 @@ impl PolicyBook {
             RuleAt::Revoked(rule) => Ok(Gate::Never(rule)),
             RuleAt::Always { rule, days } => Ok(gate_of_age(moment, rule, days)),
             RuleAt::With {
-                rule, item, days, ..
+                rule,
+                item,
+                days,
+                ..
             } => self.gate_of_item(alloc, n, moment, rule, item, days),
         }
     }
@@ -105,13 +108,7 @@ fn after_days(moment: &Moment, days: Option<u32>) -> Option<i64>
     }
 }
 
-fn gate_of_kind(
-    moment: &Moment,
-    rule: u64,
-    item: Name,
-    days: Option<u32>,
-    kind: ItemKind,
-) -> Gate
+fn gate_of_kind(moment: &Moment, rule: u64, item: Name, days: Option<u32>, kind: ItemKind) -> Gate
     ensures { result ≡ gate_of_item moment.now rule item days (Some kind) }
 {
     let opt_in = match kind {

@@ -1,5 +1,5 @@
 -- One column more, and all of them.
-use Rattle.std.proofs.Common.{◌≡◌, ◌∙◌, ap, arith, ℕ, List, [], ◌∷◌, ◌++◌, length, take}
+use Rattle.std.proofs.Common.{◌∙◌, arith, ℕ, length, take}
 use Rattle.hippo_model.specs.declared.policy.Gate.{Gate}
 use Rattle.hippo_model.specs.Rules.{rule_at}
 use Rattle.hippo_policy.specs.Gates.{gate_by}
