@@ -2,3 +2,4 @@ pub mod SaidLemmas
 pub mod AddLemmas
 pub mod BookLemmas
 pub mod TakeBackLemmas
+pub mod GateLemmas

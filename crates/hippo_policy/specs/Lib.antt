@@ -3,3 +3,4 @@ pub mod Keys
 pub mod Words
 pub mod Rulings
 pub mod Books
+pub mod Gates

@@ -3,6 +3,7 @@
 
 mod book;
 mod choices;
+mod gates;
 mod keys;
 mod last_words;
 mod lookups;

@@ -1,0 +1,188 @@
+//! What decides whether the cells of tables are shown, at an entry number.
+ghost use Rattle.std.specs.Prelude.{◌≡◌, take, IfOk, Some, option_map, map};
+ghost use Rattle.hippo_model.specs.Terms.{History};
+ghost use Rattle.hippo_model.specs.Rules.{rule_at};
+ghost use Rattle.hippo_policy.specs.Books.{StandsFor};
+ghost use Rattle.hippo_policy.specs.Gates.{after, gate_of_age, gate_of_item, gate_by, gates_at, table_rules};
+ghost use Rattle.hippo_model.specs.Rules.{allowed};
+
+use crate::book::PolicyBook;
+use crate::ruling::Ruling;
+use hippo_model::{Gate, Gates, ItemKind, RuleAt, RulesInForce, Schema, Schemas, TableRules};
+use hippo_values::{Duplicate, Memory, Moment, Name, Sequence};
+use std::alloc::Global;
+
+const DAY: i64 = 86_400;
+
+// The second after which a row must be born.
+fn after(moment: &Moment, days: u32) -> i64
+    ensures { result ≡ after moment.now days }
+{
+    moment.seconds() - DAY * i64::from(days)
+}
+
+fn gate_of_age(moment: &Moment, rule: u64, days: Option<u32>) -> Gate
+    ensures { result ≡ gate_of_age moment.now rule days }
+{
+    match days {
+        None => Gate::Always,
+        Some(days) => Gate::Aged {
+            rule,
+            after: after(moment, days),
+        },
+    }
+}
+
+impl PolicyBook {
+    fn gate_of_item(
+        &self,
+        alloc: Global,
+        n: u64,
+        moment: &Moment,
+        rule: u64,
+        item: &Name,
+        days: Option<u32>,
+    ) -> Result<Gate, Memory>
+        ensures { IfOk result (λ gate. (history : History) → StandsFor self.now history
+            → gate ≡ gate_by (take n history) moment.now (Some (allowed rule (Some item.now) days))) }
+    {
+        match self.item_at(n, item) {
+            None => Ok(Gate::Never(rule)),
+            Some(kind) => {
+                let item = item.copy(alloc)?;
+                Ok(gate_of_kind(moment, rule, item, days, kind))
+            }
+        }
+    }
+
+    // The gate that stands for a rule.
+    fn gate_by(
+        &self,
+        alloc: Global,
+        n: u64,
+        moment: &Moment,
+        ruling: &Ruling,
+    ) -> Result<Gate, Memory>
+        ensures { IfOk result (λ gate. (history : History) → StandsFor self.now history
+            → gate ≡ gate_by (take n history) moment.now (Some ruling.now)) }
+    {
+        match ruling.as_rule_at() {
+            RuleAt::Unnamed => Ok(Gate::Never(0)),
+            RuleAt::Revoked(rule) => Ok(Gate::Never(rule)),
+            RuleAt::Always { rule, days } => Ok(gate_of_age(moment, rule, days)),
+            RuleAt::With {
+                rule,
+                item,
+                days,
+                ..
+            } => self.gate_of_item(alloc, n, moment, rule, item, days),
+        }
+    }
+
+    fn gate_at(
+        &self,
+        alloc: Global,
+        n: u64,
+        moment: &Moment,
+        purpose: &Name,
+        recipient: &Name,
+        table: &Name,
+        column: usize,
+    ) -> Result<Gate, Memory>
+        ensures { IfOk result (λ gate. (history : History) → StandsFor self.now history
+            → gate ≡ gate_by (take n history) moment.now (rule_at (take n history) purpose.now recipient.now table.now column)) }
+    {
+        match self.ruling_at(n, purpose, recipient, table, column) {
+            None => Ok(Gate::Never(0)),
+            Some(ruling) => self.gate_by(alloc, n, moment, ruling),
+        }
+    }
+}
+
+fn after_days(moment: &Moment, days: Option<u32>) -> Option<i64>
+    ensures { result ≡ option_map (after moment.now) days }
+{
+    match days {
+        None => None,
+        Some(days) => Some(after(moment, days)),
+    }
+}
+
+fn gate_of_kind(moment: &Moment, rule: u64, item: Name, days: Option<u32>, kind: ItemKind) -> Gate
+    ensures { result ≡ gate_of_item moment.now rule item days (Some kind) }
+{
+    let opt_in = match kind {
+        ItemKind::OptIn => true,
+        ItemKind::OptOut => false,
+    };
+    let after = after_days(moment, days);
+    Gate::With {
+        rule,
+        item,
+        opt_in,
+        after,
+    }
+}
+
+impl PolicyBook {
+    fn gates_at(
+        &self,
+        alloc: Global,
+        n: u64,
+        moment: &Moment,
+        purpose: &Name,
+        recipient: &Name,
+        schema: &Schema,
+    ) -> Result<Gates, Memory>
+        ensures { IfOk result (λ gates. (history : History) → StandsFor self.now history
+            → gates ≡ gates_at (take n history) (record { purpose = purpose.now; recipient = recipient.now; moment = moment.now }) schema.now) }
+    {
+        let mut gates = Sequence::new(alloc);
+        for place in 0..schema.columns.len() {
+            gates.push(self.gate_at(alloc, n, moment, purpose, recipient, &schema.name, place)?)?;
+        }
+        Ok(gates)
+    }
+
+    fn table_rules(
+        &self,
+        alloc: Global,
+        n: u64,
+        moment: &Moment,
+        purpose: &Name,
+        recipient: &Name,
+        schema: &Schema,
+    ) -> Result<TableRules, Memory>
+        ensures { IfOk result (λ rules. (history : History) → StandsFor self.now history
+            → rules ≡ table_rules (take n history) (record { purpose = purpose.now; recipient = recipient.now; moment = moment.now }) schema.now) }
+    {
+        let gates = self.gates_at(alloc, n, moment, purpose, recipient, schema)?;
+        let key = schema.key.copy(alloc)?;
+        Ok(TableRules {
+            gates,
+            key,
+            subject: schema.subject,
+        })
+    }
+
+    /// The rules of each table for a purpose and recipient at a moment, by the first `n` entries: a gate for each column,
+    /// the places of the key and of the subject.
+    pub fn rules_in_force(
+        &self,
+        alloc: Global,
+        n: u64,
+        moment: Moment,
+        purpose: &Name,
+        recipient: &Name,
+        tables: &Schemas,
+    ) -> Result<RulesInForce, Memory>
+        ensures { IfOk result (λ rules. (history : History) → StandsFor self.now history
+            → rules ≡ map (table_rules (take n history) (record { purpose = purpose.now; recipient = recipient.now; moment = moment })) tables.now) }
+    {
+        let mut rules = Sequence::new(alloc);
+        for schema in tables.as_slice() {
+            rules.push(self.table_rules(alloc, n, &moment, purpose, recipient, schema)?)?;
+        }
+        Ok(rules)
+    }
+}
