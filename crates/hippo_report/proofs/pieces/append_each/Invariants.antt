@@ -1,0 +1,11 @@
+-- The text so far and then the pieces that are left are all, and the old text stands in front.
+use Rattle.std.proofs.Common.{◌≡◌, ◌++◌, map, drop}
+use Rattle.std.specs.List.{concat}
+use Rattle.hippo_values.specs.Printing.{KeepsFront}
+use Rattle.hippo_report.proofs.pieces.append_each.Given as goal
+
+abbrev pub invariant-loop-piece : goal.invariant-loop-piece
+invariant-loop-piece g l =
+    (l.out ++ concat (map (λ piece. piece.now) (drop l.piece-index l.pieces))
+    ≡ l.initial.out ++ concat (map (λ piece. piece.now) l.pieces))
+    × KeepsFront l.initial.out l.out

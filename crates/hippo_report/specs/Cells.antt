@@ -1,0 +1,34 @@
+-- Cells, rows and keys as replies print them.
+use Rattle.std.specs.Prelude.{ℕ, List, [], ◌∷◌, ◌++◌, flat_map, codes, decimal}
+use Rattle.hippo_values.specs.Texts.{Txt}
+use Rattle.hippo_values.specs.declared.names.Name.{Name}
+use Rattle.hippo_values.specs.Printing.{value_text}
+use Rattle.hippo_model.specs.declared.cells.Cell.{Cell}
+use Rattle.hippo_model.specs.declared.cells.Cell.TheVariants.{Shown, Denied}
+use Rattle.hippo_model.specs.Terms.{ShownRow, Key}
+
+-- the text of each member, with a separator between them
+abbrev pub joined : {A : Type 0} → (A → Txt) → Txt → List A → Txt
+joined text separator [] = []
+joined text separator (first ∷ rest) = text first ++ flat_map (λ member. separator ++ text member) rest
+
+-- a cell as it is printed; one that is denied names its rule
+abbrev pub cell_text : Cell → Txt
+cell_text (Shown value) = value_text value
+cell_text (Denied rule) = codes "DENIED(" ++ (decimal rule ++ codes ")")
+
+abbrev pub comma : Txt
+comma = codes ", "
+
+-- a row of a table by its key: the table's name, and the key's values between parentheses
+abbrev pub keyed_text : Name → Key → Txt
+keyed_text table key = table ++ (codes "(" ++ (joined value_text comma key ++ codes ")"))
+
+-- one row of an answer
+abbrev pub answer_line : ℕ → ShownRow → Txt
+answer_line session row = decimal session ++ (codes " row " ++ (joined cell_text comma row ++ codes "\n"))
+
+-- one cell that was denied
+abbrev pub denied_line : Name → Key → Name → ℕ → Txt
+denied_line table key column rule =
+    codes "0 denied " ++ (keyed_text table key ++ (codes " " ++ (column ++ (codes " " ++ (decimal rule ++ codes "\n")))))

@@ -1,0 +1,14 @@
+//! The text of every reply: rows, denied cells, flags in three formats, and refusals.
+#![tactic(auto)]
+
+mod format;
+mod pieces;
+mod printed;
+mod refusal;
+mod refusal_lines;
+mod rows;
+
+pub use format::Format;
+pub use refusal::Refusal;
+pub use refusal_lines::refusal_line;
+pub use rows::{answer_line, denied_line};

@@ -1,0 +1,100 @@
+//! What a reply prints of values, cells and shared rows.
+ghost use Rattle.std.specs.Prelude.{◌≡◌, ◌++◌, ◌∷◌, [], flat_map, decimal, codes, OnOk, OnErr};
+ghost use Rattle.hippo_values.specs.Printing.{value_text, KeepsFront};
+ghost use Rattle.hippo_report.specs.Cells.{joined, cell_text, keyed_text};
+ghost use Rattle.hippo_report.specs.Flags.{shared_text};
+
+use hippo_model::{Cell, Cells, SharedRow};
+use hippo_values::{Memory, Name, RoomyTxt, Value, print_value};
+use itoa::Buffer;
+
+/// A part of a reply.
+pub trait Printed {
+    ghost use Rattle.std.specs.Prelude.{ℕ, List};
+
+    /// How it is printed.
+    ghost text: { Self → List ℕ };
+
+    /// Adds it at the end.
+    fn print<const ROOM: usize>(&self, out: &mut RoomyTxt<ROOM>) -> Result<(), Memory>
+        ensures ok { OnOk result (out.new ≡ out.old ++ text self.now) }
+        ensures err { OnErr result (KeepsFront out.old out.new) };
+}
+
+impl Printed for Value {
+    ghost text = { value_text };
+
+    fn print<const ROOM: usize>(&self, out: &mut RoomyTxt<ROOM>) -> Result<(), Memory> {
+        print_value(self, out)
+    }
+}
+
+fn append_denied<const ROOM: usize>(rule: u64, out: &mut RoomyTxt<ROOM>) -> Result<(), Memory>
+    ensures ok { OnOk result (out.new ≡ out.old ++ (codes "DENIED(" ++ (decimal rule ++ codes ")"))) }
+    ensures err { OnErr result (KeepsFront out.old out.new) }
+{
+    out.append("DENIED(")?;
+    out.append(Buffer::new().format(rule))?;
+    out.append(")")
+}
+
+impl Printed for Cell {
+    ghost text = { cell_text };
+
+    fn print<const ROOM: usize>(&self, out: &mut RoomyTxt<ROOM>) -> Result<(), Memory> {
+        match self {
+            Cell::Shown(value) => print_value(value, out),
+            Cell::Denied(rule) => append_denied(*rule, out),
+        }
+    }
+}
+
+fn append_later<T: Printed, const ROOM: usize>(
+    separator: &str,
+    rest: &[T],
+    out: &mut RoomyTxt<ROOM>,
+) -> Result<(), Memory>
+    ensures ok { OnOk result (out.new ≡ out.old ++ flat_map (λ member. separator.now ++ T.text member) rest.now) }
+    ensures err { OnErr result (KeepsFront out.old out.new) }
+{
+    for member in rest {
+        out.append(separator)?;
+        member.print(out)?;
+    }
+    Ok(())
+}
+
+/// Adds the members of a list, with a separator between them.
+pub fn append_joined<T: Printed, const ROOM: usize>(
+    separator: &str,
+    members: &[T],
+    out: &mut RoomyTxt<ROOM>,
+) -> Result<(), Memory>
+    ensures ok { OnOk result (out.new ≡ out.old ++ joined T.text separator.now members.now) }
+    ensures err { OnErr result (KeepsFront out.old out.new) }
+{
+    if members.is_empty() {
+        return Ok(());
+    }
+    members[0].print(out)?;
+    append_later(separator, &members[1..], out)
+}
+
+/// Adds a table's name, and a key between parentheses.
+pub fn append_keyed<const ROOM: usize>(table: &Name, key: &Cells, out: &mut RoomyTxt<ROOM>) -> Result<(), Memory>
+    ensures ok { OnOk result (out.new ≡ out.old ++ keyed_text table.now key.now) }
+    ensures err { OnErr result (KeepsFront out.old out.new) }
+{
+    out.append(table.as_str())?;
+    out.append("(")?;
+    append_joined(", ", key.as_slice(), out)?;
+    out.append(")")
+}
+
+impl Printed for SharedRow {
+    ghost text = { shared_text };
+
+    fn print<const ROOM: usize>(&self, out: &mut RoomyTxt<ROOM>) -> Result<(), Memory> {
+        append_keyed(&self.table, &self.key, out)
+    }
+}
