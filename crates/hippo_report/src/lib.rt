@@ -3,12 +3,10 @@
 
 mod format;
 mod pieces;
-mod printed;
+mod json_flags;
 mod refusal;
 mod refusal_lines;
-mod rows;
 
 pub use format::Format;
 pub use refusal::Refusal;
 pub use refusal_lines::refusal_line;
-pub use rows::{answer_line, denied_line};

@@ -49,7 +49,8 @@ impl Printed for Cell {
     }
 }
 
-fn append_later<T: Printed, const ROOM: usize>(
+/// Adds the members of a list, each behind a separator.
+pub fn append_later<T: Printed, const ROOM: usize>(
     separator: &str,
     rest: &[T],
     out: &mut RoomyTxt<ROOM>,

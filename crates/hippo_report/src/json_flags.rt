@@ -1,0 +1,82 @@
+//! Flags as JSON (RFC 8259).
+ghost use Rattle.std.specs.Prelude.{◌≡◌, ◌∷◌, [], map, IfOk, string_bytes};
+ghost use Rattle.serde_json.specs.Data.{string, array, item, no_items};
+ghost use Rattle.serde_json.specs.View.{view, items_of};
+ghost use Rattle.serde_json.specs.Written.{compact_text};
+ghost use Rattle.hippo_values.specs.Dates.{day_text, moment_text};
+ghost use Rattle.hippo_report.specs.Flags.{value_data, shared_data, flag_data};
+
+use hippo_model::{Flag, SharedRow};
+use hippo_values::{DayNumber, Value, day_text, moment_text};
+use serde_json::json;
+use std::alloc::{AllocError, Global};
+
+fn day_data(alloc: Global, day: DayNumber) -> Result<serde_json::Value, AllocError>
+    ensures { IfOk result (λ made. view made ≡ string (day_text day)) }
+{
+    match str::from_utf8(&day_text(day)) {
+        Ok(text) => serde_json::Value::try_from_str(alloc, text),
+        Err(_) => unreachable!(),
+    }
+}
+
+fn value_data(alloc: Global, value: &Value) -> Result<serde_json::Value, AllocError>
+    ensures { IfOk result (λ made. view made ≡ value_data value.now) }
+{
+    match value {
+        Value::Null => Ok(serde_json::Value::Null),
+        Value::Int(number) => Ok(serde_json::Value::from(*number)),
+        Value::Text(text) => serde_json::Value::try_from_str(alloc, text.as_str()),
+        Value::Day(day) => day_data(alloc, *day),
+    }
+}
+
+fn key_data(alloc: Global, key: &[Value]) -> Result<Vec<serde_json::Value>, AllocError>
+    ensures { IfOk result (λ made. map view made.items ≡ map value_data key.now) }
+{
+    let mut items = Vec::new(alloc);
+    for value in key {
+        items.push(value_data(alloc, value)?)?;
+    }
+    Ok(items)
+}
+
+fn shared_data(alloc: Global, shared: &SharedRow) -> Result<serde_json::Value, AllocError>
+    ensures { IfOk result (λ made. view made ≡ shared_data shared.now) }
+{
+    let key = serde_json::Value::Array(key_data(alloc, shared.key.as_slice())?);
+    json!(in alloc; [shared.table.as_str(), key])
+}
+
+fn tuple_data(alloc: Global, tuple: &[SharedRow]) -> Result<Vec<serde_json::Value>, AllocError>
+    ensures { IfOk result (λ made. map view made.items ≡ map shared_data tuple.now) }
+{
+    let mut items = Vec::new(alloc);
+    for shared in tuple {
+        items.push(shared_data(alloc, shared)?)?;
+    }
+    Ok(items)
+}
+
+fn object_data(alloc: Global, flag: &Flag, moment: &str, shared: serde_json::Value) -> Result<serde_json::Value, AllocError>
+    requires moment { moment.now ≡ moment_text flag.now.moment }
+    requires shared { view shared ≡ array (items_of (map shared_data flag.now.shared)) }
+    ensures { IfOk result (λ made. view made ≡ flag_data flag.now) }
+{
+    json!(in alloc; {
+        "moment": moment,
+        "pair": [flag.pair.purpose.as_str(), flag.pair.recipient.as_str()],
+        "query": flag.seq,
+        "shared": shared,
+        "user": flag.user.as_str()
+    })
+}
+
+/// A flag as an object, without spaces.
+pub fn flag_json(alloc: Global, flag: &Flag, moment: &str) -> Result<String, AllocError>
+    requires { moment.now ≡ moment_text flag.now.moment }
+    ensures { IfOk result (λ text. string_bytes text ≡ compact_text (flag_data flag.now)) }
+{
+    let shared = serde_json::Value::Array(tuple_data(alloc, flag.shared.as_slice())?);
+    object_data(alloc, flag, moment, shared)?.to_string(alloc)
+}
