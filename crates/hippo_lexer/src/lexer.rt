@@ -12,10 +12,13 @@ use crate::parts::{token_first, without_blanks};
 use hippo_values::Sequence;
 use std::alloc::Global;
 
+// How many bytes a token takes with the blanks before it, about.
+const TOKEN_LENGTH: usize = 4;
+
 fn cut_tokens(alloc: Global, text: &str) -> Result<Tokens, LexFault>
     ensures { Gives result (outcome_of text.now) }
 {
-    let mut found = Sequence::new(alloc);
+    let mut found = Sequence::with_capacity(alloc, text.len() / TOKEN_LENGTH)?;
     let mut rest = without_blanks(text);
     while !rest.is_empty() {
         let start = text.len() - rest.len();

@@ -1,5 +1,5 @@
--- A name in lower case is a name still.
-use Rattle.std.proofs.Common.{◌≡◌, ℕ, List, [], ◌∷◌, ◌&&◌, length, nat_le, Option, Some, None, option_map, true, if◌then◌else◌, refl, ap, arith, bytes_eq}
+-- A name in lower case is a name still, and its bytes are ASCII.
+use Rattle.std.proofs.Common.{◌≡◌, ℕ, List, [], ◌∷◌, ◌&&◌, length, nat_le, Option, Some, None, option_map, true, if◌then◌else◌, refl, ap, arith, bytes_eq, IsTrue, ◌<◌}
 use Rattle.std.specs.List.{list_any, list_all}
 use Rattle.std.specs.Map.{lookup}
 use Rattle.std.specs.Option.{option_or}
@@ -9,6 +9,9 @@ use Rattle.std.proofs.lemmas.Bool.Decides.{nat_tests}
 use Rattle.hippo_values.specs.declared.keywords.Reserved.{Reserved}
 use Rattle.hippo_values.specs.declared.keywords.Reserved.TheVariants as reserved
 use Rattle.std.proofs.lemmas.Str.Ascii.{lowercase-lowercase}
+use Rattle.std.specs.Str.{IsAscii}
+use Rattle.std.proofs.lemmas.Bool.{and_parts}
+use Rattle.hippo_values.proofs.AsciiLemmas.{AreAscii, IsAscii-of_bytes, IsAscii-same}
 use Rattle.hippo_values.specs.Names.{keywords, unsupported_words, folded, reserved_of, is_word_byte, begins_with_letter, is_word, is_name}
 
 is_ascii_alphabetic-lowercase : (b : ℕ) → is_ascii_alphabetic (to_ascii_lowercase b) ≡ is_ascii_alphabetic b
@@ -51,3 +54,19 @@ is_name-folded word =
 -- A word of a name's form that is not reserved is a name.
 pub is_name-free : (word : List ℕ) → (is_word word && nat_le (length word) 63) ≡ true → reserved_of word ≡ None → is_name word ≡ true
 is_name-free word form free = rw (form, free) refl
+
+is_word_byte-ascii : (b : ℕ) → is_word_byte b ≡ true → b < 128
+is_word_byte-ascii b h = grind (arith, nat_tests)
+
+word_bytes-ascii : (bytes : List ℕ) → list_all is_word_byte bytes ≡ true → AreAscii bytes
+word_bytes-ascii [] h = tt
+word_bytes-ascii (b ∷ bs) h =
+    let parts = and_parts (is_word_byte b) (list_all is_word_byte bs) h in
+    (is_word_byte-ascii b parts.0, word_bytes-ascii bs parts.1)
+
+-- The bytes of a name are ASCII.
+pub name-ascii : (name bytes : List ℕ) → bytes ≡ name → IsTrue (is_name name) → IsAscii bytes
+name-ascii name bytes same named =
+    let whole = and_parts _ _ named in
+    let word = and_parts _ _ (and_parts _ _ whole.0).0 in
+    IsAscii-same bytes name same (IsAscii-of_bytes name (word_bytes-ascii name word.1))

@@ -4,7 +4,7 @@ use Rattle.std.specs.Fmt.{decimal}
 use Rattle.std.specs.Char.{encode_utf8}
 use Rattle.std.proofs.lemmas.Fmt.{decimal_step, decimal_digit}
 use Rattle.std.proofs.lemmas.Str.{encode_ascii}
-use Rattle.std.proofs.lemmas.List.{length-take, take-append-le}
+use Rattle.std.proofs.lemmas.List.{length-append, length-take, take-append-le}
 use Rattle.std.proofs.lemmas.Bool.{cases_Bool}
 use Rattle.std.proofs.lemmas.Bool.Decides.{nat_tests}
 use Rattle.hippo_values.specs.Printing.{KeepsFront}
@@ -65,3 +65,33 @@ decimal-alone old front new n digit h ed ef e =
 pub KeepsFront-step : (old out before first second : List ℕ) → KeepsFront old out → first ≡ out ++ before → second ≡ first ++ (39 ∷ 39 ∷ []) → KeepsFront old second
 KeepsFront-step old out before first second h ef es =
     rw (es, ef) (KeepsFront-append old (out ++ before) (39 ∷ 39 ∷ []) (KeepsFront-append old out before h))
+
+-- What is printed so far and what is left are as long as the whole.
+pub doubled-room : (initial text out rest : List ℕ) (room : ℕ) → out ++ doubled rest ≡ initial ++ doubled text → length initial + length (doubled text) ≤ room → length out + length (doubled rest) ≤ room
+doubled-room initial text out rest room whole fits =
+    omega (arith, ap length whole, length-append out (doubled rest), length-append initial (doubled text))
+
+-- the text before a quote takes less room than the rest
+pub doubled-longer : (rest before after : List ℕ) → (rest ≡ before ++ (39 ∷ after)) × HasNoQuote before → length before + 2 ≤ length (doubled rest)
+doubled-longer rest before after split =
+    omega (arith, ap length (doubled-split rest before after split.0 split.1), length-append before (39 ∷ 39 ∷ doubled after))
+
+decimal-longer : (n : ℕ) → n < 2 ^ 64 → 10 ≤ n → length (decimal n) ≡ length (decimal (n / 10)) + 1
+decimal-longer n small h =
+    ap length (decimal_step n h small) ∙ length-append (decimal (n / 10)) ((48 + n % 10) ∷ [])
+
+-- the digits before the last one take less room
+pub decimal-room : (n held room : ℕ) → n < 2 ^ 64 → 10 ≤ n → held + length (decimal n) ≤ room → held + length (decimal (n / 10)) ≤ room
+decimal-room n held room small h fits = omega (arith, decimal-longer n small h)
+
+-- and there is room for the last one after them
+pub decimal-room-last : (old front : List ℕ) (n digit room : ℕ) → n < 2 ^ 64 → 10 ≤ n → digit ≡ 48 + n % 10 → front ≡ old ++ decimal (n / 10) → length old + length (decimal n) ≤ room → length front + length (encode_utf8 digit) ≤ room
+decimal-room-last old front n digit room small h ed ef fits =
+    let ascii : digit < 128 = omega arith in
+    rw (encode_ascii digit ascii, ef) (omega (arith, length-append old (decimal (n / 10)), decimal-longer n small h))
+
+-- or alone
+pub decimal-room-alone : (old front : List ℕ) (n digit room : ℕ) → n < 10 → digit ≡ 48 + n % 10 → front ≡ old → length old + length (decimal n) ≤ room → length front + length (encode_utf8 digit) ≤ room
+decimal-room-alone old front n digit room h ed ef fits =
+    let ascii : digit < 128 = omega arith in
+    rw (encode_ascii digit ascii, ef) (omega (arith, ap length (decimal_digit n h)))

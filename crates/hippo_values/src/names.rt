@@ -1,5 +1,5 @@
 //! Names of tables, columns, purposes, recipients, items and users.
-ghost use Rattle.std.specs.Prelude.{◌≡◌, true, nat_eq, refl, Some, IsTrue, IfOk};
+ghost use Rattle.std.specs.Prelude.{◌≡◌, ◌≤◌, true, length, take, nat_eq, refl, Some, IsTrue, IfOk};
 ghost use Rattle.std.specs.Ordering.{nat_cmp};
 ghost use Rattle.std.specs.Cmp.{partial_equiv_from_equiv};
 ghost use Rattle.std.specs.Cmp.Lexicographic.{pointwise, slice_cmp, nat_list_eq_equiv, nat_list_cmp_total, texts_ties, texts_po};
@@ -62,45 +62,70 @@ pub fn folded(alloc: Global, word: &str) -> Result<Txt, Memory>
     Ok(Txt::from_string(word.to_ascii_lowercase(alloc)?))
 }
 
-/// The name of a table, column, purpose, recipient, item or user: 1 to 63 bytes in lower case.
+// The bytes of a short word in lower case, in front of zeros.
+fn folded_bytes(word: &str) -> [u8; NAME_LIMIT]
+    requires { length word.now ≤ NAME_LIMIT }
+    ensures front { take (length word.now) result ≡ folded word.now }
+    ensures len { length result ≡ NAME_LIMIT }
+{
+    let mut bytes = [0; NAME_LIMIT];
+    let front = &mut bytes[..word.len()];
+    front.copy_from_slice(word.as_bytes());
+    front.make_ascii_lowercase();
+    bytes
+}
+
+/// The name of a table, column, purpose, recipient, item or user: 1 to 63 bytes in lower case, which lie in the value
+/// itself.
 #[derive(Drop)]
 pub struct Name {
-    text: Txt,
+    bytes: [u8; NAME_LIMIT],
+    len: u8,
 }
 
 impl Model for Name {
-    ghost use Rattle.std.specs.Prelude.{◌≡◌, List, ℕ, IsTrue};
+    ghost use Rattle.std.specs.Prelude.{◌≡◌, ◌≤◌, List, ℕ, IsTrue, length, take};
     ghost use Rattle.hippo_values.specs.Names.{folded, is_name};
 
     ghost Value = { List ℕ };
 
-    ghost view = { λ name. name.text };
+    ghost view = { λ name. take name.len name.bytes };
 
-    ghost invariant = { λ name. IsTrue (is_name name.text) × (folded name.text ≡ name.text) };
+    ghost invariant = { λ name. (name.len ≤ length name.bytes) × IsTrue (is_name (take name.len name.bytes))
+        × (folded (take name.len name.bytes) ≡ take name.len name.bytes) };
 }
 
 impl Name {
     /// The name that a word writes that is not reserved; none where it is too long.
-    pub fn unreserved(alloc: Global, word: &str) -> Result<Option<Name>, Memory>
+    pub(crate) fn unreserved(word: &str) -> Option<Name>
         requires form { is_word word.now ≡ true }
         requires free { reserved_of word.now ≡ None }
-        ensures { IfOk result (λ made. made ≡ name_of word.now) }
+        ensures { result ≡ name_of word.now }
     {
         if word.len() > NAME_LIMIT {
-            return Ok(None);
+            return None;
         }
-        let text = folded(alloc, word)?;
-        Ok(Some(Name { text }))
+        let bytes = folded_bytes(word);
+        let len = word.len() as u8;
+        Some(Name { bytes, len })
     }
 
     /// The name that a word writes, in lower case; none where the word has no name's form or is reserved.
-    pub fn from_word(alloc: Global, word: &str) -> Result<Option<Name>, Memory>
+    pub fn from_word(_alloc: Global, word: &str) -> Result<Option<Name>, Memory>
         ensures { IfOk result (λ made. made ≡ name_of word.now) }
     {
         if !is_word(word) || reserved_of(word).is_some() {
             return Ok(None);
         }
-        Name::unreserved(alloc, word)
+        Ok(Name::unreserved(word))
+    }
+
+    fn as_bytes(&self) -> &[u8]
+        ensures bytes { result.now ≡ self.now }
+        ensures form { IsTrue (is_name self.now) }
+        ensures case { folded self.now ≡ self.now }
+    {
+        &self.bytes[..usize::from(self.len)]
     }
 
     /// The bytes of the name.
@@ -109,20 +134,25 @@ impl Name {
         ensures form { IsTrue (is_name self.now) }
         ensures case { folded self.now ≡ self.now }
     {
-        self.text.as_str()
+        match str::from_utf8(self.as_bytes()) {
+            Ok(text) => text,
+            Err(_) => unreachable!(),
+        }
     }
 }
 
 impl Duplicate for Name {
-    fn copy(&self, alloc: Global) -> Result<Name, Memory> {
-        let text = self.text.copy(alloc)?;
-        Ok(Name { text })
+    fn copy(&self, _alloc: Global) -> Result<Name, Memory> {
+        Ok(Name {
+            bytes: self.bytes,
+            len: self.len,
+        })
     }
 }
 
 impl Debug for Name {
     fn fmt<W: Write>(&self, f: &mut Formatter<W>) -> fmt::Result {
-        self.text.fmt(f)
+        self.as_str().fmt(f)
     }
 }
 
@@ -132,7 +162,7 @@ impl PartialEq for Name {
     ghost laws = { partial_equiv_from_equiv nat_list_eq_equiv };
 
     fn eq(&self, other: &Name) -> bool {
-        self.text == other.text
+        self.as_bytes() == other.as_bytes()
     }
 }
 
@@ -160,7 +190,7 @@ impl Ord for Name {
     ghost matches_eq = { texts_ties };
 
     fn cmp(&self, other: &Name) -> Ordering {
-        self.text.cmp(&other.text)
+        self.as_bytes().cmp(&other.as_bytes())
     }
 }
 

@@ -1,5 +1,5 @@
 //! How a value is printed.
-ghost use Rattle.std.specs.Prelude.{◌≡◌, ◌<◌, [], ◌∷◌, ◌++◌, decimal, OnOk, OnErr};
+ghost use Rattle.std.specs.Prelude.{◌≡◌, ◌+◌, ◌<◌, ◌≤◌, [], ◌∷◌, ◌++◌, length, decimal, IsOk, OnOk, OnErr};
 ghost use Rattle.std.specs.Fmt.{signed_decimal};
 ghost use Rattle.hippo_values.specs.Dates.{day_text};
 ghost use Rattle.hippo_values.specs.Printing.{value_text, KeepsFront};
@@ -8,12 +8,13 @@ ghost use Rattle.hippo_values.specs.Quoting.{doubled, quoted};
 use crate::dates;
 use crate::memory::Memory;
 use crate::moments::DayNumber;
-use crate::texts::Txt;
+use crate::texts::RoomyTxt;
 use crate::values::Value;
 
-fn append_decimal(number: u64, out: &mut Txt) -> Result<(), Memory>
+fn append_decimal<const ROOM: usize>(number: u64, out: &mut RoomyTxt<ROOM>) -> Result<(), Memory>
     ensures ok { OnOk result (out.new ≡ out.old ++ decimal number) }
     ensures err { OnErr result (KeepsFront out.old out.new) }
+    ensures room { length out.old + length (decimal number) ≤ ROOM → IsOk result }
 {
     if number >= 10 {
         append_decimal(number / 10, out)?;
@@ -21,9 +22,10 @@ fn append_decimal(number: u64, out: &mut Txt) -> Result<(), Memory>
     out.push(char::from(b'0' + (number % 10) as u8))
 }
 
-fn append_integer(number: i64, out: &mut Txt) -> Result<(), Memory>
+fn append_integer<const ROOM: usize>(number: i64, out: &mut RoomyTxt<ROOM>) -> Result<(), Memory>
     ensures ok { OnOk result (out.new ≡ out.old ++ signed_decimal number) }
     ensures err { OnErr result (KeepsFront out.old out.new) }
+    ensures room { length out.old + length (signed_decimal number) ≤ ROOM → IsOk result }
 {
     if number < 0 {
         out.push('-')?;
@@ -31,9 +33,10 @@ fn append_integer(number: i64, out: &mut Txt) -> Result<(), Memory>
     append_decimal(number.unsigned_abs(), out)
 }
 
-fn append_doubled(text: &str, out: &mut Txt) -> Result<(), Memory>
+fn append_doubled<const ROOM: usize>(text: &str, out: &mut RoomyTxt<ROOM>) -> Result<(), Memory>
     ensures ok { OnOk result (out.new ≡ out.old ++ doubled text.now) }
     ensures err { OnErr result (KeepsFront out.old out.new) }
+    ensures room { length out.old + length (doubled text.now) ≤ ROOM → IsOk result }
 {
     let mut rest = text;
     while let Some((before, after)) = rest.split_once('\'') {
@@ -44,18 +47,20 @@ fn append_doubled(text: &str, out: &mut Txt) -> Result<(), Memory>
     out.append(rest)
 }
 
-fn append_quoted(text: &str, out: &mut Txt) -> Result<(), Memory>
+fn append_quoted<const ROOM: usize>(text: &str, out: &mut RoomyTxt<ROOM>) -> Result<(), Memory>
     ensures ok { OnOk result (out.new ≡ out.old ++ quoted text.now) }
     ensures err { OnErr result (KeepsFront out.old out.new) }
+    ensures room { length out.old + length (quoted text.now) ≤ ROOM → IsOk result }
 {
     out.push('\'')?;
     append_doubled(text, out)?;
     out.push('\'')
 }
 
-fn append_day(day: DayNumber, out: &mut Txt) -> Result<(), Memory>
+fn append_day<const ROOM: usize>(day: DayNumber, out: &mut RoomyTxt<ROOM>) -> Result<(), Memory>
     ensures ok { OnOk result (out.new ≡ out.old ++ day_text day) }
     ensures err { OnErr result (KeepsFront out.old out.new) }
+    ensures room { length out.old + length (day_text day) ≤ ROOM → IsOk result }
 {
     match str::from_utf8(&dates::day_text(day)) {
         Ok(text) => out.append(text),
@@ -63,9 +68,10 @@ fn append_day(day: DayNumber, out: &mut Txt) -> Result<(), Memory>
     }
 }
 
-fn append_value(value: &Value, out: &mut Txt) -> Result<(), Memory>
+fn append_value<const ROOM: usize>(value: &Value, out: &mut RoomyTxt<ROOM>) -> Result<(), Memory>
     ensures ok { OnOk result (out.new ≡ out.old ++ value_text value.now) }
     ensures err { OnErr result (KeepsFront out.old out.new) }
+    ensures room { length out.old + length (value_text value.now) ≤ ROOM → IsOk result }
 {
     match value {
         Value::Null => out.append("NULL"),
@@ -76,10 +82,11 @@ fn append_value(value: &Value, out: &mut Txt) -> Result<(), Memory>
 }
 
 /// Adds the printed form of a value at the end: `NULL`, a decimal number, a text between quotes with each quote in it
-/// doubled, or a day as `YYYY-MM-DD`.
-pub fn print_value(value: &Value, out: &mut Txt) -> Result<(), Memory>
+/// doubled, or a day as `YYYY-MM-DD`. Within the text's room it takes no memory.
+pub fn print_value<const ROOM: usize>(value: &Value, out: &mut RoomyTxt<ROOM>) -> Result<(), Memory>
     ensures ok { OnOk result (out.new ≡ out.old ++ value_text value.now) }
     ensures err { OnErr result (out.new ≡ out.old) }
+    ensures room { length out.old + length (value_text value.now) ≤ ROOM → IsOk result }
 {
     let length = out.as_str().len();
     let printed = append_value(value, out);

@@ -90,6 +90,15 @@ impl<T: Copy> Sequence<T> {
 }
 
 impl<T: Drop> Sequence<T> {
+    /// The empty list, with room for so many members at once.
+    pub fn with_capacity(alloc: Global, capacity: usize) -> Result<Sequence<T>, Memory>
+        ensures { IfOk result (λ made. made ≡ []) }
+    {
+        Ok(Sequence {
+            members: Vec::with_capacity(alloc, capacity)?,
+        })
+    }
+
     /// Adds a member at the end.
     pub fn push(&mut self, member: T) -> Result<(), Memory>
         ensures ok { OnOk result (self.new ≡ self.old ++ member ∷ []) }

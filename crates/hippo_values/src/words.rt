@@ -28,9 +28,6 @@ pub fn read_word(alloc: Global, word: &str) -> Result<Option<Word>, Memory>
     match reserved_of(word) {
         Some(Reserved::Keyword(keyword)) => Ok(Some(Word::Keyword(keyword))),
         Some(Reserved::Unsupported) => Ok(Some(Word::Unsupported(folded(alloc, word)?))),
-        None => match Name::unreserved(alloc, word)? {
-            Some(name) => Ok(Some(Word::Name(name))),
-            None => Ok(None),
-        },
+        None => Ok(Name::unreserved(word).map(Word::Name)),
     }
 }

@@ -10,14 +10,14 @@ loop-rest-init c = record {
   utf8 = c.without_blanks-rest.utf8;
   within = c.without_blanks-rest.ensures.within;
   filled = rw c.without_blanks-rest.ensures.rest (ends-front is_blank c.args.text.now);
-  told = rw (c.without_blanks-rest.ensures.rest, c.new-found.ensures) (cuts_start c.args.text.now);
+  told = rw (c.without_blanks-rest.ensures.rest, c.in_ok-found.ensures) (cuts_start c.args.text.now);
 }
 
 pub returns-in_err-kind : goal.returns-in_err-kind
 returns-in_err-kind c =
     let some : 0 < length c.loop-rest.rest.now = search rules in
     let fault = cuts_fault _ c.loop-rest.rest.now c.args.text.now c.loop-rest.found c.in_err-kind.field-0.0 some c.loop-rest.invariant.filled c.loop-rest.invariant.told c.in_err-kind.ensures in
-    let err = err_from_is_err_and c.from_residual.result c.from_residual.ensures.1 in
+    let err = err_from_is_err_and c.from_residual-in_err-kind.result c.from_residual-in_err-kind.ensures.1 in
     rw (err.1, err.2) fault
 
 pub overflow_add-start : goal.overflow_add-start

@@ -1,4 +1,4 @@
 use Rattle.hippo_values.proofs.printing.+append_decimal.Given as goal
 
 abbrev pub decreases-append_decimal : goal.decreases-append_decimal
-decreases-append_decimal l = l.number
+decreases-append_decimal g l = l.number

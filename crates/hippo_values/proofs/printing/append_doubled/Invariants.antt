@@ -7,11 +7,11 @@ use Rattle.hippo_values.specs.Quoting.{doubled}
 use Rattle.hippo_values.proofs.printing.append_doubled.Given as goal
 
 abbrev pub invariant-loop-before : goal.invariant-loop-before
-invariant-loop-before l = record {
+invariant-loop-before g l = record {
   text : shadow (Utf8 l.rest);
   whole : l.out ++ doubled l.rest ≡ l.initial.out ++ doubled l.text;
   front : KeepsFront l.initial.out l.out;
 }
 
 abbrev pub decreases-loop-before : goal.decreases-loop-before
-decreases-loop-before l = length l.rest
+decreases-loop-before g l = length l.rest

@@ -1,5 +1,5 @@
 -- A name in lower case is a name still.
-use Rattle.std.proofs.Common.{◌≡◌, ◌≤◌, ◌∙◌, ◌&&◌, true, length, nat_le, rules}
+use Rattle.std.proofs.Common.{◌≡◌, ◌≤◌, ◌∙◌, ◌&&◌, true, length, nat_le, rules, arith}
 use Rattle.std.proofs.lemmas.Bool.{and_from, le-leb}
 use Rattle.hippo_values.specs.Names.{folded, is_word, is_name}
 use Rattle.hippo_values.proofs.NamesLemmas.{folded-folded, is_name-folded, is_name-free}
@@ -8,8 +8,8 @@ use Rattle.hippo_values.proofs.names.Name.unreserved.Goals as goal
 pub invariant_of-result : goal.invariant_of-result
 invariant_of-result c =
     let word = c.args.word.now in
-    let same : c.in_ok-text.text ≡ folded word = c.in_ok-text.ensures in
     let short : length word ≤ 63 = search rules in
     let form : (is_word word && nat_le (length word) 63) ≡ true = and_from _ _ c.requires.form (le-leb (length word) 63 short) in
     let named : is_name word ≡ true = is_name-free word form c.requires.free in
-    rw same (is_name-folded word ∙ named, folded-folded word)
+    let front = c.folded_bytes-bytes.ensures.front in
+    (omega (arith, c.folded_bytes-bytes.ensures.len), rw front (is_name-folded word ∙ named), rw front (folded-folded word))

@@ -1,0 +1,7 @@
+-- A name's bytes are text.
+use Rattle.std.proofs.lemmas.Str.{IsUtf8-from_ascii}
+use Rattle.hippo_values.proofs.NamesLemmas.{name-ascii}
+use Rattle.hippo_values.proofs.names.Name.as_str.Goals as goal
+
+pub unreachable-requires : goal.unreachable-requires
+unreachable-requires c = c.in-Err.ensures.cases.0 (IsUtf8-from_ascii c.as_bytes.result.now (name-ascii c.args.self.now c.as_bytes.result.now c.as_bytes.ensures.bytes c.as_bytes.ensures.form))
