@@ -1,7 +1,9 @@
 -- Room for pieces that are added one after the other.
-use Rattle.std.proofs.Common.{◌≡◌, refl, ◌∙◌, ◌+◌, ◌≤◌, ◌<◌, ◌++◌, ℕ, List, length, drop, map, ap, arith}
-use Rattle.std.proofs.lemmas.List.{length-append, drop_more}
+use Rattle.std.proofs.Common.{◌≡◌, ◌∙◌, ◌+◌, ◌≤◌, ◌<◌, ◌++◌, ℕ, List, refl, append_assoc, length, take, drop, map, ap, arith}
+use Rattle.std.proofs.lemmas.List.{length-append, drop_more, take-append-drop}
 use Rattle.std.proofs.Math.ListN.{get_or}
+use Rattle.std.proofs.Math.Seq.{take-append_seam}
+use Rattle.hippo_values.specs.Printing.{KeepsFront}
 use Rattle.std.specs.List.{concat}
 
 -- where the whole fits into the room, so does a piece of it
@@ -22,3 +24,13 @@ next_piece_fits text items i d out old room within same fits =
     let cut = ap (λ left. out ++ concat (map text left)) (drop_more items i d within) in
     let next : out ++ (text (get_or items i d) ++ concat (map text (drop (i + 1) items))) ≡ old ++ concat (map text items) = rw cut at same in
     piece_fits out (text (get_or items i d)) (concat (map text (drop (i + 1) items))) old (concat (map text items)) room next fits
+
+-- what stands first in a text that begins with more
+begins_with : (old piece rest new : List ℕ) → new ≡ (old ++ piece) ++ rest → take (length old) new ≡ old
+begins_with old piece rest new e = rw (e, append_assoc old piece rest) (take-append_seam old (piece ++ rest))
+
+-- where a text was added to, what keeps the new one in front keeps the old one
+pub keeps_front_behind : (old piece mid new : List ℕ) → mid ≡ old ++ piece → KeepsFront mid new → KeepsFront old new
+keeps_front_behind old piece mid new e h =
+    let front = ap (λ text. text ++ drop (length mid) new) (h ∙ e) in
+    begins_with old piece (drop (length mid) new) new (rw (← front) (rw (take-append-drop (length mid) new) refl))

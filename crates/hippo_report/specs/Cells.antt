@@ -1,5 +1,6 @@
 -- Cells, rows and keys as replies print them.
 use Rattle.std.specs.Prelude.{ℕ, List, [], ◌∷◌, ◌++◌, flat_map, codes, decimal}
+use Rattle.std.specs.List.{concat}
 use Rattle.hippo_values.specs.Texts.{Txt}
 use Rattle.hippo_values.specs.declared.names.Name.{Name}
 use Rattle.hippo_values.specs.Printing.{value_text}
@@ -31,4 +32,5 @@ answer_line session row = decimal session ++ (codes " row " ++ (joined cell_text
 -- one cell that was denied
 abbrev pub denied_line : Name → Key → Name → ℕ → Txt
 denied_line table key column rule =
-    codes "0 denied " ++ (keyed_text table key ++ (codes " " ++ (column ++ (codes " " ++ (decimal rule ++ codes "\n")))))
+    codes "0 denied " ++ (keyed_text table key
+    ++ concat (codes " " ∷ column ∷ codes " " ∷ decimal rule ∷ codes "\n" ∷ []))

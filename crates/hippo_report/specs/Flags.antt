@@ -1,5 +1,6 @@
 -- Flags in each of the three formats: text, JSON (RFC 8259) and CSV (RFC 4180).
 use Rattle.std.specs.Prelude.{ℕ, List, [], ◌∷◌, ◌++◌, map, flat_map, codes, decimal}
+use Rattle.std.specs.List.{concat}
 use Rattle.csv.specs.Writing.{default_writer, row_text}
 use Rattle.serde_json.specs.Data.{Data, null, number, unsigned, string, array, object, no_items, item, no_members, member}
 use Rattle.serde_json.specs.Find.{of_integer}
@@ -18,11 +19,11 @@ use Rattle.hippo_report.specs.Cells.{joined, keyed_text}
 abbrev pub shared_text : SharedRow → Txt
 shared_text shared = keyed_text shared.table shared.key
 
--- the number, moment, user, purpose and recipient of a flagged question, each with a space behind it
+-- the number, moment, user, purpose and recipient of a flagged question, with spaces between them
 abbrev pub question_text : Flag → Txt
 question_text flag =
-    decimal flag.seq ++ (codes " " ++ (moment_text flag.moment ++ (codes " " ++ (flag.user ++ (codes " "
-    ++ (flag.pair.purpose ++ (codes " " ++ flag.pair.recipient)))))))
+    concat (decimal flag.seq ∷ codes " " ∷ moment_text flag.moment ∷ codes " " ∷ flag.user ∷ codes " "
+    ∷ flag.pair.purpose ∷ codes " " ∷ flag.pair.recipient ∷ [])
 
 -- the rows of a shared tuple, each behind a space
 abbrev pub tuple_text : List SharedRow → Txt

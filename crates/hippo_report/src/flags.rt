@@ -9,29 +9,43 @@ ghost use Rattle.hippo_report.specs.Flags.{question_text, tuple_text, flag_text,
 use crate::csv_flags::flag_bytes;
 use crate::format::Format;
 use crate::json_flags::flag_json;
+use crate::pieces::append_pieces;
 use crate::printed::append_later;
 use hippo_model::Flag;
 use hippo_values::{Memory, RoomyTxt, moment_text};
 use itoa::Buffer;
 use std::alloc::Global;
 
-fn append_question<const ROOM: usize>(flag: &Flag, moment: &str, out: &mut RoomyTxt<ROOM>) -> Result<(), Memory>
+fn append_question<const ROOM: usize>(
+    flag: &Flag,
+    moment: &str,
+    out: &mut RoomyTxt<ROOM>,
+) -> Result<(), Memory>
     requires { moment.now ≡ moment_text flag.now.moment }
     ensures ok { OnOk result (out.new ≡ out.old ++ question_text flag.now) }
     ensures err { OnErr result (KeepsFront out.old out.new) }
 {
-    out.append(Buffer::new().format(flag.seq))?;
-    out.append(" ")?;
-    out.append(moment)?;
-    out.append(" ")?;
-    out.append(flag.user.as_str())?;
-    out.append(" ")?;
-    out.append(flag.pair.purpose.as_str())?;
-    out.append(" ")?;
-    out.append(flag.pair.recipient.as_str())
+    append_pieces(
+        &[
+            Buffer::new().format(flag.seq),
+            " ",
+            moment,
+            " ",
+            flag.user.as_str(),
+            " ",
+            flag.pair.purpose.as_str(),
+            " ",
+            flag.pair.recipient.as_str(),
+        ],
+        out,
+    )
 }
 
-fn append_text<const ROOM: usize>(flag: &Flag, moment: &str, out: &mut RoomyTxt<ROOM>) -> Result<(), Memory>
+fn append_text<const ROOM: usize>(
+    flag: &Flag,
+    moment: &str,
+    out: &mut RoomyTxt<ROOM>,
+) -> Result<(), Memory>
     requires { moment.now ≡ moment_text flag.now.moment }
     ensures ok { OnOk result (out.new ≡ out.old ++ flag_text flag.now) }
     ensures err { OnErr result (KeepsFront out.old out.new) }
@@ -41,7 +55,12 @@ fn append_text<const ROOM: usize>(flag: &Flag, moment: &str, out: &mut RoomyTxt<
     out.append("\n")
 }
 
-fn append_json<const ROOM: usize>(alloc: Global, flag: &Flag, moment: &str, out: &mut RoomyTxt<ROOM>) -> Result<(), Memory>
+fn append_json<const ROOM: usize>(
+    alloc: Global,
+    flag: &Flag,
+    moment: &str,
+    out: &mut RoomyTxt<ROOM>,
+) -> Result<(), Memory>
     requires { moment.now ≡ moment_text flag.now.moment }
     ensures ok { OnOk result (out.new ≡ out.old ++ (compact_text (flag_data flag.now) ++ codes "\n")) }
     ensures err { OnErr result (KeepsFront out.old out.new) }
@@ -52,7 +71,12 @@ fn append_json<const ROOM: usize>(alloc: Global, flag: &Flag, moment: &str, out:
 }
 
 // A record that is no text cannot come; it is answered with want of memory.
-fn append_csv<const ROOM: usize>(alloc: Global, flag: &Flag, moment: &str, out: &mut RoomyTxt<ROOM>) -> Result<(), Memory>
+fn append_csv<const ROOM: usize>(
+    alloc: Global,
+    flag: &Flag,
+    moment: &str,
+    out: &mut RoomyTxt<ROOM>,
+) -> Result<(), Memory>
     requires { moment.now ≡ moment_text flag.now.moment }
     ensures ok { OnOk result (out.new ≡ out.old ++ row_text default_writer (flag_fields flag.now)) }
     ensures err { OnErr result (KeepsFront out.old out.new) }
@@ -64,7 +88,14 @@ fn append_csv<const ROOM: usize>(alloc: Global, flag: &Flag, moment: &str, out: 
     }
 }
 
-fn append_flag<const ROOM: usize>(alloc: Global, format: Format, flag: &Flag, moment: &str, out: &mut RoomyTxt<ROOM>) -> Result<(), Memory>
+#[tactic(auto, using(crate::proofs::PieceLemmas::keeps_front_behind))]
+fn append_flag<const ROOM: usize>(
+    alloc: Global,
+    format: Format,
+    flag: &Flag,
+    moment: &str,
+    out: &mut RoomyTxt<ROOM>,
+) -> Result<(), Memory>
     requires { moment.now ≡ moment_text flag.now.moment }
     ensures ok { OnOk result (out.new ≡ out.old ++ flag_line format flag.now) }
     ensures err { OnErr result (KeepsFront out.old out.new) }
@@ -77,7 +108,12 @@ fn append_flag<const ROOM: usize>(alloc: Global, format: Format, flag: &Flag, mo
     }
 }
 
-fn append_whole<const ROOM: usize>(alloc: Global, format: Format, flag: &Flag, out: &mut RoomyTxt<ROOM>) -> Result<(), Memory>
+fn append_whole<const ROOM: usize>(
+    alloc: Global,
+    format: Format,
+    flag: &Flag,
+    out: &mut RoomyTxt<ROOM>,
+) -> Result<(), Memory>
     ensures ok { OnOk result (out.new ≡ out.old ++ flag_line format flag.now) }
     ensures err { OnErr result (KeepsFront out.old out.new) }
 {
@@ -89,7 +125,12 @@ fn append_whole<const ROOM: usize>(alloc: Global, format: Format, flag: &Flag, o
 
 /// Adds one flagged question: `0 flag` and its number, moment, user, purpose, recipient and shared tuple, as words, as a
 /// JSON object or as a CSV record. The text is unchanged where memory is short.
-pub fn flag_line<const ROOM: usize>(alloc: Global, format: Format, flag: &Flag, out: &mut RoomyTxt<ROOM>) -> Result<(), Memory>
+pub fn flag_line<const ROOM: usize>(
+    alloc: Global,
+    format: Format,
+    flag: &Flag,
+    out: &mut RoomyTxt<ROOM>,
+) -> Result<(), Memory>
     ensures ok { OnOk result (out.new ≡ out.old ++ flag_line format flag.now) }
     ensures err { OnErr result (out.new ≡ out.old) }
 {

@@ -58,7 +58,12 @@ fn tuple_data(alloc: Global, tuple: &[SharedRow]) -> Result<Vec<serde_json::Valu
     Ok(items)
 }
 
-fn object_data(alloc: Global, flag: &Flag, moment: &str, shared: serde_json::Value) -> Result<serde_json::Value, AllocError>
+fn object_data(
+    alloc: Global,
+    flag: &Flag,
+    moment: &str,
+    shared: serde_json::Value,
+) -> Result<serde_json::Value, AllocError>
     requires moment { moment.now ≡ moment_text flag.now.moment }
     requires shared { view shared ≡ array (items_of (map shared_data flag.now.shared)) }
     ensures { IfOk result (λ made. view made ≡ flag_data flag.now) }
@@ -73,6 +78,7 @@ fn object_data(alloc: Global, flag: &Flag, moment: &str, shared: serde_json::Val
 }
 
 /// A flag as an object, without spaces.
+#[tactic(auto, using(crate::proofs::JsonLemmas::flag_has_no_float))]
 pub fn flag_json(alloc: Global, flag: &Flag, moment: &str) -> Result<String, AllocError>
     requires { moment.now ≡ moment_text flag.now.moment }
     ensures { IfOk result (λ text. string_bytes text ≡ compact_text (flag_data flag.now)) }

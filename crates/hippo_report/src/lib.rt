@@ -1,12 +1,18 @@
 //! The text of every reply: rows, denied cells, flags in three formats, and refusals.
 #![tactic(auto)]
 
+mod csv_flags;
+mod flags;
 mod format;
-mod pieces;
 mod json_flags;
+mod pieces;
+mod printed;
 mod refusal;
 mod refusal_lines;
+mod rows;
 
+pub use flags::flag_line;
 pub use format::Format;
 pub use refusal::Refusal;
 pub use refusal_lines::refusal_line;
+pub use rows::{answer_line, denied_line};

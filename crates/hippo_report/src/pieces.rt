@@ -17,7 +17,10 @@ fn append_each<const ROOM: usize>(pieces: &[&str], out: &mut RoomyTxt<ROOM>) -> 
 }
 
 /// Adds the pieces one after the other. The text is unchanged where memory is short, which it never is within the room.
-pub fn append_pieces<const ROOM: usize>(pieces: &[&str], out: &mut RoomyTxt<ROOM>) -> Result<(), Memory>
+pub fn append_pieces<const ROOM: usize>(
+    pieces: &[&str],
+    out: &mut RoomyTxt<ROOM>,
+) -> Result<(), Memory>
     ensures ok { OnOk result (out.new ≡ out.old ++ concat (map (λ piece. piece.now) pieces.now)) }
     ensures err { OnErr result (out.new ≡ out.old) }
     ensures room { length out.old + length (concat (map (λ piece. piece.now) pieces.now)) ≤ ROOM → IsOk result }

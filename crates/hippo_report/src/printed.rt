@@ -9,22 +9,22 @@ use hippo_values::{Memory, Name, RoomyTxt, Value, print_value};
 use itoa::Buffer;
 
 /// A part of a reply.
-pub trait Printed {
+pub trait Printed<const ROOM: usize> {
     ghost use Rattle.std.specs.Prelude.{ℕ, List};
 
     /// How it is printed.
     ghost text: { Self → List ℕ };
 
     /// Adds it at the end.
-    fn print<const ROOM: usize>(&self, out: &mut RoomyTxt<ROOM>) -> Result<(), Memory>
+    fn print(&self, out: &mut RoomyTxt<ROOM>) -> Result<(), Memory>
         ensures ok { OnOk result (out.new ≡ out.old ++ text self.now) }
         ensures err { OnErr result (KeepsFront out.old out.new) };
 }
 
-impl Printed for Value {
+impl<const ROOM: usize> Printed<ROOM> for Value {
     ghost text = { value_text };
 
-    fn print<const ROOM: usize>(&self, out: &mut RoomyTxt<ROOM>) -> Result<(), Memory> {
+    fn print(&self, out: &mut RoomyTxt<ROOM>) -> Result<(), Memory> {
         print_value(self, out)
     }
 }
@@ -38,10 +38,10 @@ fn append_denied<const ROOM: usize>(rule: u64, out: &mut RoomyTxt<ROOM>) -> Resu
     out.append(")")
 }
 
-impl Printed for Cell {
+impl<const ROOM: usize> Printed<ROOM> for Cell {
     ghost text = { cell_text };
 
-    fn print<const ROOM: usize>(&self, out: &mut RoomyTxt<ROOM>) -> Result<(), Memory> {
+    fn print(&self, out: &mut RoomyTxt<ROOM>) -> Result<(), Memory> {
         match self {
             Cell::Shown(value) => print_value(value, out),
             Cell::Denied(rule) => append_denied(*rule, out),
@@ -50,7 +50,7 @@ impl Printed for Cell {
 }
 
 /// Adds the members of a list, each behind a separator.
-pub fn append_later<T: Printed, const ROOM: usize>(
+pub fn append_later<const ROOM: usize, T: Printed<ROOM>>(
     separator: &str,
     rest: &[T],
     out: &mut RoomyTxt<ROOM>,
@@ -66,7 +66,7 @@ pub fn append_later<T: Printed, const ROOM: usize>(
 }
 
 /// Adds the members of a list, with a separator between them.
-pub fn append_joined<T: Printed, const ROOM: usize>(
+pub fn append_joined<const ROOM: usize, T: Printed<ROOM>>(
     separator: &str,
     members: &[T],
     out: &mut RoomyTxt<ROOM>,
@@ -82,7 +82,11 @@ pub fn append_joined<T: Printed, const ROOM: usize>(
 }
 
 /// Adds a table's name, and a key between parentheses.
-pub fn append_keyed<const ROOM: usize>(table: &Name, key: &Cells, out: &mut RoomyTxt<ROOM>) -> Result<(), Memory>
+pub fn append_keyed<const ROOM: usize>(
+    table: &Name,
+    key: &Cells,
+    out: &mut RoomyTxt<ROOM>,
+) -> Result<(), Memory>
     ensures ok { OnOk result (out.new ≡ out.old ++ keyed_text table.now key.now) }
     ensures err { OnErr result (KeepsFront out.old out.new) }
 {
@@ -92,10 +96,10 @@ pub fn append_keyed<const ROOM: usize>(table: &Name, key: &Cells, out: &mut Room
     out.append(")")
 }
 
-impl Printed for SharedRow {
+impl<const ROOM: usize> Printed<ROOM> for SharedRow {
     ghost text = { shared_text };
 
-    fn print<const ROOM: usize>(&self, out: &mut RoomyTxt<ROOM>) -> Result<(), Memory> {
+    fn print(&self, out: &mut RoomyTxt<ROOM>) -> Result<(), Memory> {
         append_keyed(&self.table, &self.key, out)
     }
 }

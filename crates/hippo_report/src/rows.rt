@@ -3,12 +3,17 @@ ghost use Rattle.std.specs.Prelude.{◌≡◌, ◌++◌, OnOk, OnErr};
 ghost use Rattle.hippo_values.specs.Printing.{KeepsFront};
 ghost use Rattle.hippo_report.specs.Cells.{answer_line, denied_line};
 
+use crate::pieces::append_pieces;
 use crate::printed::{append_joined, append_keyed};
 use hippo_model::{CellRow, Cells};
 use hippo_values::{Memory, Name, RoomyTxt};
 use itoa::Buffer;
 
-fn append_answer<const ROOM: usize>(session: u8, row: &CellRow, out: &mut RoomyTxt<ROOM>) -> Result<(), Memory>
+fn append_answer<const ROOM: usize>(
+    session: u8,
+    row: &CellRow,
+    out: &mut RoomyTxt<ROOM>,
+) -> Result<(), Memory>
     ensures ok { OnOk result (out.new ≡ out.old ++ answer_line session row.now) }
     ensures err { OnErr result (KeepsFront out.old out.new) }
 {
@@ -20,7 +25,11 @@ fn append_answer<const ROOM: usize>(session: u8, row: &CellRow, out: &mut RoomyT
 
 /// Adds one row of an answer to a session: `N row CELLS`, where a value is printed as in SQL and a denied cell as
 /// `DENIED(e)` with the number of its rule. The text is unchanged where memory is short.
-pub fn answer_line<const ROOM: usize>(session: u8, row: &CellRow, out: &mut RoomyTxt<ROOM>) -> Result<(), Memory>
+pub fn answer_line<const ROOM: usize>(
+    session: u8,
+    row: &CellRow,
+    out: &mut RoomyTxt<ROOM>,
+) -> Result<(), Memory>
     ensures ok { OnOk result (out.new ≡ out.old ++ answer_line session row.now) }
     ensures err { OnErr result (out.new ≡ out.old) }
 {
@@ -32,21 +41,32 @@ pub fn answer_line<const ROOM: usize>(session: u8, row: &CellRow, out: &mut Room
     printed
 }
 
-fn append_cell<const ROOM: usize>(table: &Name, key: &Cells, column: &Name, rule: u64, out: &mut RoomyTxt<ROOM>) -> Result<(), Memory>
+fn append_cell<const ROOM: usize>(
+    table: &Name,
+    key: &Cells,
+    column: &Name,
+    rule: u64,
+    out: &mut RoomyTxt<ROOM>,
+) -> Result<(), Memory>
     ensures ok { OnOk result (out.new ≡ out.old ++ denied_line table.now key.now column.now rule) }
     ensures err { OnErr result (KeepsFront out.old out.new) }
 {
     out.append("0 denied ")?;
     append_keyed(table, key, out)?;
-    out.append(" ")?;
-    out.append(column.as_str())?;
-    out.append(" ")?;
-    out.append(Buffer::new().format(rule))?;
-    out.append("\n")
+    append_pieces(
+        &[" ", column.as_str(), " ", Buffer::new().format(rule), "\n"],
+        out,
+    )
 }
 
 /// Adds one cell that was denied: `0 denied TABLE(KEY) COLUMN RULE`. The text is unchanged where memory is short.
-pub fn denied_line<const ROOM: usize>(table: &Name, key: &Cells, column: &Name, rule: u64, out: &mut RoomyTxt<ROOM>) -> Result<(), Memory>
+pub fn denied_line<const ROOM: usize>(
+    table: &Name,
+    key: &Cells,
+    column: &Name,
+    rule: u64,
+    out: &mut RoomyTxt<ROOM>,
+) -> Result<(), Memory>
     ensures ok { OnOk result (out.new ≡ out.old ++ denied_line table.now key.now column.now rule) }
     ensures err { OnErr result (out.new ≡ out.old) }
 {
