@@ -1,3 +1,4 @@
+pub mod ChangeLoops
 pub mod Truths
 pub mod NamedColumns
 pub mod KeptRows

@@ -4,6 +4,7 @@
 mod audit;
 mod born_row;
 mod cells;
+mod changes;
 mod combo;
 mod entry;
 mod lent;
@@ -17,6 +18,7 @@ mod stored;
 
 pub use audit::{Audit, Flag, Flags, Pair, Pairs, SharedRow, SharedTuple};
 pub use born_row::BornRow;
+pub use changes::{Change, changed_condition};
 pub use cells::{Answer, Cell, CellRow, Cells};
 pub use combo::{ChoiceView, Combo, Plan, Sizes};
 pub use entry::{Act, Entry, History, ItemKind};

@@ -1,0 +1,153 @@
+//! Conditions with their operands changed.
+ghost use Rattle.std.specs.Prelude.{◌≡◌, IfOk, map};
+ghost use Rattle.hippo_model.specs.declared.query.CondOf.TheVariants.{All, Any, Not, Compare, Between, Among, Missing};
+ghost use Rattle.hippo_model.specs.Conditions.{changed_operands};
+
+use crate::query::CondOf;
+use hippo_values::{Boxed, CompareOp, Memory, Sequence};
+use std::alloc::Global;
+
+/// What stands for an operand of a condition.
+pub trait Change<O, P> {
+    /// What each operand becomes.
+    ghost to: { Self → O → P };
+
+    fn change(&self, alloc: Global, operand: &O) -> Result<P, Memory>
+        ensures { IfOk result (λ made. made ≡ to self.now operand.now) };
+}
+
+/// The condition with each operand changed.
+#[cycle(changed_condition)]
+pub fn changed_condition<O, P: Drop, C: Change<O, P>>(
+    alloc: Global,
+    condition: &CondOf<O>,
+    change: &C,
+) -> Result<CondOf<P>, Memory>
+    ensures { IfOk result (λ made. made ≡ changed_operands (C.to change.now) condition.now) }
+{
+    match condition {
+        CondOf::All(parts) => changed_all(alloc, parts, change),
+        CondOf::Any(parts) => changed_any(alloc, parts, change),
+        CondOf::Not(part) => changed_not(alloc, part, change),
+        CondOf::Compare { op, left, right } => changed_comparison(alloc, *op, left, right, change),
+        CondOf::Between { value, low, high } => changed_between(alloc, value, low, high, change),
+        CondOf::Among { value, list } => changed_among(alloc, value, list, change),
+        CondOf::Missing { value } => changed_missing(alloc, value, change),
+    }
+}
+
+#[cycle(changed_condition)]
+fn changed_all<O, P: Drop, C: Change<O, P>>(
+    alloc: Global,
+    parts: &Sequence<CondOf<O>>,
+    change: &C,
+) -> Result<CondOf<P>, Memory>
+    ensures { IfOk result (λ made. made ≡ changed_operands (C.to change.now) (All parts.now)) }
+{
+    Ok(CondOf::All(changed_parts(alloc, parts, change)?))
+}
+
+#[cycle(changed_condition)]
+fn changed_any<O, P: Drop, C: Change<O, P>>(
+    alloc: Global,
+    parts: &Sequence<CondOf<O>>,
+    change: &C,
+) -> Result<CondOf<P>, Memory>
+    ensures { IfOk result (λ made. made ≡ changed_operands (C.to change.now) (Any parts.now)) }
+{
+    Ok(CondOf::Any(changed_parts(alloc, parts, change)?))
+}
+
+#[cycle(changed_condition)]
+fn changed_parts<O, P: Drop, C: Change<O, P>>(
+    alloc: Global,
+    parts: &Sequence<CondOf<O>>,
+    change: &C,
+) -> Result<Sequence<CondOf<P>>, Memory>
+    ensures { IfOk result (λ made. made ≡ map (changed_operands (C.to change.now)) parts.now) }
+{
+    let mut made = Sequence::new(alloc);
+    for part in parts.as_slice() {
+        made.push(changed_condition(alloc, part, change)?)?;
+    }
+    Ok(made)
+}
+
+#[cycle(changed_condition)]
+fn changed_not<O, P: Drop, C: Change<O, P>>(
+    alloc: Global,
+    part: &Boxed<CondOf<O>>,
+    change: &C,
+) -> Result<CondOf<P>, Memory>
+    ensures { IfOk result (λ made. made ≡ changed_operands (C.to change.now) (Not part.now)) }
+{
+    let part = changed_condition(alloc, part.get(), change)?;
+    Ok(CondOf::Not(Boxed::new(alloc, part)?))
+}
+
+fn changed_comparison<O, P: Drop, C: Change<O, P>>(
+    alloc: Global,
+    op: CompareOp,
+    left: &O,
+    right: &O,
+    change: &C,
+) -> Result<CondOf<P>, Memory>
+    ensures { IfOk result (λ made. made ≡ changed_operands (C.to change.now) (Compare op left.now right.now)) }
+{
+    let left = change.change(alloc, left)?;
+    let right = change.change(alloc, right)?;
+    Ok(CondOf::Compare { op, left, right })
+}
+
+fn changed_between<O, P: Drop, C: Change<O, P>>(
+    alloc: Global,
+    value: &O,
+    low: &O,
+    high: &O,
+    change: &C,
+) -> Result<CondOf<P>, Memory>
+    ensures { IfOk result (λ made. made ≡ changed_operands (C.to change.now) (Between value.now low.now high.now)) }
+{
+    let value = change.change(alloc, value)?;
+    let low = change.change(alloc, low)?;
+    let high = change.change(alloc, high)?;
+    Ok(CondOf::Between { value, low, high })
+}
+
+fn changed_list<O, P: Drop, C: Change<O, P>>(
+    alloc: Global,
+    list: &Sequence<O>,
+    change: &C,
+) -> Result<Sequence<P>, Memory>
+    ensures { IfOk result (λ made. made ≡ map (C.to change.now) list.now) }
+{
+    let mut made = Sequence::new(alloc);
+    for operand in list.as_slice() {
+        made.push(change.change(alloc, operand)?)?;
+    }
+    Ok(made)
+}
+
+fn changed_among<O, P: Drop, C: Change<O, P>>(
+    alloc: Global,
+    value: &O,
+    list: &Sequence<O>,
+    change: &C,
+) -> Result<CondOf<P>, Memory>
+    ensures { IfOk result (λ made. made ≡ changed_operands (C.to change.now) (Among value.now list.now)) }
+{
+    let value = change.change(alloc, value)?;
+    let list = changed_list(alloc, list, change)?;
+    Ok(CondOf::Among { value, list })
+}
+
+fn changed_missing<O, P: Drop, C: Change<O, P>>(
+    alloc: Global,
+    value: &O,
+    change: &C,
+) -> Result<CondOf<P>, Memory>
+    ensures { IfOk result (λ made. made ≡ changed_operands (C.to change.now) (Missing value.now)) }
+{
+    let value = change.change(alloc, value)?;
+    Ok(CondOf::Missing { value })
+}
