@@ -11,3 +11,5 @@ pub mod TableRows
 pub mod ChangedOperands
 pub mod OuterParts
 pub mod ChangesOfRows
+pub mod PiecesLemmas
+pub mod PieceSearch

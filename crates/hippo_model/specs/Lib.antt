@@ -2,7 +2,9 @@ pub mod Values
 pub mod Terms
 pub mod Histories
 pub mod Rows
+pub mod Pieces
 pub mod RowSets
+pub mod Searches
 pub mod Versions
 pub mod Changes
 pub mod Rules

@@ -9,12 +9,14 @@ mod combo;
 mod entry;
 mod lent;
 mod name_fault;
+mod pieces;
 mod policy;
 mod query;
 mod row_set;
 mod schema;
 mod statement;
 mod stored;
+mod table_fault;
 
 pub use audit::{Audit, Flag, Flags, Pair, Pairs, SharedRow, SharedTuple};
 pub use born_row::BornRow;
@@ -24,6 +26,7 @@ pub use combo::{ChoiceView, Combo, Plan, Sizes};
 pub use entry::{Act, Entry, History, ItemKind};
 pub use lent::{Lent, LentSchemas, Sets};
 pub use name_fault::NameFault;
+pub use pieces::Pieces;
 pub use policy::{Authorization, Gate, Gates, RuleAt, RulesInForce, TableRules, Verdict};
 pub use query::{
     CondOf, Expr, Exprs, Form, Guard, Guards, Masked, Operand, Operands, Out, Outs, Query, Ref,
@@ -36,3 +39,4 @@ pub use statement::{
     RawOuts, RawSelect, Stmt, Wanted,
 };
 pub use stored::{StoredEntry, StoredList};
+pub use table_fault::TableFault;

@@ -3,10 +3,13 @@ ghost use Rattle.std.specs.Prelude.{◌≡◌, ◌<◌, ◌↔◌, [], length, m
 ghost use Rattle.std.specs.List.Sorted.{IsSearchInRange, IsBinarySearchResult};
 ghost use Rattle.hippo_values.specs.Order.{value_cmp, cells_cmp};
 ghost use Rattle.hippo_model.specs.Rows.{cell_at, key_of};
+ghost use Rattle.hippo_model.specs.Pieces.{begins_low};
+ghost use Rattle.hippo_model.specs.Searches.{sought_order};
 ghost use Rattle.hippo_model.specs.RowSets.{IsAscending, key_in, with_row, without_row, find_row};
 
 use crate::born_row::BornRow;
 use crate::cells::Cells;
+use crate::pieces::{Piece, Pieces, start};
 use crate::schema::Places;
 use hippo_values::{Memory, Moment, Value};
 use std::alloc::Global;
@@ -46,27 +49,72 @@ fn row_order(places: &[usize], row: &[Value], other: &[Value]) -> Ordering
     Ordering::Equal
 }
 
-// The place of the row with a key among rows that stand by their keys, or else where it would stand.
-fn search_key(rows: &[BornRow], places: &[usize], key: &[Value]) -> Result<usize, usize>
-    ensures range { IsSearchInRange result (length rows.now) }
-    ensures place { IsBinarySearchResult (λ kept. cells_cmp (key_of places.now kept.row) key.now) rows.now result }
-{
-    rows.binary_search_by(|kept| key_order(places, kept.row.as_slice(), key))
+// What a search looks for: the row with a key, or the row with the key of another.
+#[derive(Clone, Copy)]
+enum Sought<'a> {
+    Key(&'a [Value]),
+    Row(&'a [Value]),
 }
 
-// The same for another row's key.
-fn search_row(rows: &[BornRow], places: &[usize], row: &[Value]) -> Result<usize, usize>
-    ensures range { IsSearchInRange result (length rows.now) }
-    ensures place { IsBinarySearchResult (λ kept. cells_cmp (key_of places.now kept.row) (key_of places.now row.now)) rows.now result }
+// A kept row against the one that is looked for, by their keys.
+fn sought_order(kept: &BornRow, places: &[usize], sought: &Sought<'_>) -> Ordering
+    ensures { result ≡ sought_order places.now sought.now kept.now }
 {
-    rows.binary_search_by(|kept| row_order(places, kept.row.as_slice(), row))
+    match sought {
+        Sought::Key(key) => key_order(places, kept.row.as_slice(), key),
+        Sought::Row(row) => row_order(places, kept.row.as_slice(), row),
+    }
+}
+
+// Whether a piece begins with a row that does not stand behind the one that is looked for.
+fn begins_low(piece: &Piece<BornRow>, places: &[usize], sought: &Sought<'_>) -> bool
+    ensures { result ≡ begins_low (sought_order places.now sought.now) piece.now.members.items }
+{
+    match piece.members.first() {
+        None => false,
+        Some(kept) => sought_order(kept, places, sought).is_le(),
+    }
+}
+
+// The place of the row that is looked for in a piece, or else where it would stand.
+fn search_piece(
+    piece: &Piece<BornRow>,
+    places: &[usize],
+    sought: &Sought<'_>,
+) -> Result<usize, usize>
+    ensures range { IsSearchInRange result (length piece.now.members.items) }
+    ensures place { IsBinarySearchResult (sought_order places.now sought.now) piece.now.members.items result }
+{
+    piece
+        .members
+        .binary_search_by(|kept| sought_order(kept, places, sought))
+}
+
+// The same among all rows.
+fn search(rows: &Pieces<BornRow>, places: &[usize], sought: &Sought<'_>) -> Result<usize, usize>
+    ensures range { IsSearchInRange result (length rows.now) }
+    ensures place { IsBinarySearchResult (sought_order places.now sought.now) rows.now result }
+{
+    if rows.len() == 0 {
+        return Err(0);
+    }
+    let pieces = rows.pieces.as_slice();
+    let low = pieces.partition_point(|piece| begins_low(piece, places, sought));
+    if low == 0 {
+        return Err(0);
+    }
+    let start = start(pieces, low - 1);
+    match search_piece(&pieces[low - 1], places, sought) {
+        Ok(place) => Ok(start + place),
+        Err(place) => Err(start + place),
+    }
 }
 
 /// The rows of a table in the order of their keys, each with the moment at which it was born.
 #[derive(Debug, Drop)]
 pub struct RowSet {
     key: Places,
-    rows: Vec<BornRow>,
+    rows: Pieces<BornRow>,
 }
 
 impl Model for RowSet {
@@ -77,10 +125,10 @@ impl Model for RowSet {
 
     ghost view = { λ set. record {
       key = set.key;
-      rows = set.rows.items;
+      rows = set.rows;
     } };
 
-    ghost invariant = { λ set. IsAscending (map (key_in set.key) set.rows.items) };
+    ghost invariant = { λ set. IsAscending (map (key_in set.key) set.rows) };
 }
 
 impl RowSet {
@@ -90,7 +138,7 @@ impl RowSet {
     {
         RowSet {
             key,
-            rows: Vec::new(alloc),
+            rows: Pieces::new(alloc),
         }
     }
 
@@ -101,9 +149,10 @@ impl RowSet {
         ensures err { OnErr result (self.new ≡ self.old) }
         ensures replaces { IsSome (find_row self.old.key (key_of self.old.key row) self.old.rows) → IsOk result }
     {
-        match search_row(&self.rows, self.key.as_slice(), row.as_slice()) {
+        let sought = Sought::Row(row.as_slice());
+        match search(&self.rows, self.key.as_slice(), &sought) {
             Ok(place) => {
-                self.rows[place] = BornRow { row, born };
+                self.rows.set(place, BornRow { row, born });
                 Ok(())
             }
             Err(place) => Ok(self.rows.insert(place, BornRow { row, born })?),
@@ -114,7 +163,8 @@ impl RowSet {
     pub fn take(&mut self, key: &Cells)
         ensures { self.new ≡ without_row key.now self.old }
     {
-        if let Ok(place) = search_key(&self.rows, self.key.as_slice(), key.as_slice()) {
+        let sought = Sought::Key(key.as_slice());
+        if let Ok(place) = search(&self.rows, self.key.as_slice(), &sought) {
             self.rows.remove(place);
         }
     }
@@ -124,7 +174,12 @@ impl RowSet {
         ensures place { result ≡ find_row self.now.key key.now self.now.rows }
         ensures range { IfSome result (λ place. place < length self.now.rows) }
     {
-        search_key(&self.rows, self.key.as_slice(), key.as_slice()).ok()
+        search(
+            &self.rows,
+            self.key.as_slice(),
+            &Sought::Key(key.as_slice()),
+        )
+        .ok()
     }
 
     /// The place of the row that has the same key as this one, none exactly where no row has it.
@@ -132,7 +187,12 @@ impl RowSet {
         ensures place { result ≡ find_row self.now.key (key_of self.now.key row.now) self.now.rows }
         ensures range { IfSome result (λ place. place < length self.now.rows) }
     {
-        search_row(&self.rows, self.key.as_slice(), row.as_slice()).ok()
+        search(
+            &self.rows,
+            self.key.as_slice(),
+            &Sought::Row(row.as_slice()),
+        )
+        .ok()
     }
 
     /// The number of rows.
@@ -161,7 +221,7 @@ impl RowSet {
         requires { place < length self.now.rows }
         ensures { option_map (λ kept. kept.row) (slice_get self.now.rows place) ≡ Some result.now }
     {
-        &self.rows[place].row
+        &self.rows.get(place).row
     }
 
     /// The moment at which the row at a place was born.
@@ -169,6 +229,6 @@ impl RowSet {
         requires { place < length self.now.rows }
         ensures { option_map (λ kept. kept.born) (slice_get self.now.rows place) ≡ Some result }
     {
-        self.rows[place].born
+        self.rows.get(place).born
     }
 }

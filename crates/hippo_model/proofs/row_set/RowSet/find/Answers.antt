@@ -6,9 +6,9 @@ use Rattle.hippo_model.proofs.row_set.RowSet.find.Goals as goal
 
 pub returns-clause-place : goal.returns-clause-place
 returns-clause-place c =
-    let range = rw c.deref.ensures.value at c.search_key.ensures.range in
-    let place = rw (c.deref.ensures.value, c.as_slice.ensures, c.as_slice-2.ensures) at c.search_key.ensures.place in
-    let found = find_row-searched c.self.inside.key c.args.key.now c.self.inside.rows.items c.search_key.result c.self.invariant range place in
+    let range = c.search.ensures.range in
+    let place = rw (c.as_slice.ensures, c.as_slice-2.ensures) at c.search.ensures.place in
+    let found = find_row-searched c.self.inside.key c.args.key.now c.self.inside.rows c.search.result c.self.invariant range place in
     c.ok.ensures.value ∙ sym found ∙ ap (λ (set : KeyedRows). find_row set.key c.args.key.now set.rows) c.self.view_is
 
 pub returns-clause-range : goal.returns-clause-range

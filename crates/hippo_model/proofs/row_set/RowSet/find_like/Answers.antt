@@ -7,9 +7,9 @@ use Rattle.hippo_model.proofs.row_set.RowSet.find_like.Goals as goal
 
 pub returns-clause-place : goal.returns-clause-place
 returns-clause-place c =
-    let range = rw c.deref.ensures.value at c.search_row.ensures.range in
-    let place = rw (c.deref.ensures.value, c.as_slice.ensures, c.as_slice-2.ensures) at c.search_row.ensures.place in
-    let found = find_row-searched c.self.inside.key (key_of c.self.inside.key c.args.row.now) c.self.inside.rows.items c.search_row.result c.self.invariant range place in
+    let range = c.search.ensures.range in
+    let place = rw (c.as_slice.ensures, c.as_slice-2.ensures) at c.search.ensures.place in
+    let found = find_row-searched c.self.inside.key (key_of c.self.inside.key c.args.row.now) c.self.inside.rows c.search.result c.self.invariant range place in
     c.ok.ensures.value ∙ sym found ∙ ap (λ (set : KeyedRows). find_row set.key (key_of set.key c.args.row.now) set.rows) c.self.view_is
 
 pub returns-clause-range : goal.returns-clause-range

@@ -9,36 +9,36 @@ use Rattle.hippo_model.proofs.row_set.RowSet.put.Goals as goal
 -- the key was there, and its row is written over
 pub invariant_of-self : goal.invariant_of-self
 invariant_of-self c =
-    let range = rw c.deref.ensures.value at c.in-Ok.ensures.range in
-    let place = rw (c.deref.ensures.value, c.as_slice.ensures, c.as_slice-2.ensures) at c.in-Ok.ensures.place in
-    IsAscending-set c.self.inside.key (record { row = c.args.row; born = c.args.born }) c.self.inside.rows.items c.in-Ok.place c.self.invariant range place
+    let range = c.in-Ok.ensures.range in
+    let place = rw (c.as_slice.ensures, c.as_slice-2.ensures) at c.in-Ok.ensures.place in
+    rw c.set.ensures (IsAscending-set c.self.inside.key (record { row = c.args.row; born = c.args.born }) c.self.inside.rows c.in-Ok.place c.self.invariant range place)
 
 pub returns-in-Ok-clause-ok : goal.returns-in-Ok-clause-ok
 returns-in-Ok-clause-ok c =
-    let range = rw c.deref.ensures.value at c.in-Ok.ensures.range in
-    let place = rw (c.deref.ensures.value, c.as_slice.ensures, c.as_slice-2.ensures) at c.in-Ok.ensures.place in
-    with_row-found c.self.inside.key (record { row = c.args.row; born = c.args.born }) c.self.inside.rows.items c.in-Ok.place c.self.invariant range place ∙ ap (with_row (record { row = c.args.row; born = c.args.born })) c.self.view_is
+    let range = c.in-Ok.ensures.range in
+    let place = rw (c.as_slice.ensures, c.as_slice-2.ensures) at c.in-Ok.ensures.place in
+    rw c.set.ensures (with_row-found c.self.inside.key (record { row = c.args.row; born = c.args.born }) c.self.inside.rows c.in-Ok.place c.self.invariant range place ∙ ap (with_row (record { row = c.args.row; born = c.args.born })) c.self.view_is)
 
 -- the row is put where a search says that it belongs
 pub invariant_of-self-in-Err : goal.invariant_of-self-in-Err
 invariant_of-self-in-Err c =
-    let range = rw c.deref.ensures.value at c.in-Err.ensures.range in
-    let place = rw (c.deref.ensures.value, c.as_slice.ensures, c.as_slice-2.ensures) at c.in-Err.ensures.place in
-    let parted = place (answers_rise c.self.inside.key (key_of c.self.inside.key c.args.row) c.self.inside.rows.items c.self.invariant) in
-    rw c.in_ok-insert-in-Err.ensures.items (IsAscending-insert c.self.inside.key (record { row = c.args.row; born = c.args.born }) c.self.inside.rows.items c.in-Err.place c.self.invariant range parted)
+    let range = c.in-Err.ensures.range in
+    let place = rw (c.as_slice.ensures, c.as_slice-2.ensures) at c.in-Err.ensures.place in
+    let parted = place (answers_rise c.self.inside.key (key_of c.self.inside.key c.args.row) c.self.inside.rows c.self.invariant) in
+    rw c.in_ok-insert-in-Err.ensures.ok (IsAscending-insert c.self.inside.key (record { row = c.args.row; born = c.args.born }) c.self.inside.rows c.in-Err.place c.self.invariant range parted)
 
 pub returns-in_ok-insert-in-Err-clause-ok : goal.returns-in_ok-insert-in-Err-clause-ok
 returns-in_ok-insert-in-Err-clause-ok c =
-    let range = rw c.deref.ensures.value at c.in-Err.ensures.range in
-    let place = rw (c.deref.ensures.value, c.as_slice.ensures, c.as_slice-2.ensures) at c.in-Err.ensures.place in
-    let parted = place (answers_rise c.self.inside.key (key_of c.self.inside.key c.args.row) c.self.inside.rows.items c.self.invariant) in
-    rw c.in_ok-insert-in-Err.ensures.items (with_row-missing c.self.inside.key (record { row = c.args.row; born = c.args.born }) c.self.inside.rows.items c.in-Err.place range parted ∙ ap (with_row (record { row = c.args.row; born = c.args.born })) c.self.view_is)
+    let range = c.in-Err.ensures.range in
+    let place = rw (c.as_slice.ensures, c.as_slice-2.ensures) at c.in-Err.ensures.place in
+    let parted = place (answers_rise c.self.inside.key (key_of c.self.inside.key c.args.row) c.self.inside.rows c.self.invariant) in
+    rw c.in_ok-insert-in-Err.ensures.ok (with_row-missing c.self.inside.key (record { row = c.args.row; born = c.args.born }) c.self.inside.rows c.in-Err.place range parted ∙ ap (with_row (record { row = c.args.row; born = c.args.born })) c.self.view_is)
 
 -- memory is short only for a key that was not there
 pub returns-in_err-insert-in-Err-clause-replaces : goal.returns-in_err-insert-in-Err-clause-replaces
 returns-in_err-insert-in-Err-clause-replaces c there =
-    let place = rw (c.deref.ensures.value, c.as_slice.ensures, c.as_slice-2.ensures) at c.in-Err.ensures.place in
-    let parted = place (answers_rise c.self.inside.key (key_of c.self.inside.key c.args.row) c.self.inside.rows.items c.self.invariant) in
-    let missing = find_row-missing c.self.inside.key (key_of c.self.inside.key c.args.row) c.self.inside.rows.items c.in-Err.place parted in
+    let place = rw (c.as_slice.ensures, c.as_slice-2.ensures) at c.in-Err.ensures.place in
+    let parted = place (answers_rise c.self.inside.key (key_of c.self.inside.key c.args.row) c.self.inside.rows c.self.invariant) in
+    let missing = find_row-missing c.self.inside.key (key_of c.self.inside.key c.args.row) c.self.inside.rows c.in-Err.place parted in
     let absent = sym (ap (λ (set : KeyedRows). find_row set.key (key_of set.key c.args.row) set.rows) c.self.view_is) ∙ missing in
     absurd (false≢true (rw absent at there))
