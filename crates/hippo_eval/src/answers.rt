@@ -2,6 +2,7 @@
 ghost use Rattle.std.specs.Prelude.{◌≡◌, ◌+◌, List, take};
 ghost use Rattle.hippo_model.specs.Terms.{ShownRow};
 ghost use Rattle.hippo_model.specs.Masking.{masked_answer};
+ghost use Rattle.hippo_eval.specs.declared.answers.EvalFault.TheVariants as evaluating;
 ghost use Rattle.hippo_eval.specs.Walks.{rows_of};
 ghost use Rattle.hippo_eval.specs.Answering.{IsAnswered, masked_rows};
 
@@ -20,6 +21,14 @@ pub enum EvalFault {
     /// The answer has more than 100,000 rows.
     TooManyRows,
     Memory,
+}
+
+impl From<Memory> for EvalFault {
+    ghost from_gives = { λ _ fault. fault ≡ evaluating.Memory };
+
+    fn from(_memory: Memory) -> EvalFault {
+        EvalFault::Memory
+    }
 }
 
 // Keeps the rows that are found, and one at most beyond the limit.
