@@ -5,6 +5,7 @@ mod book;
 mod choices;
 mod gates;
 mod keys;
+pub mod laws;
 mod last_words;
 mod lookups;
 mod ruling;
