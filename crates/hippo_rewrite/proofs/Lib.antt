@@ -1,0 +1,3 @@
+pub mod Products
+pub mod MaskedCells
+pub mod MaskedAnswers
