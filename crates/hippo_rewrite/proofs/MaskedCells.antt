@@ -79,7 +79,8 @@ module _ (choices : Choices) where
     born_after column None = refl
     born_after column (Some second) = younger column second
 
-    by_gate : (column : Place) (subject : Option Place) (gate : Gate)
+    -- what stands for a column has the cell that its gate shows
+    pub by_gate : (column : Place) (subject : Option Place) (gate : Gate)
         → masked_cell choices rows (expr_by subject (at table column) gate)
         ≡ cell_by (gate_verdict choices kept.born (option_and_then (λ place. number_in (cell_at kept.row place)) subject) gate) (cell_at kept.row column)
     by_gate column subject Always = ap ShownCell (value_of column)

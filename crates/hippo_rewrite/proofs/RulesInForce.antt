@@ -1,30 +1,37 @@
 -- Over the rows of a valid history, the rules in force mask each table to its view.
-use Rattle.std.proofs.Common.{◌≡◌, ◌∙◌, sym, refl, ap, arith, ℕ, ◌+◌, ◌<◌, true, ◌&&◌, List, [], ◌∷◌, map, length, Option, Some}
-use Rattle.std.specs.Prelude.{◌==◌, filter_map, nat_lt}
+use Rattle.std.proofs.Common.{◌≡◌, ◌∙◌, sym, refl, ap, arith, ℕ, ◌+◌, ◌<◌, true, ◌&&◌, List, [], ◌∷◌, map, length, Option, Some, option_map}
+use Rattle.std.specs.Prelude.{◌==◌, filter_map, nat_lt, slice_get}
 use Rattle.std.specs.Bool.{then_some}
 use Rattle.std.specs.List.{list_all, enumerate_from, cons_option}
 use Rattle.std.specs.Option.{option_map_or}
 use Rattle.std.proofs.lemmas.Bool.{and_parts, and_from, eqb-true, ltb-true}
+use Rattle.std.proofs.lemmas.Option.{slice_get-map}
 use Rattle.std.proofs.lemmas.List.FromFn.{length-map-range_with_len}
 use Rattle.hippo_values.specs.declared.names.Name.{Name}
 use Rattle.hippo_model.specs.declared.born_row.BornRow.{BornRow}
 use Rattle.hippo_model.specs.declared.policy.Gate.{Gate}
+use Rattle.hippo_model.specs.declared.policy.TableRules.{TableRules}
 use Rattle.hippo_model.specs.declared.policy.Verdict.{Verdict}
+use Rattle.hippo_model.specs.declared.query.Expr.TheVariants.{Null}
 use Rattle.hippo_model.specs.declared.query.Query.{Query}
+use Rattle.hippo_model.specs.declared.query.Ref.{Ref}
 use Rattle.hippo_model.specs.declared.schema.Schema.{Schema}
-use Rattle.hippo_model.specs.Terms.{History, Meaning, Row, ShownRow, Place}
+use Rattle.hippo_model.specs.Terms.{History, Meaning, Combination, Row, ShownRow, Place}
 use Rattle.hippo_model.specs.Histories.{schema_at}
-use Rattle.hippo_model.specs.Rows.{table_rows}
+use Rattle.hippo_model.specs.Rows.{cell_at, table_rows}
 use Rattle.hippo_model.specs.Rules.{rule_at, choice_at}
 use Rattle.hippo_model.specs.Verdicts.{Context, verdict}
 use Rattle.hippo_model.specs.Views.{is_shown, cell_by, masked_row, view_row, view, view_at}
 use Rattle.hippo_model.specs.Answers.{product, answer_of, seen_combinations}
+use Rattle.hippo_model.specs.Masking.{masked_cell}
 use Rattle.hippo_model.specs.Validity.{is_valid}
-use Rattle.hippo_policy.specs.Gates.{gate_by, table_rules, rules_verdict}
+use Rattle.hippo_policy.specs.Gates.{gate_in, gate_by, table_rules, rules_verdict}
 use Rattle.hippo_policy.proofs.VerdictLemmas.{rules_verdict-table_rules}
 use Rattle.hippo_rewrite.specs.MaskedRows.{row_by, rows_by, row_fits, rows_fit}
+use Rattle.hippo_rewrite.specs.Rewriting.{column_expr, masked_column}
 use Rattle.hippo_rewrite.specs.RewritingLaws.{rules_at, tables_at, rewritten_answer, HasTables}
 use Rattle.hippo_rewrite.proofs.FittingRows.{is_wide, is_within, fits_schema}
+use Rattle.hippo_rewrite.proofs.MaskedCells.{by_gate}
 use Rattle.hippo_rewrite.proofs.MaskedAnswers.{masked_answer-rewritten}
 
 module _ (here there : Place → Verdict) (size : ℕ) (same : (place : Place) → place < size → here place ≡ there place) where
@@ -106,3 +113,15 @@ pub rewritten_answer-raw : (meaning : Meaning) (history : History) (context : Co
 rewritten_answer-raw meaning history context query schemas has =
     masked_answer-rewritten (choice_at history) (rules_at history context schemas) query (tables_at history schemas) (rows_fit-rules_at meaning history context query schemas has)
     ∙ ap (λ (views : List (List ShownRow)). answer_of query.items query.cond (product views)) (views_are history context meaning has.valid query.tables schemas has.schemas_are)
+
+-- what stands for a column is its cell as the verdict shows it
+pub masked_column-verdict : (history : History) (context : Context) (schemas : List Schema) (rows : Combination) (column : Ref) (schema : Schema) (kept : BornRow)
+    → slice_get schemas column.table ≡ Some schema → slice_get rows column.table ≡ Some kept → column.column < length schema.columns
+    → masked_cell (choice_at history) rows (masked_column (rules_at history context schemas) column) ≡ cell_by (verdict history context schema kept column.column) (cell_at kept.row column.column)
+masked_column-verdict history context schemas rows column schema kept is found within =
+    let rules : TableRules = table_rules history context schema in
+    let rules_are : slice_get (rules_at history context schemas) column.table ≡ Some rules =
+    slice_get-map (table_rules history context) schemas column.table ∙ ap (option_map (table_rules history context)) is in
+    ap (λ (table : Option TableRules). masked_cell (choice_at history) rows (option_map_or (λ table. column_expr table column) table (Null 0))) rules_are
+    ∙ by_gate (choice_at history) rows column.table kept found column.column rules.subject (gate_in rules column.column)
+    ∙ ap (λ (shown : Verdict). cell_by shown (cell_at kept.row column.column)) (rules_verdict-table_rules history context schema kept column.column within)

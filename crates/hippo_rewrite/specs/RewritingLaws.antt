@@ -1,21 +1,23 @@
 -- Laws on rewritten queries.
-use Rattle.std.specs.Prelude.{◌≡◌, true, List, map, Some}
+use Rattle.std.specs.Prelude.{◌≡◌, ◌<◌, true, List, map, length, Some, slice_get}
 use Rattle.hippo_model.specs.declared.born_row.BornRow.{BornRow}
 use Rattle.hippo_model.specs.declared.policy.TableRules.{TableRules}
 use Rattle.hippo_model.specs.declared.query.Query.{Query}
+use Rattle.hippo_model.specs.declared.query.Ref.{Ref}
 use Rattle.hippo_model.specs.declared.schema.Schema.{Schema}
-use Rattle.hippo_model.specs.Terms.{History, Meaning, ShownRow}
+use Rattle.hippo_model.specs.Terms.{History, Meaning, Combination, ShownRow}
 use Rattle.hippo_model.specs.Histories.{schema_at}
-use Rattle.hippo_model.specs.Rows.{table_rows}
+use Rattle.hippo_model.specs.Rows.{cell_at, table_rows}
 use Rattle.hippo_model.specs.Rules.{choice_at}
-use Rattle.hippo_model.specs.Verdicts.{Context}
+use Rattle.hippo_model.specs.Verdicts.{Context, verdict}
+use Rattle.hippo_model.specs.Views.{cell_by}
 use Rattle.hippo_model.specs.Forms.{formed}
 use Rattle.hippo_model.specs.Answers.{product, answer_of, seen_combinations, answer}
-use Rattle.hippo_model.specs.Masking.{Choices, masked_answer}
+use Rattle.hippo_model.specs.Masking.{Choices, masked_cell, masked_answer}
 use Rattle.hippo_model.specs.Validity.{is_valid}
 use Rattle.hippo_policy.specs.Gates.{table_rules}
 use Rattle.hippo_rewrite.specs.MaskedRows.{rows_by, rows_fit}
-use Rattle.hippo_rewrite.specs.Rewriting.{rewritten}
+use Rattle.hippo_rewrite.specs.Rewriting.{masked_column, rewritten}
 
 -- what the rewritten query answers over rows, their births and choices is the raw answer of the query over the rows as
 -- they are masked
@@ -59,3 +61,12 @@ RewritingAnswers =
     → (rewritten_answer history context schemas query
     ≡ answer_of query.items query.cond (seen_combinations history context query))
     × (formed query.form (rewritten_answer history context schemas query) ≡ answer history context query)
+
+-- what stands for a column under the rules in force is, in a combination of rows, its cell as the verdict shows it
+abbrev pub ColumnsShowVerdicts : Type 0
+ColumnsShowVerdicts =
+    (history : History) (context : Context) (schemas : List Schema) (rows : Combination) (column : Ref)
+    (schema : Schema) (kept : BornRow) → slice_get schemas column.table ≡ Some schema
+    → slice_get rows column.table ≡ Some kept → column.column < length schema.columns
+    → masked_cell (choice_at history) rows (masked_column (rules_at history context schemas) column)
+    ≡ cell_by (verdict history context schema kept column.column) (cell_at kept.row column.column)

@@ -1,5 +1,5 @@
 //! Laws on rewritten queries.
-ghost use Rattle.hippo_rewrite.specs.RewritingLaws.{RewritingMasks, RowsFitRules, RewritingAnswers};
+ghost use Rattle.hippo_rewrite.specs.RewritingLaws.{RewritingMasks, RowsFitRules, RewritingAnswers, ColumnsShowVerdicts};
 
 /// For any rows that fit, whenever they were born and whatever patients chose: what the rewritten query answers over them
 /// is the raw answer of the query over the rows as rules, births and choices mask them.
@@ -17,4 +17,10 @@ pub fn rows_fit_rules()
 /// query's form says, it is the query's answer.
 pub fn rewriting_answers()
     ensures { RewritingAnswers }
+{}
+
+/// What `mask_columns` gives for a column under the rules in force is, in each combination of rows, the column's cell as
+/// the verdict on it shows or denies it.
+pub fn columns_show_verdicts()
+    ensures { ColumnsShowVerdicts }
 {}
