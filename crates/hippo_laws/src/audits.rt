@@ -1,6 +1,6 @@
 //! Laws on audits and denials.
 ghost use Rattle.hippo_laws.specs.Audits.{FlagsLast, DenialsLast};
-ghost use Rattle.hippo_laws.specs.Needs.{PlainQueryNeeds, AuditNeeds};
+ghost use Rattle.hippo_laws.specs.Needs.{PlainQueryNeeds, AuditNeeds, BothNeeds};
 
 /// The shared tuple of an entry of a valid history, and whether the entry is flagged, stay the same when entries are
 /// added behind the history.
@@ -25,3 +25,12 @@ pub fn plain_query_needs()
 pub fn audit_needs()
     ensures { AuditNeeds }
 {}
+
+/// A plain query and an audit expression both need a virtual tuple exactly where some combination of the query's view rows
+/// and some combination of the audit's unmasked rows have the tuple's keys, and each side's condition is true of its own.
+pub fn both_needs()
+    ensures { BothNeeds }
+{
+    plain_query_needs();
+    audit_needs();
+}

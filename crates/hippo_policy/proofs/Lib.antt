@@ -3,3 +3,4 @@ pub mod AddLemmas
 pub mod BookLemmas
 pub mod TakeBackLemmas
 pub mod GateLemmas
+pub mod VerdictLemmas

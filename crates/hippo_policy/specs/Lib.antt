@@ -4,3 +4,4 @@ pub mod Words
 pub mod Rulings
 pub mod Books
 pub mod Gates
+pub mod GateLaws

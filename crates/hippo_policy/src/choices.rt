@@ -10,7 +10,6 @@ ghost use Rattle.hippo_policy.specs.Words.{words_of};
 ghost use Rattle.hippo_policy.specs.Books.{StandsFor, choice_kept};
 
 use crate::book::PolicyBook;
-use crate::keys::{ChoiceKey, KeyName};
 use hippo_model::ChoiceView;
 use hippo_values::Name;
 
@@ -25,11 +24,7 @@ impl<'a> ChoiceView for ChoicesAt<'a> {
     ghost choices = { λ view. choice_kept view.book.now view.n };
 
     fn choice(&self, subject: i64, item: &Name) -> Option<bool> {
-        let item = KeyName::lent(item);
-        self.book
-            .choices
-            .at(self.n, &ChoiceKey { subject, item })
-            .copied()
+        self.book.choice_of(self.n, &subject, item)
     }
 }
 
@@ -38,7 +33,8 @@ impl PolicyBook {
     pub fn choices_at(&self, n: u64) -> ChoicesAt<'_>
         requires { (history : History) × StandsFor self.now history }
         ensures { (history : History) → StandsFor self.now history
-            → (subject : ℤ) (item : NameValue) → choice_kept result.book.now result.n subject item ≡ choice_at (take n history) subject item }
+            → (subject : ℤ) (item : NameValue) → ⟦<ChoicesAt<'static> as ChoiceView>⟧.choices result subject item
+            ≡ choice_at (take n history) subject item }
     {
         ChoicesAt { book: self, n }
     }

@@ -8,11 +8,10 @@ ghost use Rattle.hippo_model.specs.Rules.{allowed};
 
 use crate::book::PolicyBook;
 use crate::ruling::Ruling;
+use crate::verdicts::DAY;
 use hippo_model::{Gate, Gates, ItemKind, RuleAt, RulesInForce, Schema, Schemas, TableRules};
 use hippo_values::{Duplicate, Memory, Moment, Name, Sequence};
 use std::alloc::Global;
-
-const DAY: i64 = 86_400;
 
 // The second after which a row must be born.
 fn after(moment: &Moment, days: u32) -> i64

@@ -6,6 +6,7 @@ mod choices;
 mod gates;
 mod keys;
 mod last_words;
+pub mod laws;
 mod lookups;
 mod ruling;
 mod verdicts;

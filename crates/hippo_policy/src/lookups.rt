@@ -3,7 +3,10 @@ ghost use Rattle.std.specs.Prelude.{◌≡◌, ℕ, take, option_copied, option_
 ghost use Rattle.hippo_model.specs.Terms.{History};
 ghost use Rattle.hippo_model.specs.Histories.{item_at};
 ghost use Rattle.hippo_model.specs.Rules.{rule_at, choice_at, authorized_at};
-ghost use Rattle.hippo_policy.specs.Books.{StandsFor};
+ghost use Rattle.std.specs.List.Sorted.{IsNonDecreasingBy};
+ghost use Rattle.hippo_policy.specs.Books.{StandsFor, choice_kept};
+ghost use Rattle.hippo_policy.specs.Keys.{same_choice};
+ghost use Rattle.hippo_policy.specs.Words.{words_of};
 ghost use Rattle.hippo_policy.specs.Rulings.{ruling_of, asks_opt_in, opt_in_at, is_opt_in};
 
 use crate::book::PolicyBook;
@@ -35,12 +38,19 @@ impl PolicyBook {
         self.items.at(n, &KeyName::lent(item)).copied()
     }
 
+    pub(crate) fn choice_of(&self, n: u64, subject: &i64, item: &Name) -> Option<bool>
+        ensures history { (history : History) → StandsFor self.now history → result ≡ choice_at (take n history) subject.now item.now }
+        ensures kept { IsNonDecreasingBy (λ said. said.number) (words_of same_choice self.now.choices (record { subject = subject.now; item = item.now }))
+            → result ≡ choice_kept self.now n subject.now item.now }
+    {
+        self.choices.at(n, &ChoiceKey::lent(subject, item)).copied()
+    }
+
     /// The last choice of a patient on an item, among the first `n` entries.
     pub fn choice_at(&self, n: u64, subject: i64, item: &Name) -> Option<bool>
         ensures { (history : History) → StandsFor self.now history → result ≡ choice_at (take n history) subject item.now }
     {
-        let item = KeyName::lent(item);
-        self.choices.at(n, &ChoiceKey { subject, item }).copied()
+        self.choice_of(n, &subject, item)
     }
 
     /// Whether a user may ask for a purpose and recipient, as the last entry among the first `n` says that speaks of

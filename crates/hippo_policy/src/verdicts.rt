@@ -1,17 +1,16 @@
 //! Whether a cell is shown, at an entry number.
 ghost use Rattle.std.specs.Prelude.{◌≡◌, take, option_copied, Some, ◌-ℤ◌, pos, ◌*◌};
 ghost use Rattle.hippo_model.specs.Terms.{History};
-ghost use Rattle.hippo_model.specs.Rules.{choice_at};
 ghost use Rattle.hippo_model.specs.Verdicts.{subject_of, consents, days_long, has_ended, verdict, verdict_by};
 ghost use Rattle.hippo_policy.specs.Books.{StandsFor};
 
 use crate::book::PolicyBook;
-use crate::keys::ChoiceKey;
 use crate::ruling::Ruling;
 use hippo_model::{Cells, ItemKind, RuleAt, Schema, Verdict};
 use hippo_values::{Moment, Name, Value};
 
-const DAY: i64 = 86_400;
+/// A day in seconds.
+pub(crate) const DAY: i64 = 86_400;
 
 // The number of the patient whom a row is about.
 fn subject_of<'a>(schema: &Schema, row: &'a Cells) -> Option<&'a i64>
@@ -34,12 +33,6 @@ fn has_ended(moment: &Moment, born: &Moment, days: Option<u32>) -> bool
 }
 
 impl PolicyBook {
-    fn choice_of(&self, n: u64, subject: &i64, item: &Name) -> Option<bool>
-        ensures { (history : History) → StandsFor self.now history → result ≡ choice_at (take n history) subject.now item.now }
-    {
-        self.choices.at(n, &ChoiceKey::lent(subject, item)).copied()
-    }
-
     // Whether a patient agrees to an item.
     fn agrees(&self, n: u64, subject: &i64, item: &Name) -> bool
         ensures { (history : History) → StandsFor self.now history
