@@ -1,13 +1,16 @@
 -- The audit expression that can be found at the front of a list of tokens, part by part: the longest one.
-use Rattle.std.specs.Prelude.{ℕ, Bool, true, false, List, [], ◌∷◌, option_to_list, Some, None}
+use Rattle.std.specs.Prelude.{Bool, true, false, List, [], ◌∷◌, Option, option_to_list, Some, None}
 use Rattle.hippo_values.specs.Texts.{Txt}
+use Rattle.hippo_values.specs.declared.names.Name.{Name}
 use Rattle.hippo_model.specs.declared.audit.Pair.{Pair}
 use Rattle.hippo_model.specs.declared.statement.RawAudit.{RawAudit}
+use Rattle.hippo_model.specs.declared.statement.RawColumn.{RawColumn}
 use Rattle.hippo_values.specs.declared.keywords.Keyword.TheVariants.{KAudit, KDuring, KFrom, KOtherthan, KShown, KTo}
 use Rattle.hippo_lexer.specs.declared.kinds.Symbol.TheVariants.{Comma, LeftParen, RightParen}
 use Rattle.hippo_lexer.specs.declared.kinds.TokenKind.TheVariants.{Quoted}
 use Rattle.hippo_audit_reader.specs.declared.audits.Period.{Period}
 use Rattle.hippo_spj_reader.specs.Promises.{◌>>=◌, either}
+use Rattle.hippo_spj_reader.specs.ConditionGrammar.{RawCond}
 use Rattle.hippo_spj_reader.specs.ConditionFinder.{leading_column}
 use Rattle.hippo_spj_reader.specs.Front.{Finds, after_keyword, after_symbol, leading_name}
 use Rattle.hippo_spj_reader.specs.ListFinder.{leading_list}
@@ -47,6 +50,18 @@ leading_period tokens = do
 unfoldable pub leading_shown : Finds Bool
 leading_shown tokens = either (after_keyword KShown tokens) (λ rest. Some (true, rest)) (Some (false, tokens))
 
+-- an audit by its parts, where a condition may be the last of them
+abbrev pub audit_of : Period → List Pair → Bool → List RawColumn → List Name → Option RawCond → RawAudit
+audit_of period exempt shown columns tables last = record {
+  from = period.from;
+  to = period.to;
+  exempt = exempt;
+  shown = shown;
+  columns = columns;
+  tables = tables;
+  cond = whole_condition (option_to_list last);
+}
+
 -- the longest audit expression that stands first
 unfoldable pub leading_audit : Finds RawAudit
 leading_audit tokens = do
@@ -58,15 +73,4 @@ leading_audit tokens = do
   named ← after_keyword KFrom columns.1
   tables ← leading_list leading_name (after_symbol Comma) named
   last ← leading_where tables.1
-  Some (
-    record {
-      from = period.0.from;
-      to = period.0.to;
-      exempt = exempt.0;
-      shown = shown.0;
-      columns = columns.0;
-      tables = tables.0;
-      cond = whole_condition (option_to_list last.0);
-    },
-    last.1,
-  )
+  Some (audit_of period.0 exempt.0 shown.0 columns.0 tables.0 last.0, last.1)

@@ -1,13 +1,14 @@
 -- The loop over the tables of FROM, table by table.
 use Rattle.std.proofs.Common.{◌≡◌, ℕ, zero, suc, ◌<◌, List, [], ◌∷◌, ◌++◌, length, Option, Some, None, option_to_list, refl, sym, ◌∙◌, arith, append_assoc}
+use Rattle.std.proofs.lemmas.List.{length-map}
 use Rattle.hippo_lexer.specs.declared.kinds.Token.{Token}
 use Rattle.hippo_lexer.specs.declared.kinds.TokenKind.{TokenKind}
 use Rattle.hippo_spj_reader.specs.declared.selects.JoinedTable.{JoinedTable}
 use Rattle.hippo_spj_reader.specs.declared.selects.Sources.{Sources}
 use Rattle.hippo_spj_reader.specs.Promises.{◌>>=◌}
 use Rattle.hippo_spj_reader.specs.ConditionGrammar.{RawCond}
-use Rattle.hippo_spj_reader.specs.Front.{kinds}
-use Rattle.hippo_spj_reader.specs.SelectFinder.{with_first, leading_joined, leading_all_joined}
+use Rattle.hippo_spj_reader.specs.Front.{kinds, leading_name}
+use Rattle.hippo_spj_reader.specs.SelectFinder.{with_first, leading_joined, leading_all_joined, leading_sources}
 
 abbrev Found : Type 0
 Found = Option (Sources × List TokenKind)
@@ -22,6 +23,17 @@ pub record Joins (whole : Found) (names : List (List ℕ)) (conditions : List Ra
   pub fuel : ℕ
   pub enough : length rest < fuel
   pub same : with_front names conditions (leading_all_joined fuel (kinds rest)) ≡ whole
+
+-- the first table begins them
+pub begins : (tokens rest : List Token) (first : List ℕ) (empty names : List (List ℕ)) (conditions : List RawCond) →
+    leading_name (kinds tokens) ≡ Some (first, kinds rest) → empty ≡ [] → names ≡ empty ++ first ∷ [] → conditions ≡ [] →
+    Joins (leading_sources (kinds tokens)) names conditions rest
+unfolding leading_sources
+begins tokens rest first empty names conditions found no_names one none = record {
+  fuel = suc (length (kinds rest));
+  enough = omega (arith, length-map rest (λ (token : Token). token.kind));
+  same = rw (found, one, no_names, none) refl;
+}
 
 pushed : (names : List (List ℕ)) (conditions : List RawCond) (table : List ℕ) (on : Option RawCond) (found : Found) →
     with_front names conditions (found >>= λ others. Some (with_first table on others.0, others.1)) ≡ with_front (names ++ table ∷ []) (conditions ++ option_to_list on) found

@@ -1,5 +1,5 @@
 -- The grammar of lists of parts with a separator between them.
-use Rattle.std.specs.Prelude.{ℕ, List, [], ◌∷◌}
+use Rattle.std.specs.Prelude.{List, [], ◌∷◌}
 use Rattle.hippo_values.specs.declared.names.Name.{Name}
 use Rattle.hippo_lexer.specs.declared.kinds.TokenKind.{TokenKind}
 use Rattle.hippo_lexer.specs.declared.kinds.TokenKind.TheVariants.{Word}

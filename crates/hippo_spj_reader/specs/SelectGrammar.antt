@@ -1,12 +1,11 @@
 -- The grammar of selects. Each relation says that the tokens begin with such a part, how it reads, and what follows it.
-use Rattle.std.specs.Prelude.{◌≡◌, ℕ, List, [], ◌∷◌, ◌++◌, codes, option_to_list, Option, Some, None}
+use Rattle.std.specs.Prelude.{◌≡◌, List, [], ◌∷◌, ◌++◌, codes, option_to_list, Option, Some, None}
 use Rattle.std.specs.List.{flat_map}
 use Rattle.hippo_values.specs.declared.names.Name.{Name}
 use Rattle.hippo_model.specs.declared.query.CondOf.{All}
 use Rattle.hippo_model.specs.declared.statement.RawColumn.{RawColumn}
 use Rattle.hippo_model.specs.declared.statement.RawItem.{RawItem}
 use Rattle.hippo_model.specs.declared.statement.RawItem.TheVariants as item
-use Rattle.hippo_model.specs.declared.statement.RawOperand.{RawOperand}
 use Rattle.hippo_model.specs.declared.statement.RawForm.{RawForm}
 use Rattle.hippo_model.specs.declared.statement.RawForm.TheVariants.{Plain, Distinct, Grouped}
 use Rattle.hippo_model.specs.declared.statement.RawOut.{RawOut}

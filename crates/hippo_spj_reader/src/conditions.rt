@@ -279,8 +279,11 @@ fn conjunction(alloc: Global, tokens: &[Token]) -> Result<(RawCond, &[Token]), S
         GivesPart result (conjunction_with (leading_negation n) (kinds tokens.now)) }
     ensures no_longer { LeavesNoMore tokens.now result }
 {
-    let mut parts = Sequence::new(alloc);
     let (first, mut rest) = negation(alloc, tokens)?;
+    if after_keyword(rest, Keyword::KAnd).is_none() {
+        return Ok((first, rest));
+    }
+    let mut parts = Sequence::with_capacity(alloc, 2)?;
     parts.push(first)?;
     while let Some(behind) = after_keyword(rest, Keyword::KAnd) {
         let (part, left) = negation(alloc, behind)?;
@@ -296,8 +299,11 @@ fn disjunction(alloc: Global, tokens: &[Token]) -> Result<(RawCond, &[Token]), S
         GivesPart result (condition_with (leading_negation n) (kinds tokens.now)) }
     ensures no_longer { LeavesNoMore tokens.now result }
 {
-    let mut parts = Sequence::new(alloc);
     let (first, mut rest) = conjunction(alloc, tokens)?;
+    if after_keyword(rest, Keyword::KOr).is_none() {
+        return Ok((first, rest));
+    }
+    let mut parts = Sequence::with_capacity(alloc, 2)?;
     parts.push(first)?;
     while let Some(behind) = after_keyword(rest, Keyword::KOr) {
         let (part, left) = conjunction(alloc, behind)?;

@@ -219,6 +219,10 @@ fn joined(alloc: Global, tokens: &[Token]) -> Result<Option<(JoinedTable, &[Toke
 fn append(list: &mut Conditions, members: Conditions) -> Result<(), Memory>
     ensures { OnOk result (list.new ≡ list.old ++ members) }
 {
+    if list.is_empty() {
+        *list = members;
+        return Ok(());
+    }
     for member in members.into_vec() {
         list.push(member)?;
     }
@@ -266,7 +270,7 @@ fn from_list(alloc: Global, tokens: &[Token]) -> Result<(Sources, &[Token]), Syn
     ensures { Reads leading_sources tokens.now result }
 {
     let mut names = Sequence::new(alloc);
-    let mut conditions = Sequence::new(alloc);
+    let mut conditions = Sequence::with_capacity(alloc, 2)?;
     let (first, mut rest) = name(alloc, tokens)?;
     names.push(first)?;
     while let Some((entry, left)) = joined(alloc, rest)? {

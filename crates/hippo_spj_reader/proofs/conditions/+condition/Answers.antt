@@ -14,7 +14,7 @@ use Rattle.hippo_spj_reader.proofs.conditions.+condition.Goals as goal
 pub conjunction-loop-behind-init : goal.conjunction-loop-behind-init
 conjunction-loop-behind-init t c = record {
   no_longer = c.in_ok-first.ensures.no_longer;
-  so_far = λ n enough. begins (leading_negation n) (after_keyword KAnd) c.args.tokens.now c.in_ok-first.rest.now c.in_ok-first.first _ _ (c.in_ok-first.ensures.found n enough) c.in_ok-first.ensures.no_longer c.new-parts.ensures c.in_ok-push.ensures.ok;
+  so_far = λ n enough. begins (leading_negation n) (after_keyword KAnd) c.args.tokens.now c.in_ok-first.rest.now c.in_ok-first.first _ _ (c.in_ok-first.ensures.found n enough) c.in_ok-first.ensures.no_longer c.in_ok-parts.ensures c.in_ok-push.ensures.ok;
 }
 
 pub conjunction-loop-behind-preserved : goal.conjunction-loop-behind-preserved
@@ -33,7 +33,7 @@ conjunction-returns-in_err-part-clause-found t c n enough =
 pub disjunction-loop-behind-init : goal.disjunction-loop-behind-init
 disjunction-loop-behind-init t c = record {
   no_longer = c.in_ok-first.ensures.no_longer;
-  so_far = λ n enough. begins (conjunction_with (leading_negation n)) (after_keyword KOr) c.args.tokens.now c.in_ok-first.rest.now c.in_ok-first.first _ _ (c.in_ok-first.ensures.found n enough) c.in_ok-first.ensures.no_longer c.new-parts.ensures c.in_ok-push.ensures.ok;
+  so_far = λ n enough. begins (conjunction_with (leading_negation n)) (after_keyword KOr) c.args.tokens.now c.in_ok-first.rest.now c.in_ok-first.first _ _ (c.in_ok-first.ensures.found n enough) c.in_ok-first.ensures.no_longer c.in_ok-parts.ensures c.in_ok-push.ensures.ok;
 }
 
 pub disjunction-loop-behind-preserved : goal.disjunction-loop-behind-preserved

@@ -1,7 +1,13 @@
 -- Each table is the next of those that are left.
 use Rattle.std.proofs.Common.{◌<◌, length, arith}
-use Rattle.hippo_spj_reader.proofs.SourceLoops.{goes_on}
+use Rattle.hippo_spj_reader.proofs.SourceLoops.{begins, goes_on}
 use Rattle.hippo_spj_reader.proofs.selects.from_list.Goals as goal
+
+pub loop-conditions-init : goal.loop-conditions-init
+loop-conditions-init c = record {
+  no_longer = c.in_ok-first.ensures.no_longer;
+  so_far = begins c.args.tokens.now c.in_ok-first.rest.now c.in_ok-first.first _ _ _ c.in_ok-first.ensures.found c.new-names.ensures c.in_ok-push.ensures.ok c.in_ok-conditions.ensures;
+}
 
 pub loop-conditions-preserved : goal.loop-conditions-preserved
 loop-conditions-preserved c =
