@@ -1,7 +1,6 @@
 -- The statement of the console that is found is the one of the grammar.
-use Rattle.std.proofs.Common.{◌≡◌, codes, List, [], ◌∷◌, Bool, true, false, Some, None, refl, sym}
+use Rattle.std.proofs.Common.{◌≡◌, codes, List, [], ◌∷◌, true, false, Option, Some, None, refl, sym}
 use Rattle.std.proofs.lemmas.Option.{none-some, same_Some, some_pair_parts}
-use Rattle.hippo_model.specs.declared.entry.ItemKind.{ItemKind}
 use Rattle.hippo_model.specs.declared.entry.ItemKind.TheVariants.{OptIn, OptOut}
 use Rattle.hippo_model.specs.declared.statement.RawAudit.{RawAudit}
 use Rattle.hippo_model.specs.declared.statement.Stmt.{Stmt}
@@ -12,6 +11,7 @@ use Rattle.hippo_lexer.specs.declared.kinds.TokenKind.{TokenKind}
 use Rattle.hippo_lexer.specs.declared.kinds.TokenKind.TheVariants.{Word, Keyword, Symbol}
 use Rattle.hippo_spj_reader.specs.ConditionGrammar.{IsLiteral}
 use Rattle.hippo_spj_reader.specs.Front.{after_keyword, after_symbol, after_word, leading_literal}
+use Rattle.hippo_spj_reader.specs.Promises.{◌>>=◌, either}
 use Rattle.hippo_spj_reader.specs.ListFinder.{leading_list}
 use Rattle.hippo_spj_reader.specs.ListGrammar.{IsListOf}
 use Rattle.hippo_spj_reader.proofs.FrontTheorem.{found_then, keyword_then, symbol_then, name_then, keyword_choice, word_choice}
@@ -46,12 +46,14 @@ create_table_found tokens s e =
     let is_subject : IsSubject key.1 subject.0 (Symbol RightParen ∷ rest) = rw is_close at (subject_found key.1 subject.0 subject.1 subject_is) in
     rw (is_table, is_open, ← same_Some _ s e) (rest, create_table are_defs are_names is_subject, end_found rest end is_end))))))))))))
 
-item_kind_then : {P : Type 0} (tokens : List TokenKind) (k : ItemKind) (rest : List TokenKind) → leading_item_kind tokens ≡ Some (k, rest) →
-    (tokens ≡ Keyword KIn ∷ rest → k ≡ OptIn → P) → (tokens ≡ Keyword KOut ∷ rest → k ≡ OptOut → P) → P
-item_kind_then tokens k rest e opt_in opt_out =
-    keyword_choice KIn tokens _ _ _ e
-    (λ left is_in e. let whole = some_pair_parts OptIn k left rest e in opt_in (rw (is_in, whole.1) refl) (sym whole.0))
-    (λ _ e. keyword_then KOut tokens _ _ e (λ left is_out e. let whole = some_pair_parts OptOut k left rest e in opt_out (rw (is_out, whole.1) refl) (sym whole.0)))
+-- one of two keywords, each with what it says
+either_keyword_then : {X P : Type 0} (one other : words.Keyword) (a b : X) (tokens : List TokenKind) (x : X) (rest : List TokenKind) →
+    either {B = Option (X × List TokenKind)} (after_keyword one tokens) (λ left. Some (a, left)) (after_keyword other tokens >>= λ left. Some (b, left)) ≡ Some (x, rest) →
+    (tokens ≡ Keyword one ∷ rest → x ≡ a → P) → (tokens ≡ Keyword other ∷ rest → x ≡ b → P) → P
+either_keyword_then one other a b tokens x rest e first second =
+    keyword_choice one tokens _ _ _ e
+    (λ left is_one e. let whole = some_pair_parts a x left rest e in first (rw (is_one, whole.1) refl) (sym whole.0))
+    (λ _ e. keyword_then other tokens _ _ e (λ left is_other e. let whole = some_pair_parts b x left rest e in second (rw (is_other, whole.1) refl) (sym whole.0)))
 
 create_item_found : (tokens : List TokenKind) (s : Stmt) → create_item_of tokens ≡ Some s → IsRead (Keyword KCreate ∷ Keyword KItem ∷ tokens) s
 unfolding create_item_of
@@ -60,7 +62,7 @@ create_item_found tokens s e =
     keyword_then KOpt a _ _ e (λ b is_opt e.
     found_then (leading_item_kind b) _ _ e (λ k k_is e.
     found_then (end_left k.1) _ _ e (λ end is_end e.
-    item_kind_then b k.0 k.1 k_is
+    either_keyword_then KIn KOut OptIn OptOut b k.0 k.1 k_is
     (λ is_in is_kind. rw (is_item, is_opt, is_in, ← same_Some _ s e, is_kind) (k.1, create_opt_in, end_found k.1 end is_end))
     (λ is_out is_kind. rw (is_item, is_opt, is_out, ← same_Some _ s e, is_kind) (k.1, create_opt_out, end_found k.1 end is_end))))))
 
@@ -103,13 +105,6 @@ revoke_found tokens s e =
     disclosure_then tokens rule.0 rule.1 rule_is (λ named is_rule are_names.
     rw (is_rule, ← same_Some _ s e) (rule.1, revoke are_names, end_found rule.1 end is_end))))
 
-yes_or_no_then : {P : Type 0} (tokens : List TokenKind) (yes_said : Bool) (rest : List TokenKind) → leading_yes_or_no tokens ≡ Some (yes_said, rest) →
-    (tokens ≡ Keyword KYes ∷ rest → yes_said ≡ true → P) → (tokens ≡ Keyword KNo ∷ rest → yes_said ≡ false → P) → P
-yes_or_no_then tokens yes_said rest e agreed refused =
-    keyword_choice KYes tokens _ _ _ e
-    (λ left is_yes e. let whole = some_pair_parts true yes_said left rest e in agreed (rw (is_yes, whole.1) refl) (sym whole.0))
-    (λ _ e. keyword_then KNo tokens _ _ e (λ left is_no e. let whole = some_pair_parts false yes_said left rest e in refused (rw (is_no, whole.1) refl) (sym whole.0)))
-
 choice_found : (tokens : List TokenKind) (s : Stmt) → choice_of tokens ≡ Some s → IsRead (Keyword KChoice ∷ tokens) s
 unfolding choice_of
 choice_found tokens s e =
@@ -120,7 +115,7 @@ choice_found tokens s e =
     found_then (leading_yes_or_no c) _ _ e (λ answer answer_is e.
     found_then (end_left answer.1) _ _ e (λ end is_end e.
     let is_number = number_found tokens n.0 n.1 n_is in
-    yes_or_no_then c answer.0 answer.1 answer_is
+    either_keyword_then KYes KNo true false c answer.0 answer.1 answer_is
     (λ is_yes is_true. rw (is_number, is_on, is_item, is_is, is_yes, ← same_Some _ s e, is_true) (answer.1, choice_yes, end_found answer.1 end is_end))
     (λ is_no is_false. rw (is_number, is_on, is_item, is_is, is_no, ← same_Some _ s e, is_false) (answer.1, choice_no, end_found answer.1 end is_end))))))))
 

@@ -25,6 +25,15 @@ use Rattle.hippo_stmt_reader.specs.declared.policies.Grant.{Grant}
 use Rattle.hippo_stmt_reader.specs.StatementGrammar.{IsColumnKind, integer, text, date, IsColumnDef, nullable, not_null, IsSubject, no_subject, subject, IsWith, no_item, with_item, IsRetention, no_retention, retain, IsAssignment, assignment, AreKeys, AreSettings, AreNames, IsEnd, nothing, semicolon}
 use Rattle.hippo_stmt_reader.specs.StatementFinder.{nothing_left, end_left, column_kind_of, leading_column_kind, leading_column_def, after_column, leading_names, leading_subject, leading_item, leading_number, days_of, leading_retention, leading_assignment, leading_grant, leading_disclosure}
 
+-- a list that is found is one of the grammar, where its parts are and what leads to the next is a separator
+list_found : {X : Type 0} (leading : List TokenKind → Option (X × List TokenKind)) (after : List TokenKind → Option (List TokenKind)) (IsPart : List TokenKind → X → List TokenKind → Type 0) (separator : TokenKind) →
+    ((tokens : List TokenKind) (part : X) (rest : List TokenKind) → leading tokens ≡ Some (part, rest) → IsPart tokens part rest) →
+    ((tokens behind : List TokenKind) → after tokens ≡ Some behind → tokens ≡ separator ∷ behind) →
+    (tokens : List TokenKind) (list : List X) (rest : List TokenKind) → leading_list leading after tokens ≡ Some (list, rest) → IsListOf IsPart separator tokens list rest
+list_found leading after IsPart separator part_found next_found tokens list rest e =
+    parts_found leading after IsPart separator (IsListOf IsPart separator) part_found next_found
+    (λ _ _ _ d. last_part d) (λ _ _ _ _ _ d ds. more_parts d ds) (suc (length tokens)) tokens list rest e
+
 nothing_found : (tokens : List TokenKind) (u : Unit {0}) → nothing_left tokens ≡ Some u → tokens ≡ []
 nothing_found [] u e = refl
 nothing_found (first ∷ rest) u e = absurd (none-some u e)
@@ -95,8 +104,7 @@ after_column_complete tokens c rest (not_null is_kind) = refl
 
 pub column_defs_found : (tokens : List TokenKind) (cs : List Column) (rest : List TokenKind) → leading_list leading_column_def after_column tokens ≡ Some (cs, rest) → IsListOf IsColumnDef (Symbol Comma) tokens cs rest
 column_defs_found tokens cs rest e =
-    parts_found leading_column_def after_column IsColumnDef (Symbol Comma) (IsListOf IsColumnDef (Symbol Comma)) column_def_found after_column_found
-    (λ _ _ _ d. last_part d) (λ _ _ _ _ _ d ds. more_parts d ds) (suc (length tokens)) tokens cs rest e
+    list_found leading_column_def after_column IsColumnDef (Symbol Comma) column_def_found after_column_found tokens cs rest e
 
 pub column_defs_complete : (tokens : List TokenKind) (cs : List Column) (rest : List TokenKind) → IsListOf IsColumnDef (Symbol Comma) tokens cs rest → after_keyword KNot rest ≡ None → after_column rest ≡ None →
     leading_list leading_column_def after_column tokens ≡ Some (cs, rest)
@@ -190,8 +198,7 @@ assignment_shorter _ _ rest (assignment {v = v} {tokens = tokens} l) = omega (ar
 
 pub settings_found : (tokens : List TokenKind) (list : List (List ℕ × Value)) (rest : List TokenKind) → leading_list leading_assignment (after_symbol Comma) tokens ≡ Some (list, rest) → AreSettings tokens list rest
 settings_found tokens list rest e =
-    parts_found leading_assignment (after_symbol Comma) IsAssignment (Symbol Comma) (IsListOf IsAssignment (Symbol Comma)) assignment_found (after_symbol-some Comma)
-    (λ _ _ _ d. last_part d) (λ _ _ _ _ _ d ds. more_parts d ds) (suc (length tokens)) tokens list rest e
+    list_found leading_assignment (after_symbol Comma) IsAssignment (Symbol Comma) assignment_found (after_symbol-some Comma) tokens list rest e
 
 pub settings_complete : (tokens : List TokenKind) (list : List (List ℕ × Value)) (rest : List TokenKind) → AreSettings tokens list rest → after_symbol Comma rest ≡ None → leading_list leading_assignment (after_symbol Comma) tokens ≡ Some (list, rest)
 settings_complete tokens list rest ds no_comma =
@@ -199,8 +206,7 @@ settings_complete tokens list rest ds no_comma =
 
 pub keys_found : (tokens : List TokenKind) (list : List (List ℕ × Value)) (rest : List TokenKind) → leading_list leading_assignment (after_keyword KAnd) tokens ≡ Some (list, rest) → AreKeys tokens list rest
 keys_found tokens list rest e =
-    parts_found leading_assignment (after_keyword KAnd) IsAssignment (Keyword KAnd) (IsListOf IsAssignment (Keyword KAnd)) assignment_found (after_keyword-some KAnd)
-    (λ _ _ _ d. last_part d) (λ _ _ _ _ _ d ds. more_parts d ds) (suc (length tokens)) tokens list rest e
+    list_found leading_assignment (after_keyword KAnd) IsAssignment (Keyword KAnd) assignment_found (after_keyword-some KAnd) tokens list rest e
 
 pub keys_complete : (tokens : List TokenKind) (list : List (List ℕ × Value)) (rest : List TokenKind) → AreKeys tokens list rest → after_keyword KAnd rest ≡ None → leading_list leading_assignment (after_keyword KAnd) tokens ≡ Some (list, rest)
 keys_complete tokens list rest ds no_and =
@@ -208,8 +214,7 @@ keys_complete tokens list rest ds no_and =
 
 pub literals_found : (tokens : List TokenKind) (list : List Value) (rest : List TokenKind) → leading_list leading_literal (after_symbol Comma) tokens ≡ Some (list, rest) → IsListOf IsLiteral (Symbol Comma) tokens list rest
 literals_found tokens list rest e =
-    parts_found leading_literal (after_symbol Comma) IsLiteral (Symbol Comma) (IsListOf IsLiteral (Symbol Comma)) literal_found (after_symbol-some Comma)
-    (λ _ _ _ d. last_part d) (λ _ _ _ _ _ d ds. more_parts d ds) (suc (length tokens)) tokens list rest e
+    list_found leading_literal (after_symbol Comma) IsLiteral (Symbol Comma) literal_found (after_symbol-some Comma) tokens list rest e
 
 pub literals_complete : (tokens : List TokenKind) (list : List Value) (rest : List TokenKind) → IsListOf IsLiteral (Symbol Comma) tokens list rest → after_symbol Comma rest ≡ None → leading_list leading_literal (after_symbol Comma) tokens ≡ Some (list, rest)
 literals_complete tokens list rest ds no_comma =

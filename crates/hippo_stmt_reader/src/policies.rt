@@ -46,16 +46,11 @@ pub fn authorize(alloc: Global, tokens: &[Token]) -> Result<Stmt, SyntaxFault>
     ensures { Gives (λ s. s) result (authorize_of (kinds tokens.now)) }
 {
     let (grant, rest) = authorization(alloc, tokens)?;
-    let Grant {
-        user,
-        purpose,
-        recipient,
-    } = grant;
     with_end(
         Stmt::Authorize {
-            user,
-            purpose,
-            recipient,
+            user: grant.user,
+            purpose: grant.purpose,
+            recipient: grant.recipient,
         },
         rest,
     )
@@ -67,16 +62,11 @@ pub fn deauthorize(alloc: Global, tokens: &[Token]) -> Result<Stmt, SyntaxFault>
     ensures { Gives (λ s. s) result (deauthorize_of (kinds tokens.now)) }
 {
     let (grant, rest) = authorization(alloc, tokens)?;
-    let Grant {
-        user,
-        purpose,
-        recipient,
-    } = grant;
     with_end(
         Stmt::Deauthorize {
-            user,
-            purpose,
-            recipient,
+            user: grant.user,
+            purpose: grant.purpose,
+            recipient: grant.recipient,
         },
         rest,
     )
@@ -153,18 +143,12 @@ pub fn allow(alloc: Global, tokens: &[Token]) -> Result<Stmt, SyntaxFault>
     let (disclosure, rest) = disclosed(alloc, tokens)?;
     let (item, rest) = with_item(alloc, rest)?;
     let (days, rest) = retention(rest)?;
-    let Disclosure {
-        purpose,
-        recipient,
-        table,
-        columns,
-    } = disclosure;
     with_end(
         Stmt::Allow {
-            purpose,
-            recipient,
-            table,
-            columns,
+            purpose: disclosure.purpose,
+            recipient: disclosure.recipient,
+            table: disclosure.table,
+            columns: disclosure.columns,
             item,
             days,
         },
@@ -178,18 +162,12 @@ pub fn revoke(alloc: Global, tokens: &[Token]) -> Result<Stmt, SyntaxFault>
     ensures { Gives (λ s. s) result (revoke_of (kinds tokens.now)) }
 {
     let (disclosure, rest) = disclosed(alloc, tokens)?;
-    let Disclosure {
-        purpose,
-        recipient,
-        table,
-        columns,
-    } = disclosure;
     with_end(
         Stmt::Revoke {
-            purpose,
-            recipient,
-            table,
-            columns,
+            purpose: disclosure.purpose,
+            recipient: disclosure.recipient,
+            table: disclosure.table,
+            columns: disclosure.columns,
         },
         rest,
     )

@@ -40,27 +40,16 @@ fn column_def(alloc: Global, tokens: &[Token]) -> Result<(Column, &[Token]), Syn
 {
     let (name, rest) = name(alloc, tokens)?;
     let (kind, rest) = column_kind(rest).ok_or(SyntaxFault::BadSyntax)?;
-    let Some(behind) = after_keyword(rest, Keyword::KNot) else {
-        let not_null = false;
-        return Ok((
-            Column {
-                name,
-                kind,
-                not_null,
-            },
-            rest,
-        ));
+    let (not_null, rest) = match after_keyword(rest, Keyword::KNot) {
+        Some(behind) => (true, expect_keyword(behind, Keyword::KNull)?),
+        None => (false, rest),
     };
-    let rest = expect_keyword(behind, Keyword::KNull)?;
-    let not_null = true;
-    Ok((
-        Column {
-            name,
-            kind,
-            not_null,
-        },
-        rest,
-    ))
+    let column = Column {
+        name,
+        kind,
+        not_null,
+    };
+    Ok((column, rest))
 }
 
 // The rule of a column of CREATE TABLE.
