@@ -93,26 +93,15 @@ impl<K: Eq + Hash + Drop, W: Drop> LastWords<K, W> {
     }
 }
 
-impl<K: Eq + Hash + Duplicate + Drop, W: Drop> LastWords<K, W> {
-    /// Adds what an entry says of a key, of which a copy is kept.
-    pub fn push_copy(&mut self, alloc: Global, key: &K, said: Said<W>) -> Result<(), Memory>
-        ensures ok { OnOk result ((other : K) → words_of K.eq self.new other
-            ≡ with_word (K.eq key.now other) said (words_of K.eq self.old other)) }
-        ensures err { OnErr result ((other : K) → words_of K.eq self.new other ≡ words_of K.eq self.old other) }
-    {
-        let key = key.copy(alloc)?;
-        self.push(alloc, key, said)
-    }
-}
-
 impl<K: Eq + Hash + Duplicate + Drop, W: Duplicate + Drop> LastWords<K, W> {
-    fn push_both(&mut self, alloc: Global, key: &K, number: u64, word: &W) -> Result<(), Memory>
+    fn push_copy(&mut self, alloc: Global, key: &K, number: u64, word: &W) -> Result<(), Memory>
         ensures ok { OnOk result ((other : K) → words_of K.eq self.new other
             ≡ with_word (K.eq key.now other) (record { number = number; word = word.now }) (words_of K.eq self.old other)) }
         ensures err { OnErr result ((other : K) → words_of K.eq self.new other ≡ words_of K.eq self.old other) }
     {
+        let key = key.copy(alloc)?;
         let word = word.copy(alloc)?;
-        self.push_copy(alloc, key, Said { number, word })
+        self.push(alloc, key, Said { number, word })
     }
 
     /// Takes back what was said last of each of these keys.
@@ -141,7 +130,7 @@ impl<K: Eq + Hash + Duplicate + Drop, W: Duplicate + Drop> LastWords<K, W> {
     {
         for place in 0..keys.len() {
             if !keys[..place].contains(&keys[place]) {
-                match self.push_both(alloc, &keys[place], number, word) {
+                match self.push_copy(alloc, &keys[place], number, word) {
                     Ok(()) => {}
                     Err(Memory) => {
                         self.pop_all(&keys[..place]);
