@@ -1,5 +1,7 @@
 -- The last word up to a number, found by halves among what was said, is that of the entries up to the number.
-use Rattle.std.proofs.Common.{◌≡◌, ◌∙◌, sym, refl, ap, arith, ℕ, zero, suc, ◌+◌, ◌-◌, ◌≤◌, ◌<◌, List, [], ◌∷◌, length, take, true, false, Option, Some, None, nat_le, filter_map, option_map, slice_get}
+use Rattle.std.proofs.Common.{◌≡◌, ◌∙◌, sym, refl, ap, arith, ℕ, zero, suc, ◌+◌, ◌-◌, ◌≤◌, ◌<◌, List, [], ◌∷◌, ◌++◌, length, take, max, Bool, true, false, subst, if◌then◌else◌, Option, Some, None, nat_le, filter_map, option_map, slice_get}
+use Rattle.std.proofs.Math.Nat.{max-eq_left, le-max_right}
+use Rattle.std.proofs.lemmas.List.Sorted.{IsNonDecreasingBy-push}
 use Rattle.std.proofs.lemmas.Option.{slice_get-get_or}
 use Rattle.std.proofs.lemmas.Bool.Decides.{nat_tests}
 use Rattle.std.specs.List.{enumerate_from, cons_option, slice_index_or}
@@ -8,7 +10,7 @@ use Rattle.std.specs.Option.{option_or}
 use Rattle.hippo_model.specs.declared.entry.Entry.{Entry}
 use Rattle.hippo_model.specs.Terms.{History}
 use Rattle.hippo_model.specs.Histories.{last_word}
-use Rattle.hippo_policy.specs.Words.{Said, numbered, latest}
+use Rattle.hippo_policy.specs.Words.{Said, last_number, no_earlier, numbered, latest}
 
 module _ {A : Type 0} where
   -- the last member
@@ -81,30 +83,46 @@ module _ {A : Type 0} (word : Entry → Option A) where
       let e : 0 + n ≡ n = omega arith in
       ap (λ (m : ℕ). latest m (numbered word history)) (sym e) ∙ latest-from 0 n history
 
-  -- each number is at least this one
-  abbrev IsAtLeast : ℕ → List (Said A) → Type 0
-  IsAtLeast number words = (k : ℕ) (d : Said A) → k < length words → number ≤ (slice_index_or words k d).number
+  -- each number is below this one
+  abbrev IsBelow : ℕ → List (Said A) → Type 0
+  IsBelow bound words = (k : ℕ) (d : Said A) → k < length words → (slice_index_or words k d).number < bound
 
-  IsAtLeast-with : (number : ℕ) (said : Option A) (later : List (Said A)) → IsAtLeast (number + 1) later → IsAtLeast number (with_said number said later)
-  IsAtLeast-with number None later least k d short = let more = least k d short in omega arith
-  IsAtLeast-with number (Some said) later least zero d short = omega arith
-  IsAtLeast-with number (Some said) later least (suc k) d short = let more = least k d (omega arith) in omega arith
+  IsBelow-with : (number bound : ℕ) (said : Option A) (later : List (Said A)) → number < bound → IsBelow bound later → IsBelow bound (with_said number said later)
+  IsBelow-with number bound None later less below k d short = below k d short
+  IsBelow-with number bound (Some said) later less below zero d short = less
+  IsBelow-with number bound (Some said) later less below (suc k) d short = below k d (omega arith)
 
-  IsAtLeast-numbered : (number : ℕ) (history : History) → IsAtLeast number (numbered_from number history)
-  IsAtLeast-numbered number [] k d short = absurd (omega arith)
-  IsAtLeast-numbered number (entry ∷ later) k d short = IsAtLeast-with number (word entry) (numbered_from (number + 1) later) (IsAtLeast-numbered (number + 1) later) k d short
+  IsBelow-numbered : (number : ℕ) (history : History) → IsBelow (number + length history) (numbered_from number history)
+  IsBelow-numbered number [] k d short = absurd (omega arith)
+  IsBelow-numbered number (entry ∷ later) k d short =
+      let below : IsBelow (number + length (entry ∷ later)) (numbered_from (number + 1) later) = λ k d short. let less = IsBelow-numbered (number + 1) later k d short in omega arith in
+      IsBelow-with number (number + length (entry ∷ later)) (word entry) (numbered_from (number + 1) later) (omega arith) below k d short
 
-  rises-with : (number : ℕ) (said : Option A) (later : List (Said A)) → IsAtLeast (number + 1) later → IsNonDecreasingBy (λ (s : Said A). s.number) later → IsNonDecreasingBy (λ (s : Said A). s.number) (with_said number said later)
-  rises-with number None later least rises i j d low high = rises i j d low high
-  rises-with number (Some said) later least rises zero zero d low high = omega arith
-  rises-with number (Some said) later least rises zero (suc j) d low high = let more = least j d (omega arith) in omega arith
-  rises-with number (Some said) later least rises (suc i) zero d low high = absurd (omega arith)
-  rises-with number (Some said) later least rises (suc i) (suc j) d low high = rises i j d (omega arith) (omega arith)
+  last_number-below : (bound : ℕ) (words : List (Said A)) → IsBelow (bound + 1) words → last_number words ≤ bound
+  last_number-below bound [] below = omega arith
+  last_number-below bound (said ∷ later) below =
+      let less = below (length (said ∷ later) - 1) said (omega arith) in
+      rw (slice_get-get_or (said ∷ later) (length (said ∷ later) - 1) said (omega arith)) (omega arith)
 
-  rises-from : (number : ℕ) (history : History) → IsNonDecreasingBy (λ (s : Said A). s.number) (numbered_from number history)
-  rises-from number [] i j d low high = absurd (omega arith)
-  rises-from number (entry ∷ later) i j d low high = rises-with number (word entry) (numbered_from (number + 1) later) (IsAtLeast-numbered (number + 1) later) (rises-from (number + 1) later) i j d low high
+  -- what is said next in a history keeps its number
+  pub no_earlier-numbered : (history : History) (said : Said A) → said.number ≡ length history + 1 → no_earlier (numbered word history) said ≡ said
+  no_earlier-numbered history said next =
+      let below : IsBelow (length history + 1) (numbered word history) = λ k d short. let less = IsBelow-numbered 1 history k d short in omega arith in
+      let least = last_number-below (length history) (numbered word history) below in
+      let same : max said.number (last_number (numbered word history)) ≡ said.number = max-eq_left (omega arith) in
+      ap (λ (number : ℕ). record { number = number; word = said.word }) same
 
-  -- the numbers rise
-  pub rises-numbered : (history : History) → IsNonDecreasingBy (λ (s : Said A). s.number) (numbered word history)
-  rises-numbered history = rises-from 1 history
+module _ {A : Type 0} where
+  -- where the numbers never fall, they still do not when a word is added that is no earlier
+  pub rises-no_earlier : (words : List (Said A)) (said : Said A) → IsNonDecreasingBy (λ (s : Said A). s.number) words → IsNonDecreasingBy (λ (s : Said A). s.number) (words ++ no_earlier words said ∷ [])
+  rises-no_earlier words said rises =
+      IsNonDecreasingBy-push (λ (s : Said A). s.number) words (no_earlier words said) rises
+      (λ d some. rw (slice_get-get_or words (length words - 1) d (omega arith)) (le-max_right said.number (slice_index_or words (length words - 1) d).number))
+
+  -- and so where it is added or not
+  pub rises-pushed : (added : Bool) (words items : List (Said A)) (said : Said A) (number : ℕ) → number ≡ max said.number (last_number words) → IsNonDecreasingBy (λ (s : Said A). s.number) words
+      → items ≡ (if added then words ++ record { number = number; word = said.word } ∷ [] else words) → IsNonDecreasingBy (λ (s : Said A). s.number) items
+  rises-pushed true words items said number is rises pushed =
+      let same : items ≡ words ++ no_earlier words said ∷ [] = pushed ∙ ap (λ (n : ℕ). words ++ record { number = n; word = said.word } ∷ []) is in
+      subst (λ (items : List (Said A)). IsNonDecreasingBy (λ (s : Said A). s.number) items) (sym same) (rises-no_earlier words said rises)
+  rises-pushed false words items said number is rises pushed = subst (λ (items : List (Said A)). IsNonDecreasingBy (λ (s : Said A). s.number) items) (sym pushed) rises

@@ -1,5 +1,5 @@
 -- What the entries of a history say of a matter, each with its number.
-use Rattle.std.specs.Prelude.{ℕ, ◌-◌, Bool, List, [], ◌∷◌, ◌++◌, length, take, Option, if◌then◌else◌, None, nat_le, filter_map, option_map}
+use Rattle.std.specs.Prelude.{ℕ, ◌-◌, max, slice_get, Bool, List, [], ◌∷◌, ◌++◌, length, take, Option, if◌then◌else◌, None, nat_le, filter_map, option_map}
 use Rattle.std.specs.Bool.{then_some}
 use Rattle.std.specs.List.{enumerate_from}
 use Rattle.std.specs.Option.{option_or, option_map_or}
@@ -22,11 +22,19 @@ latest n (said ∷ later) = option_or (latest n later) (then_some (nat_le said.n
 
 -- what is kept at a key
 abbrev pub words_of : {K A : Type 0} → (K → K → Bool) → LastWords K A → K → List (Said A)
-words_of same kept key = option_map_or (λ words. words.items) (get same kept.words key) []
+words_of same kept key = option_map_or (λ words. words.said.items) (get same kept.words key) []
+
+-- the number of what was said last
+abbrev pub last_number : {A : Type 0} → List (Said A) → ℕ
+last_number words = option_map_or (λ said. said.number) (slice_get words (length words - 1)) 0
+
+-- what is said next counts as said no earlier; the entries of a history have rising numbers, and change nothing by this
+abbrev pub no_earlier : {A : Type 0} → List (Said A) → Said A → Said A
+no_earlier words said = record { number = max said.number (last_number words); word = said.word }
 
 -- one word more, where something is said
 abbrev pub with_word : {A : Type 0} → Bool → Said A → List (Said A) → List (Said A)
-with_word is_said said words = if is_said then words ++ said ∷ [] else words
+with_word is_said said words = if is_said then words ++ no_earlier words said ∷ [] else words
 
 -- the last word taken back, where something was said
 abbrev pub without_word : {A : Type 0} → Bool → List (Said A) → List (Said A)

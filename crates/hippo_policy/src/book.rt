@@ -86,9 +86,9 @@ impl PolicyBook {
         ensures err { OnErr result (IsAsBefore self.old self.new) }
     {
         let key = KeyName::owned(alloc, item)?;
-        self.items
-            .push_copy(alloc, &key, Said { number, word: kind })?;
-        self.remember(Matter::Item(key));
+        let last = KeyName::owned(alloc, item)?;
+        self.items.push(alloc, key, Said { number, word: kind })?;
+        self.remember(Matter::Item(last));
         Ok(())
     }
 
@@ -104,9 +104,9 @@ impl PolicyBook {
         ensures err { OnErr result (IsAsBefore self.old self.new) }
     {
         let key = ChoiceKey::owned(alloc, subject, item)?;
-        self.choices
-            .push_copy(alloc, &key, Said { number, word: yes })?;
-        self.remember(Matter::Choice(key));
+        let last = ChoiceKey::owned(alloc, subject, item)?;
+        self.choices.push(alloc, key, Said { number, word: yes })?;
+        self.remember(Matter::Choice(last));
         Ok(())
     }
 
@@ -114,14 +114,19 @@ impl PolicyBook {
         &mut self,
         alloc: Global,
         number: u64,
-        key: UserKey<'static>,
+        user: &Name,
+        purpose: &Name,
+        recipient: &Name,
         word: Authorization,
     ) -> Result<(), Memory>
-        ensures ok { OnOk result (AddsUser self.old self.new number key.entry word) }
+        ensures ok { OnOk result (AddsUser self.old self.new number
+            (record { user = user.now; purpose = purpose.now; recipient = recipient.now }) word) }
         ensures err { OnErr result (IsAsBefore self.old self.new) }
     {
-        self.users.push_copy(alloc, &key, Said { number, word })?;
-        self.remember(Matter::User(key));
+        let key = UserKey::owned(alloc, user, purpose, recipient)?;
+        let last = UserKey::owned(alloc, user, purpose, recipient)?;
+        self.users.push(alloc, key, Said { number, word })?;
+        self.remember(Matter::User(last));
         Ok(())
     }
 
@@ -136,8 +141,7 @@ impl PolicyBook {
         ensures ok { OnOk result (Adds self.old self.new number (Authorize user.now purpose.now recipient.now)) }
         ensures err { OnErr result (IsAsBefore self.old self.new) }
     {
-        let key = UserKey::owned(alloc, user, purpose, recipient)?;
-        self.add_user(alloc, number, key, Authorization::Yes)
+        self.add_user(alloc, number, user, purpose, recipient, Authorization::Yes)
     }
 
     fn add_deauthorize(
@@ -151,8 +155,14 @@ impl PolicyBook {
         ensures ok { OnOk result (Adds self.old self.new number (Deauthorize user.now purpose.now recipient.now)) }
         ensures err { OnErr result (IsAsBefore self.old self.new) }
     {
-        let key = UserKey::owned(alloc, user, purpose, recipient)?;
-        self.add_user(alloc, number, key, Authorization::No(number))
+        self.add_user(
+            alloc,
+            number,
+            user,
+            purpose,
+            recipient,
+            Authorization::No(number),
+        )
     }
 
     fn add_rule(

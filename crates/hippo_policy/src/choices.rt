@@ -1,12 +1,8 @@
 //! The choices of patients, seen from an entry number.
 ghost use Rattle.std.specs.Prelude.{◌≡◌, ℤ, take};
-ghost use Rattle.std.specs.List.Sorted.{IsNonDecreasingBy};
 ghost use Rattle.hippo_values.specs.declared.names.Name.{Name as NameValue};
 ghost use Rattle.hippo_model.specs.Terms.{History};
 ghost use Rattle.hippo_model.specs.Rules.{choice_at};
-ghost use Rattle.hippo_policy.specs.declared.keys.ChoiceKey.{ChoiceKey as Key};
-ghost use Rattle.hippo_policy.specs.Keys.{same_choice};
-ghost use Rattle.hippo_policy.specs.Words.{words_of};
 ghost use Rattle.hippo_policy.specs.Books.{StandsFor, choice_kept};
 
 use crate::book::PolicyBook;
@@ -17,7 +13,6 @@ use hippo_values::Name;
 pub struct ChoicesAt<'a> {
     book: &'a PolicyBook,
     n: u64,
-    ghost rises: { (key : Key) → IsNonDecreasingBy (λ said. said.number) (words_of same_choice book.now.choices key) },
 }
 
 impl<'a> ChoiceView for ChoicesAt<'a> {
@@ -31,7 +26,6 @@ impl<'a> ChoiceView for ChoicesAt<'a> {
 impl PolicyBook {
     /// The choices of patients among the first `n` entries; takes no memory.
     pub fn choices_at(&self, n: u64) -> ChoicesAt<'_>
-        requires { (history : History) × StandsFor self.now history }
         ensures { (history : History) → StandsFor self.now history
             → (subject : ℤ) (item : NameValue) → ⟦<ChoicesAt<'static> as ChoiceView>⟧.choices result subject item
             ≡ choice_at (take n history) subject item }

@@ -197,44 +197,15 @@ pub struct CellKey<'a> {
 
 impl<'a> Duplicate for CellKey<'a> {
     fn copy(&self, alloc: Global) -> Result<CellKey<'a>, Memory> {
-        let table = self.table.copy(alloc)?;
+        let table = TableKey::owned(
+            alloc,
+            self.table.purpose.name(),
+            self.table.recipient.name(),
+            self.table.table.name(),
+        )?;
         Ok(CellKey {
             table,
             column: self.column,
         })
-    }
-}
-
-impl<'a> Duplicate for KeyName<'a> {
-    fn copy(&self, alloc: Global) -> Result<KeyName<'a>, Memory> {
-        KeyName::owned(alloc, self.name())
-    }
-}
-
-impl<'a> Duplicate for ChoiceKey<'a> {
-    fn copy(&self, alloc: Global) -> Result<ChoiceKey<'a>, Memory> {
-        ChoiceKey::owned(alloc, &self.subject, self.item.name())
-    }
-}
-
-impl<'a> Duplicate for UserKey<'a> {
-    fn copy(&self, alloc: Global) -> Result<UserKey<'a>, Memory> {
-        UserKey::owned(
-            alloc,
-            self.user.name(),
-            self.purpose.name(),
-            self.recipient.name(),
-        )
-    }
-}
-
-impl<'a> Duplicate for TableKey<'a> {
-    fn copy(&self, alloc: Global) -> Result<TableKey<'a>, Memory> {
-        TableKey::owned(
-            alloc,
-            self.purpose.name(),
-            self.recipient.name(),
-            self.table.name(),
-        )
     }
 }

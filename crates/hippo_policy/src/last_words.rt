@@ -5,8 +5,9 @@ ghost use Rattle.std.specs.List.Sorted.{IsNonDecreasingBy};
 ghost use Rattle.hippo_model.specs.Terms.{History};
 ghost use Rattle.hippo_model.specs.Histories.{last_word};
 ghost use Rattle.hippo_model.specs.declared.entry.Entry.{Entry};
-ghost use Rattle.hippo_policy.specs.Words.{Said, words_of, with_word, without_word, numbered, latest};
+ghost use Rattle.hippo_policy.specs.Words.{Said, words_of, no_earlier, with_word, without_word, numbered, latest};
 
+use crate::sayings::Sayings;
 use hippo_values::{Duplicate, Memory};
 use std::alloc::Global;
 use std::collections::HashMap;
@@ -33,7 +34,7 @@ fn latest<W>(words: &[Said<W>], n: u64) -> Option<&W>
 /// For each key, what was said of it, in the order of the entries.
 #[derive(Drop)]
 pub struct LastWords<K: Eq + Hash, W> {
-    words: HashMap<K, Vec<Said<W>>>,
+    words: HashMap<K, Sayings<W>>,
 }
 
 impl<K: Eq + Hash + Drop, W: Drop> LastWords<K, W> {
@@ -50,12 +51,11 @@ impl<K: Eq + Hash + Drop, W: Drop> LastWords<K, W> {
     pub fn at(&self, n: u64, key: &K) -> Option<&W>
         ensures history { (word : Entry → Option W) (history : History) → words_of K.eq self.now key.now ≡ numbered word history
             → option_copied result ≡ last_word word (take n history) }
-        ensures latest { IsNonDecreasingBy (λ said. said.number) (words_of K.eq self.now key.now)
-            → option_copied result ≡ latest n (words_of K.eq self.now key.now) }
+        ensures latest { option_copied result ≡ latest n (words_of K.eq self.now key.now) }
     {
         match self.words.get(key) {
             None => None,
-            Some(words) => latest(words, n),
+            Some(words) => latest(words.as_slice(), n),
         }
     }
 
@@ -74,10 +74,10 @@ impl<K: Eq + Hash + Drop, W: Drop> LastWords<K, W> {
     }
 
     fn begin(&mut self, alloc: Global, key: K, said: Said<W>) -> Result<(), Memory>
-        ensures ok { OnOk result ((other : K) → words_of K.eq self.new other ≡ (if K.eq key other then said ∷ [] else words_of K.eq self.old other)) }
+        ensures ok { OnOk result ((other : K) → words_of K.eq self.new other ≡ (if K.eq key other then no_earlier [] said ∷ [] else words_of K.eq self.old other)) }
         ensures err { OnErr result ((other : K) → words_of K.eq self.new other ≡ words_of K.eq self.old other) }
     {
-        let mut words = Vec::new(alloc);
+        let mut words = Sayings::new(alloc);
         words.push(said)?;
         self.words.insert(key, words)?;
         Ok(())
@@ -88,31 +88,20 @@ impl<K: Eq + Hash + Drop, W: Drop> LastWords<K, W> {
         ensures { (other : K) → words_of K.eq self.new other ≡ without_word (K.eq key.now other) (words_of K.eq self.old other) }
     {
         if let Some(words) = self.words.get_mut(key) {
-            let _ = words.pop();
+            words.pop();
         }
     }
 }
 
-impl<K: Eq + Hash + Duplicate + Drop, W: Drop> LastWords<K, W> {
-    /// Adds what an entry says of a key, of which a copy is kept.
-    pub fn push_copy(&mut self, alloc: Global, key: &K, said: Said<W>) -> Result<(), Memory>
-        ensures ok { OnOk result ((other : K) → words_of K.eq self.new other
-            ≡ with_word (K.eq key.now other) said (words_of K.eq self.old other)) }
-        ensures err { OnErr result ((other : K) → words_of K.eq self.new other ≡ words_of K.eq self.old other) }
-    {
-        let key = key.copy(alloc)?;
-        self.push(alloc, key, said)
-    }
-}
-
 impl<K: Eq + Hash + Duplicate + Drop, W: Duplicate + Drop> LastWords<K, W> {
-    fn push_both(&mut self, alloc: Global, key: &K, number: u64, word: &W) -> Result<(), Memory>
+    fn push_copy(&mut self, alloc: Global, key: &K, number: u64, word: &W) -> Result<(), Memory>
         ensures ok { OnOk result ((other : K) → words_of K.eq self.new other
             ≡ with_word (K.eq key.now other) (record { number = number; word = word.now }) (words_of K.eq self.old other)) }
         ensures err { OnErr result ((other : K) → words_of K.eq self.new other ≡ words_of K.eq self.old other) }
     {
+        let key = key.copy(alloc)?;
         let word = word.copy(alloc)?;
-        self.push_copy(alloc, key, Said { number, word })
+        self.push(alloc, key, Said { number, word })
     }
 
     /// Takes back what was said last of each of these keys.
@@ -141,7 +130,7 @@ impl<K: Eq + Hash + Duplicate + Drop, W: Duplicate + Drop> LastWords<K, W> {
     {
         for place in 0..keys.len() {
             if !keys[..place].contains(&keys[place]) {
-                match self.push_both(alloc, &keys[place], number, word) {
+                match self.push_copy(alloc, &keys[place], number, word) {
                     Ok(()) => {}
                     Err(Memory) => {
                         self.pop_all(&keys[..place]);

@@ -9,6 +9,7 @@ mod last_words;
 pub mod laws;
 mod lookups;
 mod ruling;
+mod sayings;
 mod verdicts;
 
 pub use book::PolicyBook;

@@ -3,10 +3,7 @@ ghost use Rattle.std.specs.Prelude.{◌≡◌, ℕ, take, option_copied, option_
 ghost use Rattle.hippo_model.specs.Terms.{History};
 ghost use Rattle.hippo_model.specs.Histories.{item_at};
 ghost use Rattle.hippo_model.specs.Rules.{rule_at, choice_at, authorized_at};
-ghost use Rattle.std.specs.List.Sorted.{IsNonDecreasingBy};
 ghost use Rattle.hippo_policy.specs.Books.{StandsFor, choice_kept};
-ghost use Rattle.hippo_policy.specs.Keys.{same_choice};
-ghost use Rattle.hippo_policy.specs.Words.{words_of};
 ghost use Rattle.hippo_policy.specs.Rulings.{ruling_of, asks_opt_in, opt_in_at, is_opt_in};
 
 use crate::book::PolicyBook;
@@ -40,8 +37,7 @@ impl PolicyBook {
 
     pub(crate) fn choice_of(&self, n: u64, subject: &i64, item: &Name) -> Option<bool>
         ensures history { (history : History) → StandsFor self.now history → result ≡ choice_at (take n history) subject.now item.now }
-        ensures kept { IsNonDecreasingBy (λ said. said.number) (words_of same_choice self.now.choices (record { subject = subject.now; item = item.now }))
-            → result ≡ choice_kept self.now n subject.now item.now }
+        ensures kept { result ≡ choice_kept self.now n subject.now item.now }
     {
         self.choices.at(n, &ChoiceKey::lent(subject, item)).copied()
     }

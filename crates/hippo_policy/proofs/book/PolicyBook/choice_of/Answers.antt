@@ -9,8 +9,3 @@ returns-clause-history c history kept =
     let key : ChoiceKey = record { subject = c.args.subject.now; item = c.args.item.now } in
     let found = rw c.lent.ensures at c.at.ensures.history in
     c.copied.ensures ∙ found (choice_word key) history (kept.choices key)
-
-pub returns-clause-kept : goal.returns-clause-kept
-returns-clause-kept c rises =
-    let found = rw c.lent.ensures at c.at.ensures.latest in
-    c.copied.ensures ∙ found rises

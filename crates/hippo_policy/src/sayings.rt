@@ -1,0 +1,62 @@
+//! What the entries of a history say of one matter, with their numbers.
+ghost use Rattle.std.specs.Prelude.{◌≡◌, [], ◌∷◌, ◌++◌, ◌-◌, length, take, OnOk, OnErr};
+ghost use Rattle.std.specs.List.Sorted.{IsNonDecreasingBy};
+
+use crate::last_words::Said;
+use hippo_values::Memory;
+use std::alloc::Global;
+
+/// What was said of one matter, in the order of the entries: the numbers never fall.
+#[derive(Drop)]
+pub struct Sayings<W> {
+    said: Vec<Said<W>>,
+    ghost rises: { IsNonDecreasingBy (λ one. one.number) said.items },
+}
+
+impl<W: Drop> Sayings<W> {
+    ghost use Rattle.hippo_policy.specs.Words.{last_number, no_earlier};
+
+    /// Nothing said; takes no memory.
+    pub fn new(alloc: Global) -> Sayings<W>
+        ensures { result.said.items ≡ [] }
+    {
+        Sayings {
+            said: Vec::new(alloc),
+        }
+    }
+
+    /// What was said, with numbers that never fall.
+    pub fn as_slice(&self) -> &[Said<W>]
+        ensures said { result.now ≡ self.now.said.items }
+        ensures rises { IsNonDecreasingBy (λ one. one.number) result.now }
+    {
+        self.said.as_slice()
+    }
+
+    fn last_number(&self) -> u64
+        ensures { result ≡ last_number self.now.said.items }
+    {
+        match self.said.last() {
+            None => 0,
+            Some(said) => said.number,
+        }
+    }
+
+    /// Adds what an entry says. It counts as said no earlier than what was said before it.
+    pub fn push(&mut self, said: Said<W>) -> Result<(), Memory>
+        ensures ok { OnOk result (self.new.said.items ≡ self.old.said.items ++ no_earlier self.old.said.items said ∷ []) }
+        ensures err { OnErr result (self.new.said.items ≡ self.old.said.items) }
+    {
+        let Said { number, word } = said;
+        let number = number.max(self.last_number());
+        self.said.push(Said { number, word })?;
+        Ok(())
+    }
+
+    /// Takes back what was said last.
+    pub fn pop(&mut self)
+        ensures { self.new.said.items ≡ take (length self.old.said.items - 1) self.old.said.items }
+    {
+        let _ = self.said.pop();
+    }
+}
