@@ -20,8 +20,8 @@ mod table_fault;
 
 pub use audit::{Audit, Flag, Flags, Pair, Pairs, SharedRow, SharedTuple};
 pub use born_row::BornRow;
-pub use changes::{Change, changed_condition};
 pub use cells::{Answer, Cell, CellRow, Cells};
+pub use changes::{Change, changed_condition};
 pub use combo::{ChoiceView, Combo, Plan, Sizes};
 pub use entry::{Act, Entry, History, ItemKind};
 pub use lent::{Lent, LentSchemas, Sets};
