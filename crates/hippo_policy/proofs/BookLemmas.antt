@@ -24,6 +24,18 @@ use Rattle.hippo_policy.specs.Words.{LastWords, words_of, with_word}
 use Rattle.hippo_policy.specs.Books.{StandsFor, IsAsBefore, Adds, AddsUser, AddsRule, rule_word, choice_word, user_word, item_word, cell_keys, is_silent, cell_of}
 use Rattle.hippo_policy.proofs.AddLemmas.{IsKept-silent, IsKept-spoken}
 
+-- an act that is none of those that speak says nothing
+pub is_silent-rest : (act : Act) → ((item : Name) (kind : ItemKind) → ¬ (act ≡ Item item kind)) → ((user purpose recipient : Name) → ¬ (act ≡ Authorize user purpose recipient)) → ((user purpose recipient : Name) → ¬ (act ≡ Deauthorize user purpose recipient))
+    → ((purpose recipient table : Name) (columns : List Place) (item : Option Name) (days : Option ℕ) → ¬ (act ≡ Allow purpose recipient table columns item days))
+    → ((purpose recipient table : Name) (columns : List Place) → ¬ (act ≡ Revoke purpose recipient table columns)) → ((subject : ℤ) (item : Name) (agreed : Bool) → ¬ (act ≡ Choice subject item agreed)) → is_silent act ≡ true
+is_silent-rest (Item item kind) i a d w r c = absurd (i item kind refl)
+is_silent-rest (Authorize user purpose recipient) i a d w r c = absurd (a user purpose recipient refl)
+is_silent-rest (Deauthorize user purpose recipient) i a d w r c = absurd (d user purpose recipient refl)
+is_silent-rest (Allow purpose recipient table columns item days) i a d w r c = absurd (w purpose recipient table columns item days refl)
+is_silent-rest (Revoke purpose recipient table columns) i a d w r c = absurd (r purpose recipient table columns refl)
+is_silent-rest (Choice subject item agreed) i a d w r c = absurd (c subject item agreed refl)
+is_silent-rest act i a d w r c = refl
+
 pub and-assoc : (a b c : Bool) → (a && b && c) ≡ (a && (b && c))
 and-assoc false b c = refl
 and-assoc true b c = refl

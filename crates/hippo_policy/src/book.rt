@@ -230,19 +230,19 @@ impl PolicyBook {
         ensures err { OnErr result (IsAsBefore self.old self.new) }
         ensures deletes { is_silent entry.now.act ≡ true → IsOk result }
     {
-        let number = entry.seq;
+        let seq = entry.seq;
         match &entry.act {
-            Act::Item { item, kind } => self.add_item(alloc, number, item, *kind),
+            Act::Item { item, kind } => self.add_item(alloc, seq, item, *kind),
             Act::Authorize {
                 user,
                 purpose,
                 recipient,
-            } => self.add_authorize(alloc, number, user, purpose, recipient),
+            } => self.add_authorize(alloc, seq, user, purpose, recipient),
             Act::Deauthorize {
                 user,
                 purpose,
                 recipient,
-            } => self.add_deauthorize(alloc, number, user, purpose, recipient),
+            } => self.add_deauthorize(alloc, seq, user, purpose, recipient),
             Act::Allow {
                 purpose,
                 recipient,
@@ -250,25 +250,15 @@ impl PolicyBook {
                 columns,
                 item,
                 days,
-            } => self.add_allow(
-                alloc, number, purpose, recipient, table, columns, item, *days,
-            ),
+            } => self.add_allow(alloc, seq, purpose, recipient, table, columns, item, *days),
             Act::Revoke {
                 purpose,
                 recipient,
                 table,
                 columns,
-            } => self.add_revoke(alloc, number, purpose, recipient, table, columns),
-            Act::Choice { subject, item, yes } => {
-                self.add_choice(alloc, number, subject, item, *yes)
-            }
-            Act::Create(_) => Ok(self.pass_over()),
-            Act::Insert { .. } => Ok(self.pass_over()),
-            Act::Update { .. } => Ok(self.pass_over()),
-            Act::Delete { .. } => Ok(self.pass_over()),
-            Act::Purpose(_) => Ok(self.pass_over()),
-            Act::Recipient(_) => Ok(self.pass_over()),
-            Act::Asked { .. } => Ok(self.pass_over()),
+            } => self.add_revoke(alloc, seq, purpose, recipient, table, columns),
+            Act::Choice { subject, item, yes } => self.add_choice(alloc, seq, subject, item, *yes),
+            _ => Ok(self.pass_over()),
         }
     }
 

@@ -10,6 +10,7 @@ use hippo_model::ChoiceView;
 use hippo_values::Name;
 
 /// The choices of patients among the first so many entries.
+#[derive(Drop)]
 pub struct ChoicesAt<'a> {
     book: &'a PolicyBook,
     n: u64,
