@@ -1,0 +1,4 @@
+pub mod DifferentLemmas
+pub mod KeptLemmas
+pub mod FoundLemmas
+pub mod CellOrder
