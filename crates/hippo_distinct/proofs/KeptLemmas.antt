@@ -13,7 +13,7 @@ use Rattle.hippo_model.specs.Forms.{different}
 use Rattle.hippo_distinct.specs.declared.keys.CellKey.{CellKey}
 use Rattle.hippo_distinct.specs.declared.deduplication.DifferentRows.{DifferentRows}
 use Rattle.hippo_distinct.specs.RowKeys.{cell_key, row_key}
-use Rattle.hippo_distinct.specs.DistinctRows.{stands_in, KeyOrder, HasSeen, AreDifferent, AreWithin}
+use Rattle.hippo_distinct.specs.DistinctRows.{stands_in, KeyOrder, AreDifferent, AreWithin}
 use Rattle.hippo_distinct.proofs.DifferentLemmas.{if_new, different-push, different-push-length, different-append, stands-push, stands-push-known}
 
 then_equal : (first rest : Ordering) → is_eq (ordering_then first rest) ≡ (is_eq first && is_eq rest)

@@ -1,2 +1,3 @@
 pub mod RowKeys
 pub mod DistinctRows
+pub mod DistinctNeeds

@@ -3,5 +3,6 @@
 
 mod deduplication;
 mod keys;
+pub mod laws;
 
 pub use deduplication::distinct;

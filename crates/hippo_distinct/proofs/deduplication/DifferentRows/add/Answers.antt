@@ -1,9 +1,8 @@
 -- A row that was found before, or a new one.
-use Rattle.std.proofs.Common.{◌≡◌, sym, ap, subst, ◌∙◌, List, Bool, true, cond}
+use Rattle.std.proofs.Common.{sym, ap, ◌∙◌, List, true, cond}
 use Rattle.std.specs.BTreeSet as tree
 use Rattle.std.specs.Ordering.{is_eq}
 use Rattle.hippo_distinct.specs.declared.keys.CellKey.{CellKey}
-use Rattle.hippo_distinct.specs.RowKeys.{row_key}
 use Rattle.hippo_distinct.proofs.CellOrder.{key_order, agrees}
 use Rattle.hippo_distinct.proofs.KeptLemmas.{known, added}
 use Rattle.hippo_distinct.proofs.deduplication.DifferentRows.add.Goals as goal

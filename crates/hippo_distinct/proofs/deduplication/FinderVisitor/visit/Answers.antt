@@ -1,6 +1,6 @@
 -- One combination more.
 use Rattle.std.proofs.Common.{◌≡◌, ◌≤◌, length, ◌++◌, List, [], ◌∷◌, sym, ap, subst, ◌∙◌, append_assoc, arith}
-use Rattle.hippo_model.specs.Terms.{Combination, ShownRow}
+use Rattle.hippo_model.specs.Terms.{ShownRow}
 use Rattle.hippo_eval.specs.Answering.{masked_rows}
 use Rattle.hippo_distinct.specs.DistinctRows.{AreDifferent, AreWithin}
 use Rattle.hippo_distinct.proofs.CellOrder.{key_order, agrees}
