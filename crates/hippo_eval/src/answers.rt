@@ -63,8 +63,8 @@ impl<'a, C: ChoiceView> Visitor for Finder<'a, C> {
     }
 }
 
-// What is answered where these are the rows, up to one beyond the limit.
-fn limited(rows: Answer, limit: usize) -> Result<Answer, EvalFault>
+/// What is answered where these are the rows of an answer, up to one beyond the limit.
+pub fn limited(rows: Answer, limit: usize) -> Result<Answer, EvalFault>
     ensures { (whole : List ShownRow) → rows ≡ take (limit + 1) whole → IsAnswered limit whole result }
 {
     if rows.len() > limit {

@@ -8,7 +8,7 @@ mod conditions;
 mod queries;
 mod walks;
 
-pub use answers::{ANSWER_LIMIT, EvalFault, evaluate};
+pub use answers::{ANSWER_LIMIT, EvalFault, evaluate, limited};
 pub use audit_conditions::unmasked_condition;
 pub use cells::{LentCell, cell};
 pub use conditions::test;
