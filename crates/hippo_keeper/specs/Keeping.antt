@@ -97,7 +97,8 @@ pub record Stays (before after : KeeperState) : Type 0 where
   pub some : ∥ ((store : Store) × after.survives store) ∥₁
 
 -- what a start with a name does
-pub record Starts {A : Type 0} (name : List ℕ) (result : Result A KeeperFault) (before after : KeeperState) : Type 0 where
+pub record Starts {A : Type 0} (name : List ℕ) (result : Result A KeeperFault)
+    (before after : KeeperState) : Type 0 where
   pub answers : Answers (is_ok result) (wants_memory result) result before after
   pub ok : OnOk result (after.tells → HasFound (before.finds name) after)
 
