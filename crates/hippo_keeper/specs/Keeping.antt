@@ -59,8 +59,8 @@ pub record CountsFaults {A : Type 0} (result : Result A KeeperFault) (before aft
   pub unfailed : has_failed result ≡ false → after ≡ before
   pub rises : before ≤ after
 
--- after any answer: a sound keeper, started and closed as said, spent where the call failed
-pub record Answers {A : Type 0} (is_started is_closed : Bool) (result : Result A KeeperFault)
+-- after a call, whatever it answers: a sound keeper, started and closed as said, spent where the call failed
+pub record IsAfterCall {A : Type 0} (is_started is_closed : Bool) (result : Result A KeeperFault)
     (before after : KeeperState) : Type 0 where
   pub is_sound : after.sound
   pub started_is : after.started ≡ is_started
@@ -99,13 +99,13 @@ pub record Stays (before after : KeeperState) : Type 0 where
 -- what a start with a name does
 pub record Starts {A : Type 0} (name : List ℕ) (result : Result A KeeperFault)
     (before after : KeeperState) : Type 0 where
-  pub answers : Answers (is_ok result) (wants_memory result) result before after
+  pub call : IsAfterCall (is_ok result) (wants_memory result) result before after
   pub ok : OnOk result (after.tells → HasFound (before.finds name) after)
 
 -- what an append does
 pub record Appends {A : Type 0} (entry : StoredEntry) (result : Result A KeeperFault)
     (before after : KeeperState) : Type 0 where
-  pub answers : Answers true false result before after
+  pub call : IsAfterCall true false result before after
   pub ok : OnOk result (after.tells → HasOneMore entry before after)
   pub failed : IsTrue (has_failed result) → after.tells → MayHaveOneMore entry before after
   pub memory : IsTrue (wants_memory result) → after.tells → Stays before after

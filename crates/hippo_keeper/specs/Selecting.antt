@@ -3,7 +3,7 @@ use Rattle.std.specs.Prelude.{◌≡◌, ℕ, ◌≤◌, Bool, true, false, ◌&
 use Rattle.hippo_values.specs.declared.moments.Moment.{Moment}
 use Rattle.hippo_values.specs.declared.names.Name.{Name}
 use Rattle.hippo_model.specs.declared.stored.StoredEntry.{StoredEntry}
-use Rattle.hippo_keeper.specs.Keeping.{Store, RisesAbove, KeeperState, Answers, Stays}
+use Rattle.hippo_keeper.specs.Keeping.{Store, RisesAbove, KeeperState, IsAfterCall, Stays}
 use Rattle.hippo_keeper.specs.declared.faults.KeeperFault.{KeeperFault}
 use Rattle.hippo_keeper.specs.declared.selection.Selection.{Selection}
 use Rattle.hippo_keeper.specs.declared.selection.Selection.TheVariants.{All, VersionsOf, AskedIn}
@@ -45,7 +45,7 @@ pub record IsHandedOver (tells : Type 0) (test : StoredEntry → Bool) (after ma
 -- what a read does: it changes nothing that is kept, and answers what was asked for
 pub record Reads (test : StoredEntry → Bool) (after max : ℕ) (result : Result Store KeeperFault)
     (old new : KeeperState) : Type 0 where
-  pub answers : Answers true false result old new
+  pub call : IsAfterCall true false result old new
   pub stays : new.tells → Stays old new
   pub ok : IfOk result (IsHandedOver new.tells test after max old.kept)
 
