@@ -54,7 +54,7 @@ fn shown<T: Debug>(alloc: Global, value: &T) -> Result<String, Memory> {
     Ok(format!(in alloc; "{value:?}")?)
 }
 
-fn again(alloc: Global, entry: &Entry) -> Result<Again, Memory>
+fn written_again(alloc: Global, entry: &Entry) -> Result<Again, Memory>
     requires { is_keepable entry.now ≡ true }
 {
     let form = encode(alloc, entry)?;
@@ -72,7 +72,7 @@ fn read_again(alloc: Global, kept: &StoredEntry) -> Result<Option<Again>, Memory
     match decode(alloc, kept)? {
         None => Ok(None),
         Some(entry) => {
-            let again = again(alloc, &entry);
+            let again = written_again(alloc, &entry);
             drop(entry);
             Ok(Some(again?))
         }

@@ -1,5 +1,6 @@
 ghost use Rattle.std.specs.Prelude.{◌≡◌, ℕ, ◌+◌, ◌^◌, ◌<◌, true, false, List, [], IfOk, OnOk};
-ghost use Rattle.hippo_keeper.specs.Keeping.{IsReady, Store, next_number};
+ghost use Rattle.hippo_keeper.specs.Keeping.{IsReady, Store};
+ghost use Rattle.hippo_state_tests.specs.Filling.{IsAt};
 
 use hippo_keeper::{Keeper, KeeperFail, KeeperFails, KeeperFault, MemoryKeeper, Steps};
 use hippo_model::{StoredEntry, StoredList};
@@ -35,8 +36,7 @@ fn stored(
 fn open<K: Keeper>(alloc: Global, keeper: &mut K) -> Result<(), KeeperFault>
     requires ready { IsReady false (K.state keeper.old) }
     requires empty { (name : List ℕ) (store : Store) → (K.state keeper.old).finds name store → store ≡ [] }
-    ensures ready { OnOk result (IsReady true (K.state keeper.new)) }
-    ensures next { OnOk result ((K.state keeper.new).tells → next_number (K.state keeper.new).kept ≡ 1) }
+    ensures { OnOk result (IsAt 1 (K.state keeper.new)) }
 {
     keeper.start(alloc, "clinic")
 }
@@ -50,11 +50,9 @@ fn keep<K: Keeper>(
     kind: u8,
     table: &str,
 ) -> Result<(), KeeperFault>
-    requires ready { IsReady true (K.state keeper.old) }
     requires small { seq < 100 }
-    requires next { (K.state keeper.old).tells → next_number (K.state keeper.old).kept ≡ seq }
-    ensures ready { OnOk result (IsReady true (K.state keeper.new)) }
-    ensures next { OnOk result ((K.state keeper.new).tells → next_number (K.state keeper.new).kept ≡ seq + 1) }
+    requires at { IsAt seq (K.state keeper.old) }
+    ensures { OnOk result (IsAt (seq + 1) (K.state keeper.new)) }
 {
     match stored(alloc, seq, moment, kind, table) {
         Ok(entry) => keeper.append(alloc, &entry),
@@ -66,7 +64,7 @@ fn keep<K: Keeper>(
 fn fill<K: Keeper>(alloc: Global, keeper: &mut K) -> Result<(), KeeperFault>
     requires ready { IsReady false (K.state keeper.old) }
     requires empty { (name : List ℕ) (store : Store) → (K.state keeper.old).finds name store → store ≡ [] }
-    ensures ready { OnOk result (IsReady true (K.state keeper.new)) }
+    ensures { OnOk result (IsAt 9 (K.state keeper.new)) }
 {
     open(alloc, keeper)?;
     keep(alloc, keeper, 1, 100, 1, "")?;
@@ -166,22 +164,22 @@ fn fails<L: Ledger>(
     Ok(())
 }
 
-fn fail_in_turn<L: Ledger>(rt: &HostRuntime, blank: Blank) -> Result<(), Fail>
+fn fail_in_turn<L: Ledger>(rt: &impl Abort, alloc: Global, blank: Blank) -> Result<(), Fail>
     requires name { blank.name ≡ L.name }
     requires parts { blank.parts ≡ L.parts }
     requires some { 0 < blank.parts }
 {
     let mut steps = Steps::<L>::new(blank);
     for call in 1..=13 {
-        fails(rt, rt.alloc(), call, false, &mut steps)?;
-        fails(rt, rt.alloc(), call, true, &mut steps)?;
+        fails(rt, alloc, call, false, &mut steps)?;
+        fails(rt, alloc, call, true, &mut steps)?;
     }
     Ok(())
 }
 
 #[test]
 fn calls_that_fail_in_turn(rt: HostRuntime) -> Result<(), Fail> {
-    fail_in_turn::<Brand>(&rt, Blank::new(1))
+    fail_in_turn::<Brand>(&rt, rt.alloc(), Blank::new(1))
 }
 
 fn read_all_rows<K: Keeper, L: Ledger>(
@@ -259,12 +257,11 @@ fn read_asked_rows<K: Keeper>(rt: &impl Abort, alloc: Global, keeper: &mut K) ->
     Ok(())
 }
 
-fn read_in_turn<L: Ledger>(rt: &HostRuntime, blank: Blank) -> Result<(), Fail>
+fn read_in_turn<L: Ledger>(rt: &impl Abort, alloc: Global, blank: Blank) -> Result<(), Fail>
     requires name { blank.name ≡ L.name }
     requires parts { blank.parts ≡ L.parts }
     requires some { 0 < blank.parts }
 {
-    let alloc = rt.alloc();
     let mut steps = Steps::<L>::new(blank);
     let mut keeper = MemoryKeeper::new(StoredList::new(alloc), KeeperFails::new(alloc));
     fill(alloc, &mut keeper)?;
@@ -275,5 +272,5 @@ fn read_in_turn<L: Ledger>(rt: &HostRuntime, blank: Blank) -> Result<(), Fail>
 
 #[test]
 fn reads_by_number_kind_and_period(rt: HostRuntime) -> Result<(), Fail> {
-    read_in_turn::<Brand>(&rt, Blank::new(1))
+    read_in_turn::<Brand>(&rt, rt.alloc(), Blank::new(1))
 }
