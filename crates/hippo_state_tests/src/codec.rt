@@ -93,137 +93,138 @@ fn reads_and_writes(rt: &impl Abort, alloc: Global, row: Row) -> Result<(), Fail
     Ok(())
 }
 
+const ENTRIES: [Row; 19] = [
+    (
+        1,
+        1,
+        "",
+        b"\x04ward\x03\x03pid\x01\x01\x04note\x02\x00\x04seen\x03\x01\x02\x00\x02\x01",
+        "Create(Schema { name: \"ward\", columns: [\
+         Column { name: \"pid\", kind: Integer, not_null: true }, \
+         Column { name: \"note\", kind: Text, not_null: false }, \
+         Column { name: \"seen\", kind: Date, not_null: true }], key: [0, 2], subject: Some(0) })",
+    ),
+    (
+        1,
+        1,
+        "",
+        b"\x01t\x01\x01c\x02\x00\x01\x00\x00",
+        "Create(Schema { name: \"t\", columns: [Column { name: \"c\", kind: Text, not_null: false }], \
+         key: [0], subject: None })",
+    ),
+    (
+        1,
+        2,
+        "ward",
+        b"\x04ward\x04\x00\x01\xff\xff\xff\xff\xff\xff\xff\xfe\x02\x00\x00\x00\x03A b\x03\xff\xf5\x06\xc6",
+        "Insert { table: \"ward\", row: [Null, Int(-2), Text(\"A b\"), Day(DayNumber { day: -719162 })] }",
+    ),
+    (
+        1,
+        3,
+        "ward",
+        b"\x04ward\x02\x01\x00\x00\x00\x00\x00\x00\x01\x02\x03\x00\x2c\xc0\xa0",
+        "Update { table: \"ward\", row: [Int(258), Day(DayNumber { day: 2932896 })] }",
+    ),
+    (
+        1,
+        4,
+        "ward",
+        b"\x04ward\x01\x02\x00\x00\x00\x00",
+        "Delete { table: \"ward\", key: [Text(\"\")] }",
+    ),
+    (1, 5, "", b"\x04care", "Purpose(\"care\")"),
+    (1, 6, "", b"\x05nurse", "Recipient(\"nurse\")"),
+    (
+        1,
+        7,
+        "",
+        b"\x04mail\x01",
+        "Item { item: \"mail\", kind: OptIn }",
+    ),
+    (
+        1,
+        7,
+        "",
+        b"\x04mail\x02",
+        "Item { item: \"mail\", kind: OptOut }",
+    ),
+    (
+        1,
+        8,
+        "",
+        b"\x03ann\x04care\x05nurse",
+        "Authorize { user: \"ann\", purpose: \"care\", recipient: \"nurse\" }",
+    ),
+    (
+        1,
+        9,
+        "",
+        b"\x03ann\x04care\x05nurse",
+        "Deauthorize { user: \"ann\", purpose: \"care\", recipient: \"nurse\" }",
+    ),
+    (
+        1,
+        10,
+        "",
+        b"\x04care\x05nurse\x04ward\x02\x02\x00\x00",
+        "Allow { purpose: \"care\", recipient: \"nurse\", table: \"ward\", columns: [2, 0], item: None, days: None }",
+    ),
+    (
+        1,
+        10,
+        "",
+        b"\x04care\x05nurse\x04ward\x01\xff\x01\x04mail",
+        "Allow { purpose: \"care\", recipient: \"nurse\", table: \"ward\", columns: [255], item: Some(\"mail\"), days: None }",
+    ),
+    (
+        2,
+        10,
+        "",
+        b"\x04care\x05nurse\x04ward\x02\x02\x00\x00\x00\x00\x00\x1e",
+        "Allow { purpose: \"care\", recipient: \"nurse\", table: \"ward\", columns: [2, 0], item: None, days: Some(30) }",
+    ),
+    (
+        2,
+        10,
+        "",
+        b"\x04care\x05nurse\x04ward\x00\x01\x04mail\x00\x01\x00\x02",
+        "Allow { purpose: \"care\", recipient: \"nurse\", table: \"ward\", columns: [], item: Some(\"mail\"), days: Some(65538) }",
+    ),
+    (
+        1,
+        11,
+        "",
+        b"\x04care\x05nurse\x04ward\x01\x07",
+        "Revoke { purpose: \"care\", recipient: \"nurse\", table: \"ward\", columns: [7] }",
+    ),
+    (
+        1,
+        12,
+        "",
+        b"\xff\xff\xff\xff\xff\xff\xff\xf9\x04mail\x01",
+        "Choice { subject: -7, item: \"mail\", yes: true }",
+    ),
+    (
+        1,
+        12,
+        "",
+        b"\x00\x00\x00\x00\x00\x00\x01\x00\x04mail\x00",
+        "Choice { subject: 256, item: \"mail\", yes: false }",
+    ),
+    (
+        1,
+        13,
+        "",
+        b"\x03ann\x04care\x05nurse\x00\x00\x00\x08SELECT 1",
+        "Asked { user: \"ann\", purpose: \"care\", recipient: \"nurse\", text: \"SELECT 1\" }",
+    ),
+];
+
 #[test]
 fn entries_of_each_kind_and_format(rt: HostRuntime) -> Result<(), Fail> {
-    let rows: [Row; 19] = [
-        (
-            1,
-            1,
-            "",
-            b"\x04ward\x03\x03pid\x01\x01\x04note\x02\x00\x04seen\x03\x01\x02\x00\x02\x01",
-            "Create(Schema { name: \"ward\", columns: [\
-             Column { name: \"pid\", kind: Integer, not_null: true }, \
-             Column { name: \"note\", kind: Text, not_null: false }, \
-             Column { name: \"seen\", kind: Date, not_null: true }], key: [0, 2], subject: Some(0) })",
-        ),
-        (
-            1,
-            1,
-            "",
-            b"\x01t\x01\x01c\x02\x00\x01\x00\x00",
-            "Create(Schema { name: \"t\", columns: [Column { name: \"c\", kind: Text, not_null: false }], \
-             key: [0], subject: None })",
-        ),
-        (
-            1,
-            2,
-            "ward",
-            b"\x04ward\x04\x00\x01\xff\xff\xff\xff\xff\xff\xff\xfe\x02\x00\x00\x00\x03A b\x03\xff\xf5\x06\xc6",
-            "Insert { table: \"ward\", row: [Null, Int(-2), Text(\"A b\"), Day(DayNumber { day: -719162 })] }",
-        ),
-        (
-            1,
-            3,
-            "ward",
-            b"\x04ward\x02\x01\x00\x00\x00\x00\x00\x00\x01\x02\x03\x00\x2c\xc0\xa0",
-            "Update { table: \"ward\", row: [Int(258), Day(DayNumber { day: 2932896 })] }",
-        ),
-        (
-            1,
-            4,
-            "ward",
-            b"\x04ward\x01\x02\x00\x00\x00\x00",
-            "Delete { table: \"ward\", key: [Text(\"\")] }",
-        ),
-        (1, 5, "", b"\x04care", "Purpose(\"care\")"),
-        (1, 6, "", b"\x05nurse", "Recipient(\"nurse\")"),
-        (
-            1,
-            7,
-            "",
-            b"\x04mail\x01",
-            "Item { item: \"mail\", kind: OptIn }",
-        ),
-        (
-            1,
-            7,
-            "",
-            b"\x04mail\x02",
-            "Item { item: \"mail\", kind: OptOut }",
-        ),
-        (
-            1,
-            8,
-            "",
-            b"\x03ann\x04care\x05nurse",
-            "Authorize { user: \"ann\", purpose: \"care\", recipient: \"nurse\" }",
-        ),
-        (
-            1,
-            9,
-            "",
-            b"\x03ann\x04care\x05nurse",
-            "Deauthorize { user: \"ann\", purpose: \"care\", recipient: \"nurse\" }",
-        ),
-        (
-            1,
-            10,
-            "",
-            b"\x04care\x05nurse\x04ward\x02\x02\x00\x00",
-            "Allow { purpose: \"care\", recipient: \"nurse\", table: \"ward\", columns: [2, 0], item: None, days: None }",
-        ),
-        (
-            1,
-            10,
-            "",
-            b"\x04care\x05nurse\x04ward\x01\xff\x01\x04mail",
-            "Allow { purpose: \"care\", recipient: \"nurse\", table: \"ward\", columns: [255], item: Some(\"mail\"), days: None }",
-        ),
-        (
-            2,
-            10,
-            "",
-            b"\x04care\x05nurse\x04ward\x02\x02\x00\x00\x00\x00\x00\x1e",
-            "Allow { purpose: \"care\", recipient: \"nurse\", table: \"ward\", columns: [2, 0], item: None, days: Some(30) }",
-        ),
-        (
-            2,
-            10,
-            "",
-            b"\x04care\x05nurse\x04ward\x00\x01\x04mail\x00\x01\x00\x02",
-            "Allow { purpose: \"care\", recipient: \"nurse\", table: \"ward\", columns: [], item: Some(\"mail\"), days: Some(65538) }",
-        ),
-        (
-            1,
-            11,
-            "",
-            b"\x04care\x05nurse\x04ward\x01\x07",
-            "Revoke { purpose: \"care\", recipient: \"nurse\", table: \"ward\", columns: [7] }",
-        ),
-        (
-            1,
-            12,
-            "",
-            b"\xff\xff\xff\xff\xff\xff\xff\xf9\x04mail\x01",
-            "Choice { subject: -7, item: \"mail\", yes: true }",
-        ),
-        (
-            1,
-            12,
-            "",
-            b"\x00\x00\x00\x00\x00\x00\x01\x00\x04mail\x00",
-            "Choice { subject: 256, item: \"mail\", yes: false }",
-        ),
-        (
-            1,
-            13,
-            "",
-            b"\x03ann\x04care\x05nurse\x00\x00\x00\x08SELECT 1",
-            "Asked { user: \"ann\", purpose: \"care\", recipient: \"nurse\", text: \"SELECT 1\" }",
-        ),
-    ];
     let alloc = rt.alloc();
-    for row in rows {
+    for row in ENTRIES {
         reads_and_writes(&rt, alloc, row)?;
     }
     Ok(())
@@ -239,65 +240,66 @@ fn is_no_entry(rt: &impl Abort, alloc: Global, form: Form) -> Result<(), Fail> {
     Ok(())
 }
 
+const NO_ENTRIES: [Form; 35] = [
+    // Another format, and format 2 for what is no rule with days.
+    (0, 5, "", b"\x04care"),
+    (2, 5, "", b"\x04care"),
+    (
+        3,
+        10,
+        "",
+        b"\x04care\x05nurse\x04ward\x00\x00\x00\x00\x00\x1e",
+    ),
+    (2, 10, "", b"\x04care\x05nurse\x04ward\x00\x00"),
+    (
+        1,
+        10,
+        "",
+        b"\x04care\x05nurse\x04ward\x00\x00\x00\x00\x00\x1e",
+    ),
+    // A byte more, a byte less.
+    (1, 5, "", b"\x04care\x00"),
+    (1, 5, "", b"\x04car"),
+    // Names: a capital, reserved words, none, and no form of a name.
+    (1, 5, "", b"\x04Care"),
+    (1, 5, "", b"\x06select"),
+    (1, 5, "", b"\x06window"),
+    (1, 5, "", b"\x00"),
+    (1, 5, "", b"\x041abc"),
+    (1, 5, "", b"\x03a-b"),
+    // The table beside the body.
+    (1, 5, "ward", b"\x04care"),
+    (1, 2, "", b"\x04ward\x00"),
+    (1, 2, "Ward", b"\x04ward\x00"),
+    (1, 2, "wards", b"\x04ward\x00"),
+    // Values: another kind, days before the first and after the last, no UTF-8, one less, a text that is not there.
+    (1, 2, "ward", b"\x04ward\x01\x04"),
+    (1, 2, "ward", b"\x04ward\x01\x03\xff\xf5\x06\xc5"),
+    (1, 2, "ward", b"\x04ward\x01\x03\x00\x2c\xc0\xa1"),
+    (1, 2, "ward", b"\x04ward\x01\x02\x00\x00\x00\x01\xff"),
+    (1, 2, "ward", b"\x04ward\x02\x00"),
+    (1, 2, "ward", b"\x04ward\x01\x02\xff\xff\xff\xff"),
+    // Tables: no column, no key, another kind of column, NOT NULL that is neither yes nor no.
+    (1, 1, "", b"\x01t\x00\x01\x00\x00"),
+    (1, 1, "", b"\x01t\x01\x01c\x02\x00\x00\x00"),
+    (1, 1, "", b"\x01t\x01\x01c\x04\x00\x01\x00\x00"),
+    (1, 1, "", b"\x01t\x01\x01c\x02\x02\x01\x00\x00"),
+    // Items, choices, rules and questions.
+    (1, 7, "", b"\x04mail\x00"),
+    (1, 7, "", b"\x04mail\x03"),
+    (1, 12, "", b"\x00\x00\x00\x00\x00\x00\x00\x07\x04mail\x02"),
+    (1, 10, "", b"\x04care\x05nurse\x04ward\x00\x02"),
+    (1, 13, "", b"\x03ann\x04care\x05nurse\x00\x00\x00\x00"),
+    // Other kinds.
+    (1, 0, "", b""),
+    (1, 14, "", b"\x04care"),
+    (1, 255, "", b"\x04care"),
+];
+
 #[test]
 fn forms_that_no_entry_has(rt: HostRuntime) -> Result<(), Fail> {
-    let forms: [Form; 35] = [
-        // Another format, and format 2 for what is no rule with days.
-        (0, 5, "", b"\x04care"),
-        (2, 5, "", b"\x04care"),
-        (
-            3,
-            10,
-            "",
-            b"\x04care\x05nurse\x04ward\x00\x00\x00\x00\x00\x1e",
-        ),
-        (2, 10, "", b"\x04care\x05nurse\x04ward\x00\x00"),
-        (
-            1,
-            10,
-            "",
-            b"\x04care\x05nurse\x04ward\x00\x00\x00\x00\x00\x1e",
-        ),
-        // A byte more, a byte less.
-        (1, 5, "", b"\x04care\x00"),
-        (1, 5, "", b"\x04car"),
-        // Names: a capital, reserved words, none, and no form of a name.
-        (1, 5, "", b"\x04Care"),
-        (1, 5, "", b"\x06select"),
-        (1, 5, "", b"\x06window"),
-        (1, 5, "", b"\x00"),
-        (1, 5, "", b"\x041abc"),
-        (1, 5, "", b"\x03a-b"),
-        // The table beside the body.
-        (1, 5, "ward", b"\x04care"),
-        (1, 2, "", b"\x04ward\x00"),
-        (1, 2, "Ward", b"\x04ward\x00"),
-        (1, 2, "wards", b"\x04ward\x00"),
-        // Values: another kind, days before the first and after the last, no UTF-8, one less, a text that is not there.
-        (1, 2, "ward", b"\x04ward\x01\x04"),
-        (1, 2, "ward", b"\x04ward\x01\x03\xff\xf5\x06\xc5"),
-        (1, 2, "ward", b"\x04ward\x01\x03\x00\x2c\xc0\xa1"),
-        (1, 2, "ward", b"\x04ward\x01\x02\x00\x00\x00\x01\xff"),
-        (1, 2, "ward", b"\x04ward\x02\x00"),
-        (1, 2, "ward", b"\x04ward\x01\x02\xff\xff\xff\xff"),
-        // Tables: no column, no key, another kind of column, NOT NULL that is neither yes nor no.
-        (1, 1, "", b"\x01t\x00\x01\x00\x00"),
-        (1, 1, "", b"\x01t\x01\x01c\x02\x00\x00\x00"),
-        (1, 1, "", b"\x01t\x01\x01c\x04\x00\x01\x00\x00"),
-        (1, 1, "", b"\x01t\x01\x01c\x02\x02\x01\x00\x00"),
-        // Items, choices, rules and questions.
-        (1, 7, "", b"\x04mail\x00"),
-        (1, 7, "", b"\x04mail\x03"),
-        (1, 12, "", b"\x00\x00\x00\x00\x00\x00\x00\x07\x04mail\x02"),
-        (1, 10, "", b"\x04care\x05nurse\x04ward\x00\x02"),
-        (1, 13, "", b"\x03ann\x04care\x05nurse\x00\x00\x00\x00"),
-        // Other kinds.
-        (1, 0, "", b""),
-        (1, 14, "", b"\x04care"),
-        (1, 255, "", b"\x04care"),
-    ];
     let alloc = rt.alloc();
-    for form in forms {
+    for form in NO_ENTRIES {
         is_no_entry(&rt, alloc, form)?;
     }
     Ok(())
@@ -386,105 +388,106 @@ fn is_read(rt: &impl Abort, alloc: Global, large: Large) -> Result<(), Fail> {
     Ok(())
 }
 
+const LARGEST: [Large; 13] = [
+    (5, "", b"\x3f", b"a", 63, b"", true),
+    (5, "", b"\x40", b"a", 64, b"", false),
+    (2, "ward", b"\x04ward\xff", b"\x00", 255, b"", true),
+    (
+        10,
+        "",
+        b"\x04care\x05nurse\x04ward\xff",
+        b"\x07",
+        255,
+        b"\x00",
+        true,
+    ),
+    (
+        1,
+        "",
+        b"\x01t\x40",
+        b"\x01c\x02\x00",
+        64,
+        b"\x01\x00\x00",
+        true,
+    ),
+    (
+        1,
+        "",
+        b"\x01t\x41",
+        b"\x01c\x02\x00",
+        65,
+        b"\x01\x00\x00",
+        false,
+    ),
+    (
+        1,
+        "",
+        b"\x01t\x01\x01c\x02\x00\x40",
+        b"\x3f",
+        64,
+        b"\xff",
+        true,
+    ),
+    (
+        1,
+        "",
+        b"\x01t\x01\x01c\x02\x00\x41",
+        b"\x3f",
+        65,
+        b"\xff",
+        false,
+    ),
+    (
+        2,
+        "ward",
+        b"\x04ward\x01\x02\x00\x00\x10\x00",
+        b"a",
+        4096,
+        b"",
+        true,
+    ),
+    (
+        2,
+        "ward",
+        b"\x04ward\x01\x02\x00\x00\x10\x01",
+        b"a",
+        4097,
+        b"",
+        false,
+    ),
+    (
+        13,
+        "",
+        b"\x03ann\x04care\x05nurse\x00\x01\x00\x00",
+        b"a",
+        65_536,
+        b"",
+        true,
+    ),
+    (
+        13,
+        "",
+        b"\x03ann\x04care\x05nurse\x00\x01\x00\x01",
+        b"a",
+        65_537,
+        b"",
+        false,
+    ),
+    (
+        13,
+        "",
+        b"\x03ann\x04care\x05nurse\x00\x01\x00\x00",
+        b"a",
+        65_535,
+        b"",
+        false,
+    ),
+];
+
 #[test]
 fn the_largest_entries(rt: HostRuntime) -> Result<(), Fail> {
-    let rows: [Large; 13] = [
-        (5, "", b"\x3f", b"a", 63, b"", true),
-        (5, "", b"\x40", b"a", 64, b"", false),
-        (2, "ward", b"\x04ward\xff", b"\x00", 255, b"", true),
-        (
-            10,
-            "",
-            b"\x04care\x05nurse\x04ward\xff",
-            b"\x07",
-            255,
-            b"\x00",
-            true,
-        ),
-        (
-            1,
-            "",
-            b"\x01t\x40",
-            b"\x01c\x02\x00",
-            64,
-            b"\x01\x00\x00",
-            true,
-        ),
-        (
-            1,
-            "",
-            b"\x01t\x41",
-            b"\x01c\x02\x00",
-            65,
-            b"\x01\x00\x00",
-            false,
-        ),
-        (
-            1,
-            "",
-            b"\x01t\x01\x01c\x02\x00\x40",
-            b"\x3f",
-            64,
-            b"\xff",
-            true,
-        ),
-        (
-            1,
-            "",
-            b"\x01t\x01\x01c\x02\x00\x41",
-            b"\x3f",
-            65,
-            b"\xff",
-            false,
-        ),
-        (
-            2,
-            "ward",
-            b"\x04ward\x01\x02\x00\x00\x10\x00",
-            b"a",
-            4096,
-            b"",
-            true,
-        ),
-        (
-            2,
-            "ward",
-            b"\x04ward\x01\x02\x00\x00\x10\x01",
-            b"a",
-            4097,
-            b"",
-            false,
-        ),
-        (
-            13,
-            "",
-            b"\x03ann\x04care\x05nurse\x00\x01\x00\x00",
-            b"a",
-            65_536,
-            b"",
-            true,
-        ),
-        (
-            13,
-            "",
-            b"\x03ann\x04care\x05nurse\x00\x01\x00\x01",
-            b"a",
-            65_537,
-            b"",
-            false,
-        ),
-        (
-            13,
-            "",
-            b"\x03ann\x04care\x05nurse\x00\x01\x00\x00",
-            b"a",
-            65_535,
-            b"",
-            false,
-        ),
-    ];
     let alloc = rt.alloc();
-    for row in rows {
+    for row in LARGEST {
         is_read(&rt, alloc, row)?;
     }
     Ok(())
