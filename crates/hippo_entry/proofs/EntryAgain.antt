@@ -28,7 +28,7 @@ use Rattle.hippo_model.specs.declared.stored.StoredEntry.{StoredEntry}
 use Rattle.hippo_model.specs.Terms.{Row, Place}
 use Rattle.hippo_model.specs.StoredForms.{number_bytes, signed_bytes, name_bytes, text_bytes, list_bytes, place_bytes, value_bytes, column_kind, column_bytes, subject_byte, schema_bytes, item_kind, item_bytes, days_bytes, act_format, act_kind, act_bytes, body}
 use Rattle.hippo_model.specs.Keepable.{is_folded_name, is_text, has_count, is_short, is_place, value_is_keepable, cells_are_keepable, places_are_keepable, columns_are_keepable, key_is_keepable, subject_is_keepable, schema_is_keepable, item_is_keepable, days_are_keepable, question_is_keepable, rule_is_keepable, act_is_keepable, is_keepable}
-use Rattle.hippo_entry.specs.Readings.{◌>>=◌, leading_byte, leading_list, leading_value, column_kind_of, bool_of, item_kind_of, subject_of_byte, leading_column, leading_schema, leading_create, leading_change, leading_purpose, leading_recipient, leading_new_item, leading_grant, leading_item, leading_days, leading_allow, leading_revoke, leading_choice, leading_question, act_of_kind, leading_entry}
+use Rattle.hippo_entry.specs.Readings.{◌>>=◌, leading_byte, leading_list, leading_value, column_kind_of, bool_of, item_kind_of, subject_of_byte, leading_column, leading_schema, leading_create, change_of, leading_change, leading_new_name, leading_new_item, grant_of, leading_grant, leading_item, leading_days, leading_allow, leading_revoke, leading_choice, leading_question, act_of_kind, leading_entry}
 use Rattle.hippo_entry.specs.Forms.{HasForm, IsEntryOf}
 use Rattle.hippo_entry.proofs.Fields.{ReadsAgain, short_again, long_again, signed_again, short_signed_again, text_again, name_again, list_again}
 
@@ -123,20 +123,20 @@ create_again : (x : Schema) (rest : List ℕ) → schema_is_keepable x ≡ true 
 unfolding leading_create
 create_again x rest fits = rw (schema_again x rest fits) refl
 
-change_again : (change : Name → Row → Act) (table : Name) (row : Row) (rest : List ℕ) → (is_folded_name table && cells_are_keepable row) ≡ true
-    → leading_change change ((name_bytes table ++ list_bytes value_bytes row) ++ rest) ≡ Some (change table row, rest)
+change_again : (kind : ℕ) (table : Name) (row : Row) (rest : List ℕ) → (is_folded_name table && cells_are_keepable row) ≡ true
+    → leading_change kind ((name_bytes table ++ list_bytes value_bytes row) ++ rest) ≡ Some (change_of kind table row, rest)
 unfolding leading_change
-change_again change table row rest fits =
+change_again kind table row rest fits =
     let parts = and_parts (is_folded_name table) (cells_are_keepable row) fits in
-    ap (leading_change change) (append_assoc (name_bytes table) (list_bytes value_bytes row) rest)
+    ap (leading_change kind) (append_assoc (name_bytes table) (list_bytes value_bytes row) rest)
     ∙ rw (name_again table (list_bytes value_bytes row ++ rest) parts.0, row_again row rest parts.1) refl
 
-purpose_again : (x : Name) (rest : List ℕ) → is_folded_name x ≡ true → leading_purpose (name_bytes x ++ rest) ≡ Some (Purpose x, rest)
-unfolding leading_purpose
+purpose_again : (x : Name) (rest : List ℕ) → is_folded_name x ≡ true → leading_new_name 5 (name_bytes x ++ rest) ≡ Some (Purpose x, rest)
+unfolding leading_new_name
 purpose_again x rest fits = rw (name_again x rest fits) refl
 
-recipient_again : (x : Name) (rest : List ℕ) → is_folded_name x ≡ true → leading_recipient (name_bytes x ++ rest) ≡ Some (Recipient x, rest)
-unfolding leading_recipient
+recipient_again : (x : Name) (rest : List ℕ) → is_folded_name x ≡ true → leading_new_name 6 (name_bytes x ++ rest) ≡ Some (Recipient x, rest)
+unfolding leading_new_name
 recipient_again x rest fits = rw (name_again x rest fits) refl
 
 new_item_again : (x : Name) (kind : ItemKind) (rest : List ℕ) → is_folded_name x ≡ true → leading_new_item ((name_bytes x ++ item_kind kind ∷ []) ++ rest) ≡ Some (Item x kind, rest)
@@ -144,13 +144,13 @@ unfolding leading_new_item
 new_item_again x kind rest fits =
     ap leading_new_item (append_assoc (name_bytes x) (item_kind kind ∷ []) rest) ∙ rw (name_again x (item_kind kind ∷ rest) fits, item_kind_again kind) refl
 
-grant_again : (grant : Name → Name → Name → Act) (u p r : Name) (rest : List ℕ) → (is_folded_name u && is_folded_name p && is_folded_name r) ≡ true
-    → leading_grant grant ((name_bytes u ++ name_bytes p ++ name_bytes r) ++ rest) ≡ Some (grant u p r, rest)
+grant_again : (kind : ℕ) (u p r : Name) (rest : List ℕ) → (is_folded_name u && is_folded_name p && is_folded_name r) ≡ true
+    → leading_grant kind ((name_bytes u ++ name_bytes p ++ name_bytes r) ++ rest) ≡ Some (grant_of kind u p r, rest)
 unfolding leading_grant
-grant_again grant u p r rest fits =
+grant_again kind u p r rest fits =
     let all = and_parts (is_folded_name u && is_folded_name p) (is_folded_name r) fits in
     let front = and_parts (is_folded_name u) (is_folded_name p) all.0 in
-    ap (leading_grant grant) (three (name_bytes u) (name_bytes p) (name_bytes r) rest)
+    ap (leading_grant kind) (three (name_bytes u) (name_bytes p) (name_bytes r) rest)
     ∙ rw (name_again u (name_bytes p ++ (name_bytes r ++ rest)) front.0, name_again p (name_bytes r ++ rest) front.1, name_again r rest all.1) refl
 
 item_again : (x : Option Name) (rest : List ℕ) → item_is_keepable x ≡ true → leading_item (item_bytes x ++ rest) ≡ Some (x, rest)
@@ -224,14 +224,14 @@ question_again u p r text rest fits =
 
 act_again : (x : Act) (rest : List ℕ) → act_is_keepable x ≡ true → act_of_kind (act_format x) (act_kind x) (act_bytes x ++ rest) ≡ Some (x, rest)
 act_again (Create schema) rest fits = create_again schema rest fits
-act_again (Insert table row) rest fits = change_again Insert table row rest fits
-act_again (Update table row) rest fits = change_again Update table row rest fits
-act_again (Delete table key) rest fits = change_again Delete table key rest fits
+act_again (Insert table row) rest fits = change_again 2 table row rest fits
+act_again (Update table row) rest fits = change_again 3 table row rest fits
+act_again (Delete table key) rest fits = change_again 4 table key rest fits
 act_again (Purpose name) rest fits = purpose_again name rest fits
 act_again (Recipient name) rest fits = recipient_again name rest fits
 act_again (Item name kind) rest fits = new_item_again name kind rest fits
-act_again (Authorize u p r) rest fits = grant_again Authorize u p r rest fits
-act_again (Deauthorize u p r) rest fits = grant_again Deauthorize u p r rest fits
+act_again (Authorize u p r) rest fits = grant_again 8 u p r rest fits
+act_again (Deauthorize u p r) rest fits = grant_again 9 u p r rest fits
 act_again (Allow p r t c i None) rest fits =
     allow_again 1 p r t c i None rest (and_parts (rule_is_keepable p r t c && item_is_keepable i) true fits).0 (no_days_again rest)
 act_again (Allow p r t c i (Some d)) rest fits =

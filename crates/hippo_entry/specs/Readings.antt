@@ -1,6 +1,6 @@
 -- How an entry is read from bytes, part by part. What is read from a body is its entry only where the bytes of that
 -- entry are the body: nothing here looks at what stands behind the last part.
-use Rattle.std.specs.Prelude.{◌≡◌, ℕ, zero, suc, ◌-◌, ◌==◌, ℤ, Bool, true, false, nat_lt, List, [], ◌∷◌, length, take, drop, Option, Some, None, option_and_then, if◌then◌else◌, Result, Ok, Err}
+use Rattle.std.specs.Prelude.{◌≡◌, ℕ, zero, suc, ◌-◌, ◌==◌, ◌||◌, ℤ, Bool, true, false, nat_lt, List, [], ◌∷◌, length, take, drop, Option, Some, None, option_and_then, if◌then◌else◌, Result, Ok, Err}
 use denote.Ref.{Bor}
 use Rattle.std.specs.Int.{Width, w32, w64, byte_len, from_be_bytes, cast_signed}
 use Rattle.std.specs.Str.{is_utf8}
@@ -156,17 +156,21 @@ leading_schema bytes = do
 unfoldable pub leading_create : Reading Act
 leading_create bytes = leading_schema bytes >>= λ schema. Some (Create schema.0, schema.1)
 
-unfoldable pub leading_change : (Name → Row → Act) → Reading Act
-leading_change change bytes = do
+-- what an act of a kind from 2 to 4 does
+abbrev pub change_of : ℕ → Name → Row → Act
+change_of kind table row =
+    if kind == 2 then Insert table row else if kind == 3 then Update table row else Delete table row
+
+unfoldable pub leading_change : ℕ → Reading Act
+leading_change kind bytes = do
   table ← leading_name bytes
   row ← leading_list leading_value table.1
-  Some (change table.0 row.0, row.1)
+  Some (change_of kind table.0 row.0, row.1)
 
-unfoldable pub leading_purpose : Reading Act
-leading_purpose bytes = leading_name bytes >>= λ name. Some (Purpose name.0, name.1)
-
-unfoldable pub leading_recipient : Reading Act
-leading_recipient bytes = leading_name bytes >>= λ name. Some (Recipient name.0, name.1)
+-- a purpose or a recipient, of kind 5 or 6
+unfoldable pub leading_new_name : ℕ → Reading Act
+leading_new_name kind bytes =
+    leading_name bytes >>= λ name. Some (if kind == 5 then Purpose name.0 else Recipient name.0, name.1)
 
 unfoldable pub leading_new_item : Reading Act
 leading_new_item bytes = do
@@ -175,12 +179,17 @@ leading_new_item bytes = do
   kind ← item_kind_of byte.0
   Some (Item item.0 kind, byte.1)
 
-unfoldable pub leading_grant : (Name → Name → Name → Act) → Reading Act
-leading_grant grant bytes = do
+-- of kind 8 or 9
+abbrev pub grant_of : ℕ → Name → Name → Name → Act
+grant_of kind user purpose recipient =
+    if kind == 8 then Authorize user purpose recipient else Deauthorize user purpose recipient
+
+unfoldable pub leading_grant : ℕ → Reading Act
+leading_grant kind bytes = do
   user ← leading_name bytes
   purpose ← leading_name user.1
   recipient ← leading_name purpose.1
-  Some (grant user.0 purpose.0 recipient.0, recipient.1)
+  Some (grant_of kind user.0 purpose.0 recipient.0, recipient.1)
 
 abbrev pub item_of_byte : ℕ → Reading (Option Name)
 item_of_byte byte bytes =
@@ -233,14 +242,10 @@ leading_question bytes = do
 abbrev pub act_of_kind : ℕ → ℕ → Reading Act
 act_of_kind format kind bytes =
     if kind == 1 then leading_create bytes
-    else if kind == 2 then leading_change Insert bytes
-    else if kind == 3 then leading_change Update bytes
-    else if kind == 4 then leading_change Delete bytes
-    else if kind == 5 then leading_purpose bytes
-    else if kind == 6 then leading_recipient bytes
+    else if kind == 2 || kind == 3 || kind == 4 then leading_change kind bytes
+    else if kind == 5 || kind == 6 then leading_new_name kind bytes
     else if kind == 7 then leading_new_item bytes
-    else if kind == 8 then leading_grant Authorize bytes
-    else if kind == 9 then leading_grant Deauthorize bytes
+    else if kind == 8 || kind == 9 then leading_grant kind bytes
     else if kind == 10 then leading_allow format bytes
     else if kind == 11 then leading_revoke bytes
     else if kind == 12 then leading_choice bytes

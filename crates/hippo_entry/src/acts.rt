@@ -1,7 +1,6 @@
 //! The act of an entry, and the entry, read from bytes.
 ghost use Rattle.std.specs.Prelude.{◌≡◌};
-ghost use Rattle.hippo_model.specs.declared.entry.Act.TheVariants.{Insert, Update, Delete, Authorize, Deauthorize};
-ghost use Rattle.hippo_entry.specs.Readings.{Gives, Reads, leading_create, leading_change, leading_purpose, leading_recipient, leading_new_item, leading_grant, item_of_byte, leading_item, leading_days, leading_allow, leading_revoke, leading_choice, leading_question, act_of_kind, moment_of, leading_entry};
+ghost use Rattle.hippo_entry.specs.Readings.{Gives, Reads, leading_create, change_of, leading_change, leading_new_name, leading_new_item, leading_grant, leading_item, leading_days, leading_allow, leading_revoke, leading_choice, leading_question, act_of_kind, moment_of, leading_entry};
 
 use crate::fault::Fault;
 use crate::reading::{
@@ -19,47 +18,37 @@ fn read_create(alloc: Global, bytes: &[u8]) -> Result<(Act, &[u8]), Fault>
     Ok((Act::Create(schema), rest))
 }
 
+// What an act of a kind from 2 to 4 does.
+fn change_of(kind: u8, table: Name, row: Cells) -> Act
+    ensures { result ≡ change_of kind table row }
+{
+    match kind {
+        2 => Act::Insert { table, row },
+        3 => Act::Update { table, row },
+        _ => Act::Delete { table, key: row },
+    }
+}
+
 #[tactic(auto, unfolding(crate::specs::Readings::leading_change))]
-fn read_insert(alloc: Global, bytes: &[u8]) -> Result<(Act, &[u8]), Fault>
-    ensures { Reads (leading_change Insert) bytes.now result }
+fn read_change(alloc: Global, kind: u8, bytes: &[u8]) -> Result<(Act, &[u8]), Fault>
+    ensures { Reads (leading_change kind) bytes.now result }
 {
     let (table, rest) = Name::read(alloc, bytes)?;
     let (row, rest) = Cells::read(alloc, rest)?;
-    Ok((Act::Insert { table, row }, rest))
+    Ok((change_of(kind, table, row), rest))
 }
 
-#[tactic(auto, unfolding(crate::specs::Readings::leading_change))]
-fn read_update(alloc: Global, bytes: &[u8]) -> Result<(Act, &[u8]), Fault>
-    ensures { Reads (leading_change Update) bytes.now result }
-{
-    let (table, rest) = Name::read(alloc, bytes)?;
-    let (row, rest) = Cells::read(alloc, rest)?;
-    Ok((Act::Update { table, row }, rest))
-}
-
-#[tactic(auto, unfolding(crate::specs::Readings::leading_change))]
-fn read_delete(alloc: Global, bytes: &[u8]) -> Result<(Act, &[u8]), Fault>
-    ensures { Reads (leading_change Delete) bytes.now result }
-{
-    let (table, rest) = Name::read(alloc, bytes)?;
-    let (key, rest) = Cells::read(alloc, rest)?;
-    Ok((Act::Delete { table, key }, rest))
-}
-
-#[tactic(auto, unfolding(crate::specs::Readings::leading_purpose))]
-fn read_purpose(alloc: Global, bytes: &[u8]) -> Result<(Act, &[u8]), Fault>
-    ensures { Reads leading_purpose bytes.now result }
+// A purpose or a recipient, of kind 5 or 6.
+#[tactic(auto, unfolding(crate::specs::Readings::leading_new_name))]
+fn read_new_name(alloc: Global, kind: u8, bytes: &[u8]) -> Result<(Act, &[u8]), Fault>
+    ensures { Reads (leading_new_name kind) bytes.now result }
 {
     let (name, rest) = Name::read(alloc, bytes)?;
-    Ok((Act::Purpose(name), rest))
-}
-
-#[tactic(auto, unfolding(crate::specs::Readings::leading_recipient))]
-fn read_recipient(alloc: Global, bytes: &[u8]) -> Result<(Act, &[u8]), Fault>
-    ensures { Reads leading_recipient bytes.now result }
-{
-    let (name, rest) = Name::read(alloc, bytes)?;
-    Ok((Act::Recipient(name), rest))
+    if kind == 5 {
+        Ok((Act::Purpose(name), rest))
+    } else {
+        Ok((Act::Recipient(name), rest))
+    }
 }
 
 #[tactic(auto, unfolding(crate::specs::Readings::leading_new_item))]
@@ -72,50 +61,32 @@ fn read_new_item(alloc: Global, bytes: &[u8]) -> Result<(Act, &[u8]), Fault>
     Ok((Act::Item { item, kind }, rest))
 }
 
+// Of kind 8 or 9.
 #[tactic(auto, unfolding(crate::specs::Readings::leading_grant))]
-fn read_authorize(alloc: Global, bytes: &[u8]) -> Result<(Act, &[u8]), Fault>
-    ensures { Reads (leading_grant Authorize) bytes.now result }
+fn read_grant(alloc: Global, kind: u8, bytes: &[u8]) -> Result<(Act, &[u8]), Fault>
+    ensures { Reads (leading_grant kind) bytes.now result }
 {
     let (user, rest) = Name::read(alloc, bytes)?;
     let (purpose, rest) = Name::read(alloc, rest)?;
     let (recipient, rest) = Name::read(alloc, rest)?;
-    Ok((
-        Act::Authorize {
-            user,
-            purpose,
-            recipient,
-        },
-        rest,
-    ))
-}
-
-#[tactic(auto, unfolding(crate::specs::Readings::leading_grant))]
-fn read_deauthorize(alloc: Global, bytes: &[u8]) -> Result<(Act, &[u8]), Fault>
-    ensures { Reads (leading_grant Deauthorize) bytes.now result }
-{
-    let (user, rest) = Name::read(alloc, bytes)?;
-    let (purpose, rest) = Name::read(alloc, rest)?;
-    let (recipient, rest) = Name::read(alloc, rest)?;
-    Ok((
-        Act::Deauthorize {
-            user,
-            purpose,
-            recipient,
-        },
-        rest,
-    ))
-}
-
-fn some_item(alloc: Global, byte: u8, bytes: &[u8]) -> Result<(Option<Name>, &[u8]), Fault>
-    ensures { Reads (item_of_byte byte) bytes.now result }
-{
-    match byte {
-        0 => Ok((None, bytes)),
-        1 => {
-            let (item, rest) = Name::read(alloc, bytes)?;
-            Ok((Some(item), rest))
-        }
-        _ => Err(Fault::NoPart),
+    if kind == 8 {
+        Ok((
+            Act::Authorize {
+                user,
+                purpose,
+                recipient,
+            },
+            rest,
+        ))
+    } else {
+        Ok((
+            Act::Deauthorize {
+                user,
+                purpose,
+                recipient,
+            },
+            rest,
+        ))
     }
 }
 
@@ -124,7 +95,14 @@ fn read_item(alloc: Global, bytes: &[u8]) -> Result<(Option<Name>, &[u8]), Fault
     ensures { Reads leading_item bytes.now result }
 {
     let (byte, rest) = read_byte(bytes)?;
-    some_item(alloc, byte, rest)
+    match byte {
+        0 => Ok((None, rest)),
+        1 => {
+            let (item, rest) = Name::read(alloc, rest)?;
+            Ok((Some(item), rest))
+        }
+        _ => Err(Fault::NoPart),
+    }
 }
 
 // Only in format 2 an act has days.
@@ -216,14 +194,10 @@ fn act_of_kind(alloc: Global, format: u8, kind: u8, bytes: &[u8]) -> Result<(Act
 {
     match kind {
         1 => read_create(alloc, bytes),
-        2 => read_insert(alloc, bytes),
-        3 => read_update(alloc, bytes),
-        4 => read_delete(alloc, bytes),
-        5 => read_purpose(alloc, bytes),
-        6 => read_recipient(alloc, bytes),
+        2 | 3 | 4 => read_change(alloc, kind, bytes),
+        5 | 6 => read_new_name(alloc, kind, bytes),
         7 => read_new_item(alloc, bytes),
-        8 => read_authorize(alloc, bytes),
-        9 => read_deauthorize(alloc, bytes),
+        8 | 9 => read_grant(alloc, kind, bytes),
         10 => read_allow(alloc, format, bytes),
         11 => read_revoke(alloc, bytes),
         12 => read_choice(alloc, bytes),

@@ -7,7 +7,7 @@ ghost use Rattle.hippo_entry.specs.Forms.{HasForm, IsEntryOf};
 use crate::acts::read_entry;
 use crate::encoding::encode;
 use crate::fault::Fault;
-use crate::keeping::is_keepable;
+use crate::keeping::Keepable;
 use hippo_model::{Entry, StoredEntry};
 use hippo_values::Memory;
 use std::alloc::Global;
@@ -26,7 +26,7 @@ fn is_same(form: &StoredEntry, kept: &StoredEntry) -> bool
 fn has_form(alloc: Global, entry: &Entry, kept: &StoredEntry) -> Result<bool, Memory>
     ensures { IfOk result (λ same. IsTrue same ↔ HasForm kept.now entry.now) }
 {
-    if !is_keepable(entry) {
+    if !entry.is_keepable() {
         return Ok(false);
     }
     let form = encode(alloc, entry)?;

@@ -171,46 +171,50 @@ fn write_rule(
     write_days(days, out)
 }
 
-fn write_act(act: &Act, out: &mut Vec<u8>) -> Result<(), Memory>
-    ensures { OnOk result (out.new.items ≡ out.old.items ++ act_bytes act.now) }
-{
-    match act {
-        Act::Create(schema) => write_schema(schema, out),
-        Act::Insert { table, row } | Act::Update { table, row } => write_row(table, row, out),
-        Act::Delete { table, key } => write_row(table, key, out),
-        Act::Purpose(name) | Act::Recipient(name) => name.write(out),
-        Act::Item { item, kind } => write_new_item(item, *kind, out),
-        Act::Authorize {
-            user,
-            purpose,
-            recipient,
+impl Part for Act {
+    ghost use Rattle.hippo_model.specs.StoredForms.{act_bytes};
+
+    ghost bytes = { act_bytes };
+
+    fn write(&self, out: &mut Vec<u8>) -> Result<(), Memory> {
+        match self {
+            Act::Create(schema) => write_schema(schema, out),
+            Act::Insert { table, row } | Act::Update { table, row } => write_row(table, row, out),
+            Act::Delete { table, key } => write_row(table, key, out),
+            Act::Purpose(name) | Act::Recipient(name) => name.write(out),
+            Act::Item { item, kind } => write_new_item(item, *kind, out),
+            Act::Authorize {
+                user,
+                purpose,
+                recipient,
+            }
+            | Act::Deauthorize {
+                user,
+                purpose,
+                recipient,
+            } => write_names(user, purpose, recipient, out),
+            Act::Allow {
+                purpose,
+                recipient,
+                table,
+                columns,
+                item,
+                days,
+            } => write_rule(purpose, recipient, table, columns, item, *days, out),
+            Act::Revoke {
+                purpose,
+                recipient,
+                table,
+                columns,
+            } => write_cells(purpose, recipient, table, columns, out),
+            Act::Choice { subject, item, yes } => write_choice(*subject, item, *yes, out),
+            Act::Asked {
+                user,
+                purpose,
+                recipient,
+                text,
+            } => write_question(user, purpose, recipient, text, out),
         }
-        | Act::Deauthorize {
-            user,
-            purpose,
-            recipient,
-        } => write_names(user, purpose, recipient, out),
-        Act::Allow {
-            purpose,
-            recipient,
-            table,
-            columns,
-            item,
-            days,
-        } => write_rule(purpose, recipient, table, columns, item, *days, out),
-        Act::Revoke {
-            purpose,
-            recipient,
-            table,
-            columns,
-        } => write_cells(purpose, recipient, table, columns, out),
-        Act::Choice { subject, item, yes } => write_choice(*subject, item, *yes, out),
-        Act::Asked {
-            user,
-            purpose,
-            recipient,
-            text,
-        } => write_question(user, purpose, recipient, text, out),
     }
 }
 
@@ -223,7 +227,7 @@ pub fn write_body(alloc: Global, entry: &Entry) -> Result<Vec<u8>, Memory>
     write_number(entry.seq, &mut out)?;
     write_signed(entry.moment.seconds(), &mut out)?;
     out.push(act_kind(&entry.act))?;
-    write_act(&entry.act, &mut out)?;
+    entry.act.write(&mut out)?;
     Ok(out)
 }
 

@@ -3,7 +3,6 @@ ghost use Rattle.std.specs.Prelude.{◌≡◌};
 ghost use Rattle.hippo_entry.specs.declared.fault.Fault.TheVariants as fault;
 
 use hippo_values::Memory;
-use std::alloc::{AllocError, AllocFailed};
 
 /// Why a part was not read.
 #[derive(Clone, Copy, Debug, PartialEq, Eq)]
@@ -18,22 +17,6 @@ impl From<Memory> for Fault {
     ghost from_gives = { λ _ made. made ≡ fault.Memory };
 
     fn from(_refused: Memory) -> Fault {
-        Fault::Memory
-    }
-}
-
-impl From<AllocError> for Fault {
-    ghost from_gives = { λ _ made. made ≡ fault.Memory };
-
-    fn from(_refused: AllocError) -> Fault {
-        Fault::Memory
-    }
-}
-
-impl<T: Drop> From<AllocFailed<T>> for Fault {
-    ghost from_gives = { λ _ made. made ≡ fault.Memory };
-
-    fn from(_refused: AllocFailed<T>) -> Fault {
         Fault::Memory
     }
 }

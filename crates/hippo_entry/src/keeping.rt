@@ -3,10 +3,11 @@ ghost use Rattle.std.specs.Prelude.{◌≡◌, ◌&&◌, nat_le, nat_lt};
 ghost use Rattle.std.specs.List.{list_all};
 ghost use Rattle.hippo_values.specs.Limits.{text_limit, line_limit};
 ghost use Rattle.hippo_values.specs.Moments.{is_day, is_moment, is_signed_number};
-ghost use Rattle.hippo_model.specs.Keepable.{is_folded_name, is_text, has_count, is_short, is_place, value_is_keepable, cells_are_keepable, places_are_keepable, columns_are_keepable, key_is_keepable, subject_is_keepable, days_are_keepable, schema_is_keepable, item_is_keepable, question_is_keepable, rule_is_keepable, act_is_keepable, is_keepable};
+ghost use Rattle.hippo_model.specs.declared.entry.Act.TheVariants.{Allow};
+ghost use Rattle.hippo_model.specs.Keepable.{is_folded_name, is_text, cells_are_keepable, columns_are_keepable, key_is_keepable, subject_is_keepable, days_are_keepable, item_is_keepable, question_is_keepable, rule_is_keepable, act_is_keepable};
 
 use hippo_model::{Act, Cells, Column, Columns, Entry, Places, Schema};
-use hippo_values::{DayNumber, LINE_LIMIT, Moment, Name, TEXT_LIMIT, Txt, Value, is_name};
+use hippo_values::{DayNumber, LINE_LIMIT, Moment, Name, Sequence, TEXT_LIMIT, Txt, Value};
 
 // A list has as many members as one byte counts.
 const COUNT_LIMIT: usize = 255;
@@ -14,10 +15,33 @@ const COUNT_LIMIT: usize = 255;
 // The most columns of a table, and of its key.
 const COLUMN_LIMIT: usize = 64;
 
-fn is_folded_name(name: &Name) -> bool
-    ensures { result ≡ is_folded_name name.now }
+/// A part of an entry for which a stored form may have no room.
+pub trait Keepable {
+    ghost use Rattle.std.specs.Prelude.{◌≡◌, Bool};
+
+    ghost keepable: { Self → Bool };
+
+    /// Whether it can be kept.
+    fn is_keepable(&self) -> bool
+        ensures { result ≡ keepable self.now };
+}
+
+fn are_keepable<T: Keepable>(members: &[T]) -> bool
+    ensures { result ≡ list_all T.keepable members.now }
 {
-    is_name(name.as_str())
+    members.iter().all(|member| member.is_keepable())
+}
+
+impl<T: Keepable> Keepable for Sequence<T> {
+    ghost use Rattle.std.specs.Prelude.{◌&&◌};
+    ghost use Rattle.std.specs.List.{list_all};
+    ghost use Rattle.hippo_model.specs.Keepable.{has_count};
+
+    ghost keepable = { λ members. has_count members && list_all T.keepable members };
+
+    fn is_keepable(&self) -> bool {
+        self.len() <= COUNT_LIMIT && are_keepable(self.as_slice())
+    }
 }
 
 fn is_short(length: usize) -> bool
@@ -26,8 +50,30 @@ fn is_short(length: usize) -> bool
     length >= 1 && length <= COLUMN_LIMIT
 }
 
-// Every text is UTF-8 by its type, every number one of 64 bits, every number of days one of 32; so where a test of the
-// definitions says no more, there is nothing to look at.
+// By its type every name is one in lower case, every day and moment one of the years 0001 to 9999, every text UTF-8, every
+// number one of 64 bits and every number of days one of 32; so where a test of the definitions says no more, there is
+// nothing to look at.
+impl Keepable for Name {
+    ghost use Rattle.hippo_model.specs.Keepable.{is_folded_name};
+
+    ghost keepable = { is_folded_name };
+
+    fn is_keepable(&self) -> bool {
+        let _word = self.as_str();
+        true
+    }
+}
+
+impl Keepable for usize {
+    ghost use Rattle.hippo_model.specs.Keepable.{is_place};
+
+    ghost keepable = { is_place };
+
+    fn is_keepable(&self) -> bool {
+        *self <= COUNT_LIMIT
+    }
+}
+
 fn is_text(limit: usize, text: &str) -> bool
     ensures { result ≡ is_text limit text.now }
 {
@@ -57,68 +103,52 @@ fn days_are_keepable(days: Option<u32>) -> bool
 fn is_day(day: DayNumber) -> bool
     ensures { result ≡ is_day day }
 {
-    let number = day.day();
-    number >= DayNumber::FIRST && number <= DayNumber::LAST
+    let _number = day.day();
+    true
 }
 
 fn is_moment(moment: Moment) -> bool
     ensures { result ≡ is_moment moment }
 {
-    let seconds = moment.seconds();
-    seconds >= Moment::FIRST && seconds <= Moment::LAST
+    let _seconds = moment.seconds();
+    true
 }
 
-fn value_is_keepable(value: &Value) -> bool
-    ensures { result ≡ value_is_keepable value.now }
-{
-    match value {
-        Value::Null => true,
-        Value::Int(number) => is_number(*number),
-        Value::Text(text) => is_text(TEXT_LIMIT, text.as_str()),
-        Value::Day(day) => is_day(*day),
+impl Keepable for Value {
+    ghost use Rattle.hippo_model.specs.Keepable.{value_is_keepable};
+
+    ghost keepable = { value_is_keepable };
+
+    fn is_keepable(&self) -> bool {
+        match self {
+            Value::Null => true,
+            Value::Int(number) => is_number(*number),
+            Value::Text(text) => is_text(TEXT_LIMIT, text.as_str()),
+            Value::Day(day) => is_day(*day),
+        }
     }
 }
 
-fn are_values(values: &[Value]) -> bool
-    ensures { result ≡ list_all value_is_keepable values.now }
-{
-    values.iter().all(|value| value_is_keepable(value))
-}
+impl Keepable for Column {
+    ghost use Rattle.hippo_model.specs.Keepable.{is_folded_name};
 
-fn cells_are_keepable(cells: &Cells) -> bool
-    ensures { result ≡ cells_are_keepable cells.now }
-{
-    cells.len() <= COUNT_LIMIT && are_values(cells.as_slice())
-}
+    ghost keepable = { λ column. is_folded_name column.name };
 
-fn are_places(places: &[usize]) -> bool
-    ensures { result ≡ list_all is_place places.now }
-{
-    places.iter().all(|place| *place <= COUNT_LIMIT)
-}
-
-fn places_are_keepable(places: &Places) -> bool
-    ensures { result ≡ places_are_keepable places.now }
-{
-    places.len() <= COUNT_LIMIT && are_places(places.as_slice())
-}
-
-fn key_is_keepable(key: &Places) -> bool
-    ensures { result ≡ key_is_keepable key.now }
-{
-    is_short(key.len()) && are_places(key.as_slice())
-}
-
-fn are_columns(columns: &[Column]) -> bool
-    ensures { result ≡ list_all (λ column. is_folded_name column.name) columns.now }
-{
-    columns.iter().all(|column| is_folded_name(&column.name))
+    fn is_keepable(&self) -> bool {
+        self.name.is_keepable()
+    }
 }
 
 fn columns_are_keepable(columns: &Columns) -> bool
     ensures { result ≡ columns_are_keepable columns.now }
 {
-    is_short(columns.len()) && are_columns(columns.as_slice())
+    is_short(columns.len()) && are_keepable(columns.as_slice())
+}
+
+fn key_is_keepable(key: &Places) -> bool
+    ensures { result ≡ key_is_keepable key.now }
+{
+    is_short(key.len()) && are_keepable(key.as_slice())
 }
 
 fn subject_is_keepable(subject: Option<usize>) -> bool
@@ -130,13 +160,23 @@ fn subject_is_keepable(subject: Option<usize>) -> bool
     }
 }
 
-fn schema_is_keepable(schema: &Schema) -> bool
-    ensures { result ≡ schema_is_keepable schema.now }
+impl Keepable for Schema {
+    ghost use Rattle.hippo_model.specs.Keepable.{schema_is_keepable};
+
+    ghost keepable = { schema_is_keepable };
+
+    fn is_keepable(&self) -> bool {
+        self.name.is_keepable()
+            && columns_are_keepable(&self.columns)
+            && key_is_keepable(&self.key)
+            && subject_is_keepable(self.subject)
+    }
+}
+
+fn change_is_keepable(table: &Name, row: &Cells) -> bool
+    ensures { result ≡ is_folded_name table.now && cells_are_keepable row.now }
 {
-    is_folded_name(&schema.name)
-        && columns_are_keepable(&schema.columns)
-        && key_is_keepable(&schema.key)
-        && subject_is_keepable(schema.subject)
+    table.is_keepable() && row.is_keepable()
 }
 
 fn item_is_keepable(item: &Option<Name>) -> bool
@@ -144,7 +184,7 @@ fn item_is_keepable(item: &Option<Name>) -> bool
 {
     match item {
         None => true,
-        Some(name) => is_folded_name(name),
+        Some(name) => name.is_keepable(),
     }
 }
 
@@ -157,67 +197,85 @@ fn question_is_keepable(text: &Txt) -> bool
 fn are_names(first: &Name, second: &Name, third: &Name) -> bool
     ensures { result ≡ is_folded_name first.now && is_folded_name second.now && is_folded_name third.now }
 {
-    is_folded_name(first) && is_folded_name(second) && is_folded_name(third)
+    first.is_keepable() && second.is_keepable() && third.is_keepable()
 }
 
 fn rule_is_keepable(purpose: &Name, recipient: &Name, table: &Name, columns: &Places) -> bool
     ensures { result ≡ rule_is_keepable purpose.now recipient.now table.now columns.now }
 {
-    are_names(purpose, recipient, table) && places_are_keepable(columns)
+    are_names(purpose, recipient, table) && columns.is_keepable()
 }
 
-fn act_is_keepable(act: &Act) -> bool
-    ensures { result ≡ act_is_keepable act.now }
+fn allow_is_keepable(
+    purpose: &Name,
+    recipient: &Name,
+    table: &Name,
+    columns: &Places,
+    item: &Option<Name>,
+    days: Option<u32>,
+) -> bool
+    ensures { result ≡ act_is_keepable (Allow purpose.now recipient.now table.now columns.now item.now days) }
 {
-    match act {
-        Act::Create(schema) => schema_is_keepable(schema),
-        Act::Insert { table, row } | Act::Update { table, row } => {
-            is_folded_name(table) && cells_are_keepable(row)
+    rule_is_keepable(purpose, recipient, table, columns)
+        && item_is_keepable(item)
+        && days_are_keepable(days)
+}
+
+impl Keepable for Act {
+    ghost use Rattle.hippo_model.specs.Keepable.{act_is_keepable};
+
+    ghost keepable = { act_is_keepable };
+
+    fn is_keepable(&self) -> bool {
+        match self {
+            Act::Create(schema) => schema.is_keepable(),
+            Act::Insert { table, row } | Act::Update { table, row } => {
+                change_is_keepable(table, row)
+            }
+            Act::Delete { table, key } => change_is_keepable(table, key),
+            Act::Purpose(name) | Act::Recipient(name) => name.is_keepable(),
+            Act::Item { item, .. } => item.is_keepable(),
+            Act::Authorize {
+                user,
+                purpose,
+                recipient,
+            }
+            | Act::Deauthorize {
+                user,
+                purpose,
+                recipient,
+            } => are_names(user, purpose, recipient),
+            Act::Allow {
+                purpose,
+                recipient,
+                table,
+                columns,
+                item,
+                days,
+            } => allow_is_keepable(purpose, recipient, table, columns, item, *days),
+            Act::Revoke {
+                purpose,
+                recipient,
+                table,
+                columns,
+            } => rule_is_keepable(purpose, recipient, table, columns),
+            Act::Choice { subject, item, .. } => is_number(*subject) && item.is_keepable(),
+            Act::Asked {
+                user,
+                purpose,
+                recipient,
+                text,
+            } => are_names(user, purpose, recipient) && question_is_keepable(text),
         }
-        Act::Delete { table, key } => is_folded_name(table) && cells_are_keepable(key),
-        Act::Purpose(name) | Act::Recipient(name) => is_folded_name(name),
-        Act::Item { item, .. } => is_folded_name(item),
-        Act::Authorize {
-            user,
-            purpose,
-            recipient,
-        }
-        | Act::Deauthorize {
-            user,
-            purpose,
-            recipient,
-        } => are_names(user, purpose, recipient),
-        Act::Allow {
-            purpose,
-            recipient,
-            table,
-            columns,
-            item,
-            days,
-        } => {
-            rule_is_keepable(purpose, recipient, table, columns)
-                && item_is_keepable(item)
-                && days_are_keepable(*days)
-        }
-        Act::Revoke {
-            purpose,
-            recipient,
-            table,
-            columns,
-        } => rule_is_keepable(purpose, recipient, table, columns),
-        Act::Choice { subject, item, .. } => is_number(*subject) && is_folded_name(item),
-        Act::Asked {
-            user,
-            purpose,
-            recipient,
-            text,
-        } => are_names(user, purpose, recipient) && question_is_keepable(text),
     }
 }
 
-/// Whether an entry can be kept.
-pub fn is_keepable(entry: &Entry) -> bool
-    ensures { result ≡ is_keepable entry.now }
-{
-    is_count(entry.seq) && is_moment(entry.moment) && act_is_keepable(&entry.act)
+impl Keepable for Entry {
+    ghost use Rattle.hippo_model.specs.Keepable.{is_keepable};
+
+    ghost keepable = { is_keepable };
+
+    fn is_keepable(&self) -> bool {
+        is_count(self.seq) && is_moment(self.moment) && self.act.is_keepable()
+    }
 }

@@ -1,7 +1,7 @@
 //! The parts of an entry, in bytes.
 ghost use Rattle.std.specs.Prelude.{◌≡◌, [], ◌∷◌, ◌++◌, flat_map, IfOk, OnOk};
 ghost use Rattle.std.specs.Int.{from_bool};
-ghost use Rattle.hippo_model.specs.StoredForms.{number_bytes, signed_bytes, day_bytes, name_bytes, text_bytes, list_bytes, place_bytes, value_bytes, column_kind, column_bytes};
+ghost use Rattle.hippo_model.specs.StoredForms.{number_bytes, signed_bytes, name_bytes, text_bytes, list_bytes, place_bytes, value_bytes, column_kind, column_bytes};
 
 use hippo_model::{Column, ColumnKind};
 use hippo_values::{Memory, Name, Sequence, Txt, Value};
@@ -96,28 +96,6 @@ impl Part for usize {
     }
 }
 
-fn write_int_value(number: i64, out: &mut Vec<u8>) -> Result<(), Memory>
-    ensures { OnOk result (out.new.items ≡ out.old.items ++ 1 ∷ signed_bytes number) }
-{
-    out.push(1)?;
-    write_signed(number, out)
-}
-
-fn write_text_value(text: &Txt, out: &mut Vec<u8>) -> Result<(), Memory>
-    ensures { OnOk result (out.new.items ≡ out.old.items ++ 2 ∷ text_bytes text.now) }
-{
-    out.push(2)?;
-    write_text(text, out)
-}
-
-fn write_day_value(day: i32, out: &mut Vec<u8>) -> Result<(), Memory>
-    ensures { OnOk result (out.new.items ≡ out.old.items ++ 3 ∷ day_bytes day) }
-{
-    out.push(3)?;
-    out.extend_from_slice(&day.cast_unsigned().to_be_bytes())?;
-    Ok(())
-}
-
 impl Part for Value {
     ghost use Rattle.hippo_model.specs.StoredForms.{value_bytes};
 
@@ -126,9 +104,19 @@ impl Part for Value {
     fn write(&self, out: &mut Vec<u8>) -> Result<(), Memory> {
         match self {
             Value::Null => write_byte(0, out),
-            Value::Int(number) => write_int_value(*number, out),
-            Value::Text(text) => write_text_value(text, out),
-            Value::Day(day) => write_day_value(day.day(), out),
+            Value::Int(number) => {
+                out.push(1)?;
+                write_signed(*number, out)
+            }
+            Value::Text(text) => {
+                out.push(2)?;
+                write_text(text, out)
+            }
+            Value::Day(day) => {
+                out.push(3)?;
+                out.extend_from_slice(&day.day().cast_unsigned().to_be_bytes())?;
+                Ok(())
+            }
         }
     }
 }

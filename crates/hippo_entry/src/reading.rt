@@ -2,7 +2,7 @@
 ghost use Rattle.std.specs.Prelude.{◌≡◌};
 ghost use Rattle.std.specs.Int.{w32, w64};
 ghost use Rattle.hippo_values.specs.Names.{name_of};
-ghost use Rattle.hippo_entry.specs.Readings.{Gives, Reads, leading_byte, leading_bytes, leading_number, leading_signed, text_of, leading_text, leading_name, leading_parts, leading_list, leading_int, leading_text_value, day_of, leading_day, value_of_kind, leading_value, column_kind_of, bool_of, item_kind_of, subject_of_byte, leading_column, leading_schema};
+ghost use Rattle.hippo_entry.specs.Readings.{Gives, Reads, leading_byte, leading_bytes, leading_number, leading_signed, text_of, leading_text, leading_name, leading_parts, leading_list, day_of, leading_value, column_kind_of, bool_of, item_kind_of, subject_of_byte, leading_column, leading_schema};
 
 use crate::fault::Fault;
 use hippo_model::{Column, ColumnKind, ItemKind, Schema};
@@ -159,46 +159,12 @@ impl<T: Readable + Drop> Readable for Sequence<T> {
     }
 }
 
-fn read_int(bytes: &[u8]) -> Result<(Value, &[u8]), Fault>
-    ensures { Reads leading_int bytes.now result }
-{
-    let (number, rest) = read_signed(bytes)?;
-    Ok((Value::Int(number), rest))
-}
-
-fn read_text_value(alloc: Global, bytes: &[u8]) -> Result<(Value, &[u8]), Fault>
-    ensures { Reads leading_text_value bytes.now result }
-{
-    let (text, rest) = read_text(alloc, bytes)?;
-    Ok((Value::Text(text), rest))
-}
-
 fn day_of(number: i32) -> Result<DayNumber, Fault>
     ensures { Gives (λ day. day) result (day_of number) }
 {
     match DayNumber::new(number) {
         Some(day) => Ok(day),
         None => Err(Fault::NoPart),
-    }
-}
-
-fn read_day(bytes: &[u8]) -> Result<(Value, &[u8]), Fault>
-    ensures { Reads leading_day bytes.now result }
-{
-    let (number, rest) = read_short(bytes)?;
-    let day = day_of(number.cast_signed())?;
-    Ok((Value::Day(day), rest))
-}
-
-fn value_of_kind(alloc: Global, kind: u8, bytes: &[u8]) -> Result<(Value, &[u8]), Fault>
-    ensures { Reads (value_of_kind kind) bytes.now result }
-{
-    match kind {
-        0 => Ok((Value::Null, bytes)),
-        1 => read_int(bytes),
-        2 => read_text_value(alloc, bytes),
-        3 => read_day(bytes),
-        _ => Err(Fault::NoPart),
     }
 }
 
@@ -210,7 +176,23 @@ impl Readable for Value {
     #[tactic(auto, unfolding(crate::specs::Readings::leading_value))]
     fn read(alloc: Global, bytes: &[u8]) -> Result<(Value, &[u8]), Fault> {
         let (kind, rest) = read_byte(bytes)?;
-        value_of_kind(alloc, kind, rest)
+        match kind {
+            0 => Ok((Value::Null, rest)),
+            1 => {
+                let (number, rest) = read_signed(rest)?;
+                Ok((Value::Int(number), rest))
+            }
+            2 => {
+                let (text, rest) = read_text(alloc, rest)?;
+                Ok((Value::Text(text), rest))
+            }
+            3 => {
+                let (number, rest) = read_short(rest)?;
+                let day = day_of(number.cast_signed())?;
+                Ok((Value::Day(day), rest))
+            }
+            _ => Err(Fault::NoPart),
+        }
     }
 }
 

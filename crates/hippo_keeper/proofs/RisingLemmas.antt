@@ -1,8 +1,8 @@
 -- Entries whose numbers rise.
-use Rattle.std.proofs.Common.{◌≡◌, ℕ, zero, suc, ◌<◌, ◌≤◌, Bool, true, false, List, [], ◌∷◌, ◌++◌, filter, take, nat_lt, refl, arith, cond}
+use Rattle.std.proofs.Common.{◌≡◌, ℕ, zero, suc, ◌+◌, ◌<◌, ◌≤◌, Bool, true, false, List, [], ◌∷◌, ◌++◌, filter, take, nat_lt, refl, ap, arith, cond}
 use Rattle.std.proofs.lemmas.Bool.Decides.{nat_tests}
 use Rattle.hippo_model.specs.declared.stored.StoredEntry.{StoredEntry}
-use Rattle.hippo_keeper.specs.Keeping.{RisesAbove, last_number}
+use Rattle.hippo_keeper.specs.Keeping.{RisesAbove, last_number, next_number}
 
 -- an entry with a number above the last one
 pub RisesAbove-append : (number : ℕ) (kept : List StoredEntry) (entry : StoredEntry) → RisesAbove number kept → last_number number kept < entry.seq → RisesAbove number (kept ++ entry ∷ [])
@@ -39,3 +39,11 @@ RisesAbove-above after number [] rises = tt
 RisesAbove-above after number (entry ∷ rest) rises =
     above-cases after entry (filter (λ other. nat_lt after other.seq) rest) (nat_lt after entry.seq) refl
     (RisesAbove-filter (λ other. nat_lt after other.seq) entry.seq rest rises.1) (RisesAbove-above after entry.seq rest rises.1)
+
+last_number-append : (number : ℕ) (kept : List StoredEntry) (entry : StoredEntry) → last_number number (kept ++ entry ∷ []) ≡ entry.seq
+last_number-append number [] entry = refl
+last_number-append number (first ∷ rest) entry = last_number-append first.seq rest entry
+
+-- the next number after one more entry
+pub next_number-append : (kept : List StoredEntry) (entry : StoredEntry) → next_number (kept ++ entry ∷ []) ≡ entry.seq + 1
+next_number-append kept entry = ap (λ number. number + 1) (last_number-append 0 kept entry)

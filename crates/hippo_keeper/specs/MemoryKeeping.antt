@@ -1,10 +1,10 @@
 -- What a keeper in memory is, and what a call does to it.
-use Rattle.std.specs.Prelude.{◌≡◌, ℕ, Bool, true, false, not, ◌&&◌, ◌||◌, ◌==◌, List, [], ◌∷◌, ◌++◌, find, Option, option_map, is_ok, Result, if◌then◌else◌}
+use Rattle.std.specs.Prelude.{◌≡◌, ℕ, Bool, true, false, not, ◌&&◌, ◌||◌, ◌==◌, List, [], ◌∷◌, ◌++◌, find, Option, option_map, is_ok, Result, if◌then◌else◌, ⊤}
 use Rattle.std.specs.Option.{option_map_or}
 use Rattle.hippo_io.specs.Faults.{counted}
 use Rattle.hippo_model.specs.declared.stored.StoredEntry.{StoredEntry}
 use Rattle.hippo_keeper.specs.Answering.{has_failed, wants_memory}
-use Rattle.hippo_keeper.specs.Keeping.{Store, Survivors}
+use Rattle.hippo_keeper.specs.Keeping.{Store, Survivors, KeeperState}
 use Rattle.hippo_keeper.specs.declared.faults.KeeperFail.{KeeperFail}
 use Rattle.hippo_keeper.specs.declared.faults.KeeperFault.{KeeperFault}
 
@@ -67,3 +67,17 @@ FindsInMemory keeper name store = store ≡ keeper.kept
 
 abbrev pub SurvivesInMemory : MemoryStore → Survivors
 SurvivesInMemory keeper store = store ≡ keeper.kept
+
+-- what clauses see of it
+abbrev pub seen : MemoryStore → KeeperState
+seen keeper = record {
+  tells = ⊤;
+  kept = keeper.kept;
+  started = keeper.started;
+  closed = false;
+  spent = keeper.spent;
+  survives = SurvivesInMemory keeper;
+  finds = FindsInMemory keeper;
+  faults = keeper.faults;
+  sound = ⊤;
+}

@@ -1,9 +1,9 @@
 -- What the reads of a keeper hand over.
-use Rattle.std.specs.Prelude.{◌≡◌, ℕ, ◌≤◌, Bool, true, ◌&&◌, ◌||◌, ◌==◌, length, filter, take, count_by, nat_lt, int_le, bytes_eq, Result, Ok, Err}
+use Rattle.std.specs.Prelude.{◌≡◌, ℕ, ◌≤◌, Bool, true, false, ◌&&◌, ◌||◌, ◌==◌, length, filter, take, count_by, nat_lt, int_le, bytes_eq, Result, Ok, Err, IfOk}
 use Rattle.hippo_values.specs.declared.moments.Moment.{Moment}
 use Rattle.hippo_values.specs.declared.names.Name.{Name}
 use Rattle.hippo_model.specs.declared.stored.StoredEntry.{StoredEntry}
-use Rattle.hippo_keeper.specs.Keeping.{Store, RisesAbove}
+use Rattle.hippo_keeper.specs.Keeping.{Store, RisesAbove, KeeperState, IsAfterCall, Stays}
 use Rattle.hippo_keeper.specs.declared.faults.KeeperFault.{KeeperFault}
 use Rattle.hippo_keeper.specs.declared.selection.Selection.{Selection}
 use Rattle.hippo_keeper.specs.declared.selection.Selection.TheVariants.{All, VersionsOf, AskedIn}
@@ -41,6 +41,13 @@ pub record IsHandedOver (tells : Type 0) (test : StoredEntry → Bool) (after ma
   pub told : tells → list ≡ handed_over test after max kept
   pub few : length list ≤ max
   pub order : RisesAbove after list
+
+-- what a read does: it changes nothing that is kept, and answers what was asked for
+pub record Reads (test : StoredEntry → Bool) (after max : ℕ) (result : Result Store KeeperFault)
+    (old new : KeeperState) : Type 0 where
+  pub call : IsAfterCall true false result old new
+  pub stays : new.tells → Stays old new
+  pub ok : IfOk result (IsHandedOver new.tells test after max old.kept)
 
 -- the test of a read
 abbrev pub is_selected : Selection → StoredEntry → Bool

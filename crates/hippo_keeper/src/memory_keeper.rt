@@ -1,8 +1,8 @@
 //! A keeper in memory that tells what it keeps, and fails where it is told to.
-ghost use Rattle.std.specs.Prelude.{◌≡◌, ℕ, ◌+◌, ◌≤◌, Bool, true, false, List, [], filter, Some, is_some, nat_lt, IfOk, OnOk, OnErr, ⊤};
+ghost use Rattle.std.specs.Prelude.{◌≡◌, ℕ, ◌+◌, ◌≤◌, true, false, List, [], filter, Some, is_some, nat_lt, IfOk, OnOk, OnErr, ⊤};
 ghost use Rattle.hippo_keeper.specs.Answering.{has_failed, wants_memory};
 ghost use Rattle.hippo_keeper.specs.Keeping.{Store, RisesAbove, next_number};
-ghost use Rattle.hippo_keeper.specs.MemoryKeeping.{new_store, next_failure, after_call, after_fault, after_answer, after_start, after_append, with_entry, FindsInMemory, SurvivesInMemory};
+ghost use Rattle.hippo_keeper.specs.MemoryKeeping.{new_store, next_failure, after_call, after_fault, after_answer, after_start, after_append, with_entry, FindsInMemory, SurvivesInMemory, seen};
 ghost use Rattle.hippo_keeper.specs.Selecting.{is_any, is_version_of, was_asked_in, is_selected, versions_read, IsHandedOver};
 
 use crate::faults::{KeeperFails, KeeperFault};
@@ -151,23 +151,7 @@ impl MemoryKeeper {
 }
 
 impl Keeper for MemoryKeeper {
-    ghost tells = { λ keeper. ⊤ };
-
-    ghost kept = { λ keeper. keeper.kept };
-
-    ghost started = { λ keeper. keeper.started };
-
-    ghost closed = { λ keeper. false };
-
-    ghost spent = { λ keeper. keeper.spent };
-
-    ghost survives = { SurvivesInMemory };
-
-    ghost finds = { FindsInMemory };
-
-    ghost faults = { λ keeper. keeper.faults };
-
-    ghost sound = { λ keeper. ⊤ };
+    ghost state = { seen };
 
     fn start(&mut self, _alloc: Global, _name: &str) -> Result<(), KeeperFault>
         ensures store { self.new ≡ after_start result self.old }
