@@ -1,3 +1,0 @@
-pub mod RowKeys
-pub mod DistinctRows
-pub mod DistinctNeeds

@@ -1,8 +1,0 @@
-//! Queries that answer equal rows once.
-#![tactic(auto)]
-
-mod deduplication;
-mod keys;
-pub mod laws;
-
-pub use deduplication::distinct;
