@@ -1,0 +1,4 @@
+pub mod Catalogs
+pub mod Refusals
+pub mod WrittenColumns
+pub mod Kinds
