@@ -8,3 +8,5 @@ pub mod Comparisons
 pub mod StatementLimits
 pub mod Selects
 pub mod AuditExpressions
+pub mod ChangesRefused
+pub mod ChangesWanted
