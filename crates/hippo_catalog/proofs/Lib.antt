@@ -1,1 +1,3 @@
+pub mod NewNames
+pub mod ColumnIndexLemmas
 mod ChangesExamples

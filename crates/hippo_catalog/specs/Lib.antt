@@ -1,4 +1,6 @@
+pub mod ColumnIndex
 pub mod Catalogs
+pub mod NewestNames
 pub mod Refusals
 pub mod WrittenColumns
 pub mod Kinds

@@ -60,12 +60,15 @@ item_refused schemas All = []
 item_refused schemas (AllOf table) = star_refused schemas table
 item_refused schemas (One written) = column_refused schemas written
 
--- the columns that are none of the statement's, or more than one: of the list, of ON and WHERE, of GROUP BY
+-- of the list's columns, those that are none of the statement's, or more than one
+abbrev pub list_refused : List Schema → List RawItem → RawForm → List NameFault
+list_refused schemas items (forms.Grouped outs by) = flat_map (λ out. column_refused schemas (column_in out)) outs
+list_refused schemas items form = flat_map (item_refused schemas) items
+
+-- those of the list, of ON and WHERE, and of GROUP BY
 abbrev pub columns_refused : List Schema → RawSelect → List NameFault
 columns_refused schemas select =
-    flat_map (item_refused schemas) select.items
-    ++ flat_map (λ out. column_refused schemas (column_in out)) (outs_of select.form)
-    ++ operands_refused schemas select.cond
+    list_refused schemas select.items select.form ++ operands_refused schemas select.cond
     ++ flat_map (column_refused schemas) (by_of select.form)
 
 abbrev pub same_reference : Ref → Ref → Bool
@@ -126,21 +129,20 @@ abbrev pub form_of : List Schema → RawForm → Form
 form_of schemas forms.Plain = Plain
 form_of schemas forms.Distinct = Distinct
 form_of schemas (forms.Grouped outs by) =
-    let columns = map (column_of schemas) by in
-    Grouped (record { keys = length by; outs = shown_outs schemas columns (length by) outs })
+    Grouped (record { keys = length by; outs = shown_outs schemas (map (column_of schemas) by) (length by) outs })
 
--- the columns of the list; of a grouped select those of GROUP BY and then the arguments
-abbrev pub columns_of : List Schema → RawSelect → List Ref
-columns_of schemas select =
-    flat_map (item_columns schemas) select.items
-    ++ map (column_of schemas) (by_of select.form ++ filter_map argument_in (outs_of select.form))
+-- the columns of the list; of a grouped select those of GROUP BY, and then the arguments
+abbrev pub listed_columns : List Schema → List RawItem → RawForm → List Ref
+listed_columns schemas items (forms.Grouped outs by) =
+    map (column_of schemas) by ++ map (column_of schemas) (filter_map argument_in outs)
+listed_columns schemas items form = flat_map (item_columns schemas) items
 
 -- what a select means
 abbrev pub query_of : KnownNames → RawSelect → Query
 query_of known select =
     let schemas = schemas_of known select.tables in
     record {
-      items = columns_of schemas select;
+      items = listed_columns schemas select.items select.form;
       tables = select.tables;
       cond = condition_of schemas select.cond;
       form = form_of schemas select.form;

@@ -1,1 +1,4 @@
 pub mod MeaningTheorem
+pub mod ListLemmas
+pub mod Refused
+pub mod RepeatLemmas

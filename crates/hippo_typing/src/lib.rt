@@ -1,4 +1,7 @@
 //! From statements as they are written to what they mean in a history, or to the first refusal that holds.
 #![tactic(auto)]
 
-pub use hippo_catalog::TABLE_LIMIT;
+mod faults;
+mod tables;
+
+pub use hippo_catalog::Catalog;

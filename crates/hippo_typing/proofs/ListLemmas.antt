@@ -1,0 +1,27 @@
+-- Lists, read by place.
+use Rattle.std.proofs.Common.{◌≡◌, ℕ, suc, ◌+◌, ◌<◌, Bool, List, [], ◌∷◌, ◌++◌, map, take, drop, length, get_or, Some, Bor, refl, sym, ap, ◌∙◌, append_assoc, add-one}
+use Rattle.std.proofs.Common.{slice_get}
+use Rattle.std.specs.Prelude.{◌||◌}
+use Rattle.std.specs.List.{list_any}
+use Rattle.std.proofs.Math.Seq.{drop-cons}
+use Rattle.std.proofs.lemmas.Option.{slice_get_within, get_or_from_slice_get}
+
+-- the member at a place, and then those behind it
+pub drop_at_item : {A : Type 0} (items : List A) (i : ℕ) (item : A) → slice_get items i ≡ Some item → drop i items ≡ item ∷ drop (i + 1) items
+drop_at_item items i item e =
+    let within = slice_get_within items i item e in
+    let read = get_or_from_slice_get items i item item e in
+    rw (add-one) (drop-cons items i item within ∙ ap (λ first. first ∷ drop (suc i) items) read)
+
+pub drop_at_get_or : {A : Type 0} (items : List A) (i : ℕ) (item : A) → i < length items → item ≡ get_or items i item → drop i items ≡ item ∷ drop (i + 1) items
+drop_at_get_or items i item within read =
+    rw (add-one) (drop-cons items i item within ∙ ap (λ first. first ∷ drop (suc i) items) (sym read))
+
+-- what holds of some member of what loans lend
+pub list_any-lent : {A : Type 0} (test : A → Bool) (loans : List (Bor A)) → list_any test (map (λ (loan : Bor A). loan.now) loans) ≡ list_any (λ (loan : Bor A). test loan.now) loans
+list_any-lent test [] = refl
+list_any-lent test (first ∷ rest) = ap (λ t. test first.now || t) (list_any-lent test rest)
+
+pub lent-push : {A : Type 0} (loans : List (Bor A)) (last : Bor A) → map (λ (loan : Bor A). loan.now) (loans ++ last ∷ []) ≡ map (λ (loan : Bor A). loan.now) loans ++ last.now ∷ []
+lent-push [] last = refl
+lent-push (first ∷ rest) last = ap (λ l. first.now ∷ l) (lent-push rest last)
