@@ -61,14 +61,13 @@ abbrev pub count_refused : Schema → List Value → List NameFault
 count_refused schema values =
     refused (not (length values == length schema.columns)) (WrongCount (length schema.columns))
 
--- these columns are those of the key, each once
-abbrev pub is_the_key : Schema → List Name → Bool
-is_the_key schema names =
-    length names == length schema.key
-    && list_all (λ place. list_any (nat_eq place) (places_of schema names)) schema.key
+-- these are the places of the key's columns, each once
+abbrev pub is_the_key : Schema → List Place → Bool
+is_the_key schema places =
+    length places == length schema.key && list_all (λ place. list_any (nat_eq place) places) schema.key
 
 abbrev pub key_refused : Schema → List Name → List NameFault
-key_refused schema names = refused (not (is_the_key schema names)) NotTheKey
+key_refused schema names = refused (not (is_the_key schema (places_of schema names))) NotTheKey
 
 abbrev pub is_of_key : Schema → Name → Bool
 is_of_key schema name = option_map_or (λ place. list_any (nat_eq place) schema.key) (place_of schema name) false
