@@ -1,6 +1,7 @@
 //! From statements as they are written to what they mean in a history, or to the first refusal that holds.
 #![tactic(auto)]
 
+mod columns;
 mod faults;
 mod tables;
 
