@@ -1,3 +1,4 @@
 pub mod ListLemmas
 pub mod Refused
 pub mod RepeatLemmas
+pub mod ComparedOperands

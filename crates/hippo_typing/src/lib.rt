@@ -2,6 +2,7 @@
 #![tactic(auto)]
 
 mod columns;
+mod conditions;
 mod faults;
 mod tables;
 
