@@ -2,3 +2,4 @@ pub mod MeaningTheorem
 pub mod ListLemmas
 pub mod Refused
 pub mod RepeatLemmas
+pub mod ComparedOperands

@@ -1,8 +1,8 @@
 -- Lists, read by place.
-use Rattle.std.proofs.Common.{◌≡◌, ℕ, suc, ◌+◌, ◌<◌, Bool, List, [], ◌∷◌, ◌++◌, map, take, drop, length, get_or, Some, Bor, refl, sym, ap, ◌∙◌, append_assoc, add-one}
+use Rattle.std.proofs.Common.{◌≡◌, ℕ, suc, ◌+◌, ◌<◌, Bool, List, [], ◌∷◌, ◌++◌, map, take, drop, length, get_or, Option, None, Some, Bor, filter_map, refl, sym, ap, ◌∙◌, append_assoc, add-one}
 use Rattle.std.proofs.Common.{slice_get}
-use Rattle.std.specs.Prelude.{◌||◌}
-use Rattle.std.specs.List.{list_any}
+use Rattle.std.specs.Prelude.{◌||◌, option_to_list}
+use Rattle.std.specs.List.{list_any, enumerate_from, cons_option}
 use Rattle.std.proofs.Math.Seq.{drop-cons}
 use Rattle.std.proofs.lemmas.Option.{slice_get_within, get_or_from_slice_get}
 
@@ -25,3 +25,12 @@ list_any-lent test (first ∷ rest) = ap (λ t. test first.now || t) (list_any-l
 pub lent-push : {A : Type 0} (loans : List (Bor A)) (last : Bor A) → map (λ (loan : Bor A). loan.now) (loans ++ last ∷ []) ≡ map (λ (loan : Bor A). loan.now) loans ++ last.now ∷ []
 lent-push [] last = refl
 lent-push (first ∷ rest) last = ap (λ l. first.now ∷ l) (lent-push rest last)
+
+-- what is kept of the member at a place, and then of those behind it
+pub filter_map_at_item : {A B : Type 0} (keep : ℕ × A → Option B) (items : List A) (i : ℕ) (item : A) → slice_get items i ≡ Some item → filter_map keep (enumerate_from i (drop i items)) ≡ option_to_list (keep (i, item)) ++ filter_map keep (enumerate_from (i + 1) (drop (i + 1) items))
+filter_map_at_item keep items i item e =
+    ap (λ l. filter_map keep (enumerate_from i l)) (drop_at_item items i item e) ∙ one (keep (i, item)) (filter_map keep (enumerate_from (i + 1) (drop (i + 1) items)))
+  where
+    one : {B : Type 0} (kept : Option B) (rest : List B) → cons_option kept rest ≡ option_to_list kept ++ rest
+    one None rest = refl
+    one (Some first) rest = refl

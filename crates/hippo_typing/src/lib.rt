@@ -1,6 +1,8 @@
 //! From statements as they are written to what they mean in a history, or to the first refusal that holds.
 #![tactic(auto)]
 
+mod columns;
+mod conditions;
 mod faults;
 mod tables;
 
