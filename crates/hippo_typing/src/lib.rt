@@ -6,4 +6,7 @@ mod conditions;
 mod faults;
 mod tables;
 
+mod change_faults;
+mod change_names;
+
 pub use hippo_catalog::Catalog;
