@@ -6,6 +6,7 @@ mod conditions;
 mod faults;
 mod tables;
 
+mod change_columns;
 mod change_faults;
 mod change_names;
 
