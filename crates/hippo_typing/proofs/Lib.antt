@@ -3,3 +3,4 @@ pub mod ListLemmas
 pub mod Refused
 pub mod RepeatLemmas
 pub mod ComparedOperands
+pub mod ChangesLemmas

@@ -9,5 +9,6 @@ mod tables;
 mod change_columns;
 mod change_faults;
 mod change_names;
+mod change_values;
 
 pub use hippo_catalog::Catalog;

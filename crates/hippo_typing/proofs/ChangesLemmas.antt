@@ -1,0 +1,17 @@
+-- Two lists side by side, place by place.
+use Rattle.std.proofs.Common.{◌≡◌, ℕ, ◌+◌, ◌<◌, List, [], ◌∷◌, ◌++◌, length, drop, min, get_or, arith, refl, ap, ◌∙◌}
+use Rattle.std.specs.List.{zip, flat_map}
+use Rattle.std.proofs.lemmas.List.{nil_from_length, length-drop}
+use Rattle.std.proofs.lemmas.List.Concat.{flat_map-append}
+use Rattle.std.proofs.lemmas.Slice.Zip.{length-zip}
+use Rattle.hippo_typing.proofs.ListLemmas.{drop_at_get_or}
+
+-- no pair is left where the shorter list has ended
+pub zip-past_end : {A B : Type 0} (xs : List A) (ys : List B) (n : ℕ) → n ≡ min (length xs) (length ys) → zip (drop n xs) (drop n ys) ≡ []
+zip-past_end xs ys n ended =
+    nil_from_length (zip (drop n xs) (drop n ys)) (rw (length-zip (drop n xs) (drop n ys), length-drop n xs, length-drop n ys) (omega arith))
+
+-- the pair at a place, and then those behind it
+pub zip-drop : {A B : Type 0} (xs : List A) (ys : List B) (n : ℕ) (x : A) (y : B) → n < length xs → n < length ys → x ≡ get_or xs n x → y ≡ get_or ys n y → zip (drop n xs) (drop n ys) ≡ (x, y) ∷ zip (drop (n + 1) xs) (drop (n + 1) ys)
+zip-drop xs ys n x y within also read first =
+    rw (drop_at_get_or xs n x within read, drop_at_get_or ys n y also first) refl
