@@ -4,6 +4,8 @@
 mod columns;
 mod conditions;
 mod faults;
+mod kinds;
+mod literals;
 mod tables;
 
 pub use hippo_catalog::Catalog;
