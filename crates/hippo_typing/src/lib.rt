@@ -4,6 +4,8 @@
 mod columns;
 mod conditions;
 mod faults;
+mod found;
+mod items;
 mod kinds;
 mod literals;
 mod tables;
