@@ -1,8 +1,8 @@
 -- Lists, read by place.
-use Rattle.std.proofs.Common.{◌≡◌, ℕ, suc, ◌+◌, ◌<◌, Bool, List, [], ◌∷◌, ◌++◌, map, take, drop, length, get_or, Option, None, Some, Bor, filter_map, refl, sym, ap, ◌∙◌, append_assoc, add-one}
+use Rattle.std.proofs.Common.{◌≡◌, ℕ, suc, ◌+◌, ◌-◌, ◌<◌, Bool, List, [], ◌∷◌, ◌++◌, map, take, drop, length, get_or, Option, None, Some, Bor, filter_map, refl, sym, ap, ◌∙◌, append_assoc, add-one, arith}
 use Rattle.std.proofs.Common.{slice_get}
 use Rattle.std.specs.Prelude.{◌||◌, option_to_list}
-use Rattle.std.specs.List.{list_any, enumerate_from, cons_option}
+use Rattle.std.specs.List.{list_any, flat_map, enumerate_from, cons_option, range_with_len}
 use Rattle.std.proofs.Math.Seq.{drop-cons}
 use Rattle.std.proofs.lemmas.Option.{slice_get_within, get_or_from_slice_get}
 
@@ -34,3 +34,20 @@ filter_map_at_item keep items i item e =
     one : {B : Type 0} (kept : Option B) (rest : List B) → cons_option kept rest ≡ option_to_list kept ++ rest
     one None rest = refl
     one (Some first) rest = refl
+
+-- what comes of the member at a place, and then of those behind it
+pub flat_map_at_item : {A B : Type 0} (f : ℕ × A → List B) (items : List A) (i : ℕ) (item : A) → slice_get items i ≡ Some item → flat_map f (enumerate_from i (drop i items)) ≡ f (i, item) ++ flat_map f (enumerate_from (i + 1) (drop (i + 1) items))
+flat_map_at_item f items i item e = ap (λ l. flat_map f (enumerate_from i l)) (drop_at_item items i item e)
+
+pub any_at_item : {A : Type 0} (test : A → Bool) (items : List A) (i : ℕ) (item : A) → slice_get items i ≡ Some item → list_any test (drop i items) ≡ (test item || list_any test (drop (i + 1) items))
+any_at_item test items i item e = ap (list_any test) (drop_at_item items i item e)
+
+-- the numbers from one below an end, that one first
+pub range_at : (i end : ℕ) → i < end → range_with_len i (end - i) ≡ i ∷ range_with_len (i + 1) (end - (i + 1))
+range_at i end within =
+    let e : end - i ≡ suc (end - (i + 1)) = omega arith in
+    ap (range_with_len i) e
+
+-- what is kept, one piece more, and what is left are all
+pub one_more : {A : Type 0} (kept new piece rest all : List A) → new ≡ kept ++ piece → kept ++ (piece ++ rest) ≡ all → new ++ rest ≡ all
+one_more kept new piece rest all e f = rw e (append_assoc kept piece rest ∙ f)

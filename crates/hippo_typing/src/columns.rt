@@ -1,19 +1,21 @@
 //! Which column of a statement's tables a written column is.
-ghost use Rattle.std.specs.Prelude.{◌≡◌, List, ◌++◌, unwrap_or, option_to_list, MatchResult};
+ghost use Rattle.std.specs.Prelude.{◌≡◌, List, ◌++◌, map, flat_map, unwrap_or, option_copied, option_to_list, MatchResult};
 ghost use Rattle.hippo_model.specs.declared.query.Ref.{Ref as Reference};
 ghost use Rattle.hippo_catalog.specs.Refusals.{Resolves, IsFirstOf};
 ghost use Rattle.hippo_catalog.specs.WrittenColumns.{may_stand_in, home_in, homes_refused, column_refused, column_of};
+ghost use Rattle.hippo_typing.specs.Found.{with_column};
 
 use crate::faults;
+use crate::found::{FoundColumn, FoundColumns};
 use crate::tables::StatementTables;
 use hippo_catalog::IndexedTable;
 use hippo_model::{NameFault, RawColumn, Ref};
-use hippo_values::Name;
+use hippo_values::{Name, Sequence};
 use std::alloc::Global;
 
 /// Whether a column with this table before it, or none, may be one of the table's.
-pub fn may_stand_in(qualifier: &Option<Name>, table: &Name) -> bool
-    ensures { result ≡ may_stand_in qualifier.now table.now }
+pub fn may_stand_in(qualifier: Option<&Name>, table: &Name) -> bool
+    ensures { result ≡ may_stand_in (option_copied qualifier.entry) table.now }
 {
     match qualifier {
         None => true,
@@ -25,7 +27,7 @@ pub fn may_stand_in(qualifier: &Option<Name>, table: &Name) -> bool
 fn home_in(written: &RawColumn, place: usize, table: &IndexedTable) -> Option<Ref>
     ensures { result ≡ home_in written.now place table.now }
 {
-    if !may_stand_in(&written.table, &table.schema().name) {
+    if !may_stand_in(written.table.as_ref(), &table.schema().name) {
         return None;
     }
     let column = table.place(&written.column)?;
@@ -79,4 +81,20 @@ pub fn found_column(
         home = one_home(alloc, written, home, found)?;
     }
     some_home(alloc, written, home)
+}
+
+/// Written columns with the columns that they are, each of which has to be one of the statement's tables, and only one.
+pub fn found_columns<'a>(
+    alloc: Global,
+    tables: &StatementTables<'_>,
+    written: &'a [RawColumn],
+) -> Result<FoundColumns<'a>, NameFault>
+    ensures { Resolves (flat_map (column_refused tables.now) written.now) (map (with_column tables.now) written.now) result }
+{
+    let mut found = Sequence::new(alloc);
+    for written in written {
+        let column = found_column(alloc, tables, written)?;
+        found.push(FoundColumn { written, column })?;
+    }
+    Ok(found)
 }

@@ -4,6 +4,10 @@
 mod columns;
 mod conditions;
 mod faults;
+mod found;
+mod items;
+mod kinds;
+mod literals;
 mod tables;
 
 mod change_columns;
