@@ -99,14 +99,19 @@ assigned_refused refusals schema assigned =
 abbrev pub draft_of : Name → List Column → Schema
 draft_of table columns = record { name = table; columns = columns; key = []; subject = None }
 
+-- the number of a table's columns, and of the tables
+abbrev pub sizes_refused : KnownNames → List Column → List NameFault
+sizes_refused known columns =
+    too_many column_limit (length columns)
+    ++ refused (nat_le table_limit (length known.tables)) (TooManyParts table_limit)
+
 -- names that stand twice among the columns, or in the key; columns of the key, and the SUBJECT, that are none of the
--- table's; the SUBJECT's kind; the number of columns and of tables; the table's name
+-- table's; the SUBJECT's kind; the sizes; the table's name
 abbrev pub create_refused : KnownNames → Name → List Column → List Name → Option Name → List NameFault
 create_refused known table columns key subject =
     repeated_names (map (λ column. column.name) columns) ++ repeated_names key
     ++ unknown_columns (draft_of table columns) (key ++ option_to_list subject)
-    ++ subject_refused (draft_of table columns) subject ++ too_many column_limit (length columns)
-    ++ refused (nat_le table_limit (length known.tables)) (TooManyParts table_limit)
+    ++ subject_refused (draft_of table columns) subject ++ sizes_refused known columns
     ++ taken (is_some (table_of known table)) table
 
 -- a rule's columns that stand twice, or are none of the table's

@@ -7,7 +7,7 @@ use Rattle.std.proofs.lemmas.Slice.Zip.{length-zip}
 use Rattle.hippo_model.specs.declared.name_fault.NameFault.{NameFault}
 use Rattle.hippo_catalog.specs.Refusals.{IsFirstOf}
 use Rattle.hippo_typing.proofs.ListLemmas.{drop_at_get_or}
-use Rattle.hippo_typing.proofs.Refused.{first_with_more}
+use Rattle.hippo_typing.proofs.Refused.{first_with_more, first_after}
 
 -- no pair is left where the shorter list has ended
 pub zip-past_end : {A B : Type 0} (xs : List A) (ys : List B) (n : ℕ) → n ≡ min (length xs) (length ys) → zip (drop n xs) (drop n ys) ≡ []
@@ -28,3 +28,21 @@ first_at_pair refuse xs ys n x y fault within also read too left first =
 pub first_of_front : {A : Type 0} (refuse : A → List NameFault) (front back : List A) (fault : NameFault) → IsFirstOf (flat_map refuse front) fault → IsFirstOf (flat_map refuse (front ++ back)) fault
 first_of_front refuse front back fault first =
     rw (flat_map-append refuse front back) (first_with_more (flat_map refuse front) (flat_map refuse back) fault first)
+
+-- the first refusal of a group, where nothing is refused before it, and groups come behind it
+module _ (before group : List NameFault) (fault : NameFault) (none : before ≡ []) (first : IsFirstOf group fault) where
+  pub with_one : (a : List NameFault) → IsFirstOf (before ++ group ++ a) fault
+  with_one a = first_with_more (before ++ group) a fault (first_after before group fault none first)
+
+  pub with_two : (a b : List NameFault) → IsFirstOf (before ++ group ++ a ++ b) fault
+  with_two a b = first_with_more (before ++ group ++ a) b fault (with_one a)
+
+  pub with_three : (a b c : List NameFault) → IsFirstOf (before ++ group ++ a ++ b ++ c) fault
+  with_three a b c = first_with_more (before ++ group ++ a ++ b) c fault (with_two a b)
+
+  pub with_four : (a b c d : List NameFault) → IsFirstOf (before ++ group ++ a ++ b ++ c ++ d) fault
+  with_four a b c d = first_with_more (before ++ group ++ a ++ b ++ c) d fault (with_three a b c)
+
+-- nothing is refused in two groups where nothing is in either
+pub neither : (a b : List NameFault) → a ≡ [] → b ≡ [] → a ++ b ≡ []
+neither a b none also = rw (none, also) refl
