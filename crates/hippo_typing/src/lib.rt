@@ -12,6 +12,7 @@ mod tables;
 
 mod change_columns;
 mod change_faults;
+mod change_keys;
 mod change_names;
 mod change_rules;
 mod change_tables;
