@@ -17,5 +17,7 @@ mod change_names;
 mod change_rules;
 mod change_tables;
 mod change_values;
+mod changes;
 
+pub use changes::check_change;
 pub use hippo_catalog::Catalog;
