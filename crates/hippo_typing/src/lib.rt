@@ -5,9 +5,11 @@ mod columns;
 mod conditions;
 mod faults;
 mod found;
+mod groups;
 mod items;
 mod kinds;
 mod literals;
+mod selects;
 mod tables;
 
 pub use hippo_catalog::Catalog;
