@@ -2,3 +2,5 @@ pub mod ListLemmas
 pub mod Refused
 pub mod RepeatLemmas
 pub mod ComparedOperands
+pub mod FoundTheorem
+pub mod PairLemmas

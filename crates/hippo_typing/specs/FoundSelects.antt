@@ -1,5 +1,5 @@
 -- A select with its columns found, before it is judged.
-use Rattle.std.specs.Prelude.{List, [], ◌++◌, map, filter_map, flat_map, length, Result, Ok, Err}
+use Rattle.std.specs.Prelude.{List, [], ◌++◌, map, filter_map, flat_map, length}
 use Rattle.hippo_model.specs.declared.name_fault.NameFault.{NameFault}
 use Rattle.hippo_model.specs.declared.query.Form.{Form}
 use Rattle.hippo_model.specs.declared.query.Form.TheVariants.{Plain, Distinct, Grouped}
@@ -15,10 +15,6 @@ use Rattle.hippo_typing.specs.declared.selects.FoundList.{FoundList}
 use Rattle.hippo_typing.specs.declared.selects.FoundSelect.{FoundSelect}
 use Rattle.hippo_typing.specs.declared.selects.QueryHead.{QueryHead}
 use Rattle.hippo_typing.specs.Found.{with_column, with_out, argument_found, groups_found_refused, shown_found}
-
-abbrev pub paired : {A B : Type 0} → A → Result B NameFault → Result (A × B) NameFault
-paired first (Ok second) = Ok (first, second)
-paired first (Err fault) = Err fault
 
 abbrev pub list_found : List Schema → List RawItem → RawForm → FoundList
 list_found schemas items (forms.Grouped outs by) = record { items = []; outs = map (with_out schemas) outs }

@@ -9,7 +9,9 @@ mod groups;
 mod items;
 mod kinds;
 mod literals;
+mod pairs;
 mod selects;
 mod tables;
 
 pub use hippo_catalog::Catalog;
+pub use selects::resolve_select;

@@ -1,12 +1,13 @@
 //! Selects.
-ghost use Rattle.std.specs.Prelude.{◌≡◌, ◌++◌, [], map, flat_map, length, IfOk};
+ghost use Rattle.std.specs.Prelude.{◌≡◌, ◌+◌, ◌≤◌, ◌++◌, [], map, flat_map, length, IfOk};
+ghost use Rattle.hippo_model.specs.declared.query.Form.TheVariants.{Grouped};
 ghost use Rattle.hippo_catalog.specs.Refusals.{Resolves};
 ghost use Rattle.hippo_catalog.specs.StatementLimits.{too_many, item_limit, from_limit};
 ghost use Rattle.hippo_catalog.specs.WrittenColumns.{column_refused};
 ghost use Rattle.hippo_catalog.specs.Comparisons.{kinds_refused, texts_refused};
 ghost use Rattle.hippo_catalog.specs.Selects.{column_in, item_refused, item_columns, outs_of, by_of, list_refused, columns_refused, select_parts_refused, select_refused, query_of};
-ghost use Rattle.hippo_typing.specs.Found.{with_out, groups_found_refused};
-ghost use Rattle.hippo_typing.specs.FoundSelects.{paired, list_found, select_found, head_refused, head_of};
+ghost use Rattle.hippo_typing.specs.Found.{with_out, groups_found_refused, shown_found};
+ghost use Rattle.hippo_typing.specs.FoundSelects.{list_found, select_found, head_refused, head_of, items_of, form_found};
 
 use crate::columns::found_columns;
 use crate::conditions::found_condition;
@@ -15,6 +16,7 @@ use crate::groups::{check_groups, found_outs, grouped_items, shown_outs};
 use crate::items::found_items;
 use crate::kinds::check_kinds;
 use crate::literals::check_texts;
+use crate::pairs::paired;
 use crate::tables::{StatementTables, found_tables};
 use hippo_catalog::{Catalog, FROM_LIMIT, ITEM_LIMIT};
 use hippo_model::{
@@ -44,16 +46,6 @@ pub struct QueryHead {
     items: Refs,
     tables: Names,
     form: Form,
-}
-
-// Two values, where there is a second one.
-fn paired<A: Drop, B: Drop>(first: A, second: Result<B, NameFault>) -> Result<(A, B), NameFault>
-    ensures { result ≡ paired first second }
-{
-    match second {
-        Ok(second) => Ok((first, second)),
-        Err(fault) => Err(fault),
-    }
 }
 
 fn by_of(form: &RawForm) -> &[RawColumn]
@@ -167,4 +159,96 @@ fn check_select(
     check_kinds(tables, &found.cond)?;
     check_texts(&found.cond)?;
     check_parts(select)
+}
+
+fn query_items(alloc: Global, form: &RawForm, found: &FoundSelect<'_>) -> Result<Refs, Memory>
+    ensures { IfOk result (λ items. items ≡ items_of form.now found.now) }
+{
+    match form {
+        RawForm::Plain => found.list.items.copy(alloc),
+        RawForm::Distinct => found.list.items.copy(alloc),
+        RawForm::Grouped { .. } => grouped_items(alloc, &found.list.outs, &found.by),
+    }
+}
+
+fn grouped_form(alloc: Global, found: &FoundSelect<'_>) -> Result<Form, Memory>
+    requires { length found.now.by + length found.now.list.outs ≤ 256 }
+    ensures { IfOk result (λ form. form ≡ Grouped (record { keys = length found.now.by; outs = shown_found found.now.by (length found.now.by) found.now.list.outs })) }
+{
+    let outs = shown_outs(alloc, &found.list.outs, &found.by)?;
+    Ok(Form::Grouped(Shape {
+        keys: found.by.len(),
+        outs,
+    }))
+}
+
+fn query_form(alloc: Global, form: &RawForm, found: &FoundSelect<'_>) -> Result<Form, Memory>
+    requires { length found.now.by + length found.now.list.outs ≤ 256 }
+    ensures { IfOk result (λ made. made ≡ form_found form.now found.now) }
+{
+    match form {
+        RawForm::Plain => Ok(Form::Plain),
+        RawForm::Distinct => Ok(Form::Distinct),
+        RawForm::Grouped { .. } => grouped_form(alloc, found),
+    }
+}
+
+fn query_head(
+    alloc: Global,
+    select: &RawSelect,
+    found: &FoundSelect<'_>,
+) -> Result<QueryHead, Memory>
+    requires { length found.now.by + length found.now.list.outs ≤ 256 }
+    ensures { IfOk result (λ head. head ≡ head_of select.now found.now) }
+{
+    let items = query_items(alloc, &select.form, found)?;
+    let tables = select.tables.copy(alloc)?;
+    let form = query_form(alloc, &select.form, found)?;
+    Ok(QueryHead {
+        items,
+        tables,
+        form,
+    })
+}
+
+// What a query has beside its condition, where the select is not refused.
+fn checked_head(
+    alloc: Global,
+    tables: &StatementTables<'_>,
+    select: &RawSelect,
+    found: &FoundSelect<'_>,
+) -> Result<QueryHead, NameFault>
+    requires { found.now ≡ select_found tables.now select.now }
+    ensures { Resolves (head_refused tables.now select.now found.now) (head_of select.now found.now) result }
+{
+    check_select(alloc, tables, select, found)?;
+    Ok(query_head(alloc, select, found)?)
+}
+
+fn query(found: FoundSelect<'_>, head: QueryHead) -> Query
+    ensures { result ≡ record { items = head.items; tables = head.tables; cond = found.entry.cond; form = head.form } }
+{
+    let FoundSelect { list: _, cond, by: _ } = found;
+    let QueryHead { items, tables, form } = head;
+    Query {
+        items,
+        tables,
+        cond,
+        form,
+    }
+}
+
+/// The query that a select means, each of whose columns is found in one table of its FROM list, or why it is refused.
+pub fn resolve_select(
+    alloc: Global,
+    catalog: &Catalog,
+    select: &RawSelect,
+) -> Result<Query, NameFault>
+    ensures { Resolves (select_refused catalog.now.names select.now) (query_of catalog.now.names select.now) result }
+{
+    let tables = found_tables(alloc, catalog, &select.tables)?;
+    let found = found_select(alloc, &tables, select)?;
+    let head = checked_head(alloc, &tables, select, &found);
+    let (found, head) = paired(found, head)?;
+    Ok(query(found, head))
 }
