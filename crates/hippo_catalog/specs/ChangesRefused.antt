@@ -61,14 +61,13 @@ abbrev pub count_refused : Schema → List Value → List NameFault
 count_refused schema values =
     refused (not (length values == length schema.columns)) (WrongCount (length schema.columns))
 
--- these columns are those of the key, each once
-abbrev pub is_the_key : Schema → List Name → Bool
-is_the_key schema names =
-    length names == length schema.key
-    && list_all (λ place. list_any (nat_eq place) (places_of schema names)) schema.key
+-- these are the places of the key's columns, each once
+abbrev pub is_the_key : Schema → List Place → Bool
+is_the_key schema places =
+    length places == length schema.key && list_all (λ place. list_any (nat_eq place) places) schema.key
 
 abbrev pub key_refused : Schema → List Name → List NameFault
-key_refused schema names = refused (not (is_the_key schema names)) NotTheKey
+key_refused schema names = refused (not (is_the_key schema (places_of schema names))) NotTheKey
 
 abbrev pub is_of_key : Schema → Name → Bool
 is_of_key schema name = option_map_or (λ place. list_any (nat_eq place) schema.key) (place_of schema name) false
@@ -100,14 +99,19 @@ assigned_refused refusals schema assigned =
 abbrev pub draft_of : Name → List Column → Schema
 draft_of table columns = record { name = table; columns = columns; key = []; subject = None }
 
+-- the number of a table's columns, and of the tables
+abbrev pub sizes_refused : KnownNames → List Column → List NameFault
+sizes_refused known columns =
+    too_many column_limit (length columns)
+    ++ refused (nat_le table_limit (length known.tables)) (TooManyParts table_limit)
+
 -- names that stand twice among the columns, or in the key; columns of the key, and the SUBJECT, that are none of the
--- table's; the SUBJECT's kind; the number of columns and of tables; the table's name
+-- table's; the SUBJECT's kind; the sizes; the table's name
 abbrev pub create_refused : KnownNames → Name → List Column → List Name → Option Name → List NameFault
 create_refused known table columns key subject =
     repeated_names (map (λ column. column.name) columns) ++ repeated_names key
     ++ unknown_columns (draft_of table columns) (key ++ option_to_list subject)
-    ++ subject_refused (draft_of table columns) subject ++ too_many column_limit (length columns)
-    ++ refused (nat_le table_limit (length known.tables)) (TooManyParts table_limit)
+    ++ subject_refused (draft_of table columns) subject ++ sizes_refused known columns
     ++ taken (is_some (table_of known table)) table
 
 -- a rule's columns that stand twice, or are none of the table's

@@ -1,11 +1,12 @@
 -- What a statement that changes something asks for, whether it is refused or not.
-use Rattle.std.specs.Prelude.{Bool, false, ◌||◌, List, map, filter_map, nat_eq, Option, Some, None, option_map, option_and_then, bytes_eq}
+use Rattle.std.specs.Prelude.{◌≡◌, Bool, false, ◌||◌, List, [], map, filter_map, nat_eq, Option, Some, None, option_map, option_and_then, Result, MatchResult, bytes_eq}
 use Rattle.std.specs.List.{list_any, zip}
 use Rattle.std.specs.Map.{lookup}
 use Rattle.std.specs.Option.{option_map_or}
 use Rattle.hippo_values.specs.declared.names.Name.{Name}
 use Rattle.hippo_values.specs.declared.values.Value.{Value}
 use Rattle.hippo_model.specs.declared.entry.Act.TheVariants as acts
+use Rattle.hippo_model.specs.declared.name_fault.NameFault.{NameFault}
 use Rattle.hippo_model.specs.declared.schema.Column.{Column}
 use Rattle.hippo_model.specs.declared.schema.Schema.{Schema}
 use Rattle.hippo_model.specs.declared.statement.Stmt.{Stmt}
@@ -17,6 +18,7 @@ use Rattle.hippo_model.specs.Terms.{Key}
 use Rattle.hippo_catalog.specs.Catalogs.{KnownNames, table_of}
 use Rattle.hippo_catalog.specs.WrittenColumns.{place_of}
 use Rattle.hippo_catalog.specs.ChangesRefused.{places_of, draft_of}
+use Rattle.hippo_catalog.specs.Refusals.{IsFirstOf}
 
 -- a column of the key, and the SUBJECT, is NOT NULL whether that is written or not
 abbrev pub with_not_null : List Name → Option Name → Column → Column
@@ -61,3 +63,8 @@ wanted_by known (Update table columns values keys key_values) =
 wanted_by known (Delete table keys values) =
     option_map (λ schema. Remove table (key_written schema keys values)) (table_of known table)
 wanted_by known statement = None
+
+-- nothing is refused and this is asked for, or the fault is the first refusal, or want of memory
+abbrev pub Grants : List NameFault → Option Wanted → Result Wanted NameFault → Type 0
+Grants refusals wanted result =
+    MatchResult result (λ made. (refusals ≡ []) × (wanted ≡ Some made)) (λ fault. IsFirstOf refusals fault)

@@ -13,5 +13,12 @@ mod pairs;
 mod selects;
 mod tables;
 
+mod change_columns;
+mod change_faults;
+mod change_names;
+mod change_rules;
+mod change_tables;
+mod change_values;
+
 pub use hippo_catalog::Catalog;
 pub use selects::resolve_select;
