@@ -1,23 +1,31 @@
 -- Why an audit expression is refused, and what it means.
-use Rattle.std.specs.Prelude.{Bool, false, not, ◌||◌, List, ◌++◌, map, flat_map, length, int_le, Option, is_none, unwrap_or}
+use Rattle.std.specs.Prelude.{ℤ, MatchOption, Bool, false, not, ◌||◌, List, ◌++◌, map, flat_map, length, int_le, Option, is_none, unwrap_or}
 use Rattle.std.specs.Option.{option_map_or}
+use Rattle.hippo_values.specs.Dates.{IsMomentText}
 use Rattle.hippo_values.specs.Moments.{first_moment}
+use Rattle.hippo_values.specs.Texts.{Txt}
 use Rattle.hippo_values.specs.declared.moments.Moment.{Moment}
 use Rattle.hippo_model.specs.declared.name_fault.NameFault.{NameFault}
 use Rattle.hippo_model.specs.declared.name_fault.NameFault.TheVariants.{BadMoment, PeriodBack}
 use Rattle.hippo_model.specs.declared.audit.Audit.{Audit}
 use Rattle.hippo_model.specs.declared.schema.Schema.{Schema}
 use Rattle.hippo_model.specs.declared.statement.RawAudit.{RawAudit}
+use Rattle.hippo_catalog.specs.declared.period.Period.{Period}
 use Rattle.hippo_catalog.specs.Catalogs.{KnownNames, schemas_of}
 use Rattle.hippo_catalog.specs.Refusals.{refused, unknown_table, unknown_pair, repeated_names}
 use Rattle.hippo_catalog.specs.WrittenColumns.{column_refused, column_of}
 use Rattle.hippo_catalog.specs.Comparisons.{operands_refused, condition_of, kinds_refused, texts_refused}
 use Rattle.hippo_catalog.specs.StatementLimits.{from_limit, item_limit, pair_limit, too_many}
 
--- the two ends of an audit's period, as far as its texts are moments
-pub record Period : Type 0 where
-  pub from : Option Moment
-  pub to : Option Moment
+-- the moment that a text writes, if it writes one
+abbrev pub IsMomentIn : Txt → Option Moment → Type 0
+IsMomentIn text moment =
+    MatchOption moment ((second : ℤ) → ¬ (IsMomentText text second)) (λ second. IsMomentText text second)
+
+-- the ends of an audit's period are what its texts write
+pub record IsPeriodOf (audit : RawAudit) (period : Period) : Type 0 where
+  pub from : IsMomentIn audit.from period.from
+  pub to : IsMomentIn audit.to period.to
 
 -- four tables, 128 audited columns, 64 exempt pairs
 abbrev pub audit_parts_refused : RawAudit → List NameFault

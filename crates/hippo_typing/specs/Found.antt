@@ -1,5 +1,5 @@
 -- What is found of a select's columns before it is judged.
-use Rattle.std.specs.Prelude.{ℕ, ◌+◌, not, List, [], ◌∷◌, ◌++◌, map, filter_map, flat_map, Option, None, Some}
+use Rattle.std.specs.Prelude.{ℕ, ◌+◌, not, List, [], ◌∷◌, ◌++◌, map, filter_map, flat_map, Option, None, Some, is_some, if◌then◌else◌}
 use Rattle.std.specs.List.{list_any, position_or_len}
 use Rattle.hippo_model.specs.declared.name_fault.NameFault.{NameFault}
 use Rattle.hippo_model.specs.declared.name_fault.NameFault.TheVariants.{NotGrouped}
@@ -46,10 +46,9 @@ out_found by next (Column written, column) = shown.Column (position_or_len (λ f
 out_found by next (Min argument, column) = shown.Min next
 out_found by next (Max argument, column) = shown.Max next
 
+-- where the next argument stands, behind this member
 abbrev pub next_place : Place → RawOut × Ref → Place
-next_place next (Column written, column) = next
-next_place next (Min argument, column) = next + 1
-next_place next (Max argument, column) = next + 1
+next_place next found = if is_some (argument_found found) then next + 1 else next
 
 abbrev pub shown_found : List (RawColumn × Ref) → Place → List (RawOut × Ref) → List Out
 shown_found by next [] = []

@@ -1,3 +1,5 @@
+pub mod Pairs
 pub mod Meanings
 pub mod MeaningLaws
 pub mod Found
+pub mod FoundSelects

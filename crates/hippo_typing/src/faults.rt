@@ -80,3 +80,12 @@ pub fn ambiguous_column(alloc: Global, column: &Name) -> NameFault
         Err(_) => NameFault::Memory,
     }
 }
+
+pub fn not_grouped(alloc: Global, column: &Name) -> NameFault
+    ensures { IsFirstOf (faults.NotGrouped column.now ∷ []) result }
+{
+    match column.copy(alloc) {
+        Ok(column) => NameFault::NotGrouped(column),
+        Err(_) => NameFault::Memory,
+    }
+}

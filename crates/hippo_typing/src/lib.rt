@@ -5,9 +5,12 @@ mod columns;
 mod conditions;
 mod faults;
 mod found;
+mod groups;
 mod items;
 mod kinds;
 mod literals;
+mod pairs;
+mod selects;
 mod tables;
 
 mod change_columns;
@@ -21,3 +24,4 @@ mod changes;
 
 pub use changes::check_change;
 pub use hippo_catalog::Catalog;
+pub use selects::resolve_select;
