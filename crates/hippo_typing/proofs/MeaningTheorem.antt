@@ -1,6 +1,6 @@
 -- A text means what `meaning_in` finds, and nothing else.
 use Rattle.std.proofs.Common.{◌≡◌, ◌≢◌, Bool, true, false, List, [], ◌∷◌, length, Option, Some, None, Result, Ok, Err, refl, sym, ◌∙◌, ap, subst}
-use Rattle.std.specs.Prelude.{is_ok, ◌↔◌, option_and_then, if◌then◌else◌, IfSome, IfNone}
+use Rattle.std.specs.Prelude.{is_ok, is_err, slice_get, ◌↔◌, option_and_then, if◌then◌else◌, IfSome, IfNone}
 use Rattle.std.proofs.Math.Nat.{sub-zero}
 use Rattle.std.proofs.Math.Seq.{take-length}
 use Rattle.std.proofs.lemmas.Result.{MatchResult-at_ok, MatchResult-at_err}
@@ -77,7 +77,7 @@ means_opened : (known : KnownNames) (text : Txt) (one : Option RawSelect) (query
 means_opened known text None query is e = absurd (none-some query e)
 means_opened known text (Some select) query is e =
     let parts = none_refused (select_refused known select) (query_of known select) query e in
-    record { select = select; read = IsSelectText-found text select is; right = parts.0; query = parts.1 }
+    record { select = select; read = IsSelectText-found text select is; right = parts.0; meant = parts.1 }
 
 -- the query that is found is what the text means
 pub Means-found : (known : KnownNames) (text : Txt) (query : Query) → meaning_in known text ≡ Some query → Means known text query
@@ -88,7 +88,7 @@ Means-found known text query e = means_opened known text (select_in (outcome_of 
 pub found-Means : (known : KnownNames) (text : Txt) (query : Query) → Means known text query → meaning_in known text ≡ Some query
 unfolding meaning_in
 found-Means known text query means =
-    rw (found-IsSelectText text means.select means.read, means.right) (ap Some (sym means.query))
+    rw (found-IsSelectText text means.select means.read, means.right) (ap Some (sym means.meant))
 
 pub says_what_texts_mean : SaysWhatTextsMean meaning
 says_what_texts_mean history text query = (Means-found (known_at history) text query, found-Means (known_at history) text query)
@@ -135,3 +135,12 @@ module _ (tokens : List Token) (words : words_check tokens ≡ Ok tt) (result : 
       let only : IsFaultOnlyWhere ((select : RawSelect) → ¬ IsSelect between select []) fault = MatchResult-at_err (λ select. Unit {0}) (IsFaultOnlyWhere ((select : RawSelect) → ¬ IsSelect between select [])) fault is reads.errors in
       let none : (select : RawSelect) → ¬ IsSelect between select [] = only_where ((select : RawSelect) → ¬ IsSelect between select []) fault other only in
       rw words (nothing_found (kinds tokens) (whole_of (leading_select (kinds tokens))) refl (rw all_between at none))
+
+pub passed : (checked : Result (Unit {0}) SyntaxFault) → is_err checked ≡ false → checked ≡ Ok tt
+passed (Ok tt) e = refl
+passed (Err fault) e = absurd cc
+
+-- a refused select means nothing
+pub unrefused-first : (refusals : List NameFault) (query : Query) (fault : NameFault) → slice_get refusals 0 ≡ Some fault → unrefused refusals query ≡ None
+unrefused-first [] query fault e = absurd (none-some fault e)
+unrefused-first (refusal ∷ more) query fault e = refl
