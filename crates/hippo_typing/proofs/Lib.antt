@@ -6,3 +6,4 @@ pub mod ComparedOperands
 pub mod FoundTheorem
 pub mod PairLemmas
 pub mod ChangesLemmas
+pub mod AuditTheorem
