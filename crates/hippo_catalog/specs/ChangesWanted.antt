@@ -1,5 +1,5 @@
 -- What a statement that changes something asks for, whether it is refused or not.
-use Rattle.std.specs.Prelude.{◌≡◌, Bool, false, ◌||◌, List, [], map, filter_map, nat_eq, Option, Some, None, option_map, option_and_then, Result, MatchResult, bytes_eq}
+use Rattle.std.specs.Prelude.{◌≡◌, Bool, true, false, ◌||◌, List, [], map, filter_map, nat_eq, Option, Some, None, option_map, option_and_then, Result, MatchResult, bytes_eq}
 use Rattle.std.specs.List.{list_any, zip}
 use Rattle.std.specs.Map.{lookup}
 use Rattle.std.specs.Option.{option_map_or}
@@ -10,7 +10,7 @@ use Rattle.hippo_model.specs.declared.name_fault.NameFault.{NameFault}
 use Rattle.hippo_model.specs.declared.schema.Column.{Column}
 use Rattle.hippo_model.specs.declared.schema.Schema.{Schema}
 use Rattle.hippo_model.specs.declared.statement.Stmt.{Stmt}
-use Rattle.hippo_model.specs.declared.statement.Stmt.TheVariants.{CreateTable, CreatePurpose, CreateRecipient, CreateItem, Authorize, Deauthorize, Allow, Revoke, Choice, Insert, Update, Delete}
+use Rattle.hippo_model.specs.declared.statement.Stmt.TheVariants.{CreateTable, CreatePurpose, CreateRecipient, CreateItem, Authorize, Deauthorize, Allow, Revoke, Choice, Insert, Update, Delete, Explain, Audit, BeginAudit, Watch, Select, Ask, Extract}
 use Rattle.hippo_model.specs.declared.statement.Wanted.{Wanted}
 use Rattle.hippo_model.specs.declared.statement.Wanted.TheVariants.{Ready, Add, Set, Remove}
 use Rattle.hippo_model.specs.Rows.{key_of}
@@ -68,3 +68,14 @@ wanted_by known statement = None
 abbrev pub Grants : List NameFault → Option Wanted → Result Wanted NameFault → Type 0
 Grants refusals wanted result =
     MatchResult result (λ made. (refusals ≡ []) × (wanted ≡ Some made)) (λ fault. IsFirstOf refusals fault)
+
+-- EXPLAIN, audits and selects change nothing
+abbrev pub changes_something : Stmt → Bool
+changes_something (Explain number) = false
+changes_something (Audit audit) = false
+changes_something (BeginAudit audit) = false
+changes_something (Watch audit) = false
+changes_something (Select select start end) = false
+changes_something (Ask select start end) = false
+changes_something (Extract select start end) = false
+changes_something statement = true

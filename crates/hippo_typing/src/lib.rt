@@ -17,11 +17,14 @@ mod tables;
 
 mod change_columns;
 mod change_faults;
+mod change_keys;
 mod change_names;
 mod change_rules;
 mod change_tables;
 mod change_values;
+mod changes;
 
+pub use changes::check_change;
 pub use hippo_catalog::Catalog;
 pub use audits::resolve_audit;
 pub use selects::resolve_select;
