@@ -25,7 +25,7 @@ use Rattle.hippo_model.specs.Terms.{Place}
 use Rattle.hippo_catalog.specs.Comparisons.{condition_of, kinds_refused, texts_refused}
 use Rattle.hippo_catalog.specs.Catalogs.{KnownNames, schemas_of}
 use Rattle.hippo_catalog.specs.Refusals.{refused, unknown_table, repeated_names, IsFirstOf}
-use Rattle.hippo_typing.proofs.Refused.{first_with_more, first_after}
+use Rattle.hippo_typing.proofs.Refused.{first_after, with_four}
 use Rattle.hippo_catalog.specs.StatementLimits.{from_limit, item_limit, too_many}
 use Rattle.hippo_catalog.specs.WrittenColumns.{column_of}
 use Rattle.hippo_catalog.specs.Selects.{outs_of, by_of, plain_column, argument_in, same_reference, lone_column, groups_refused, shown_outs, form_of, listed_columns, columns_refused, select_parts_refused, select_refused, query_of}
@@ -143,10 +143,6 @@ module _ (schemas : List Schema) where
       let few_by : length (by_of select.form) ≤ 128 = few item_limit (length (by_of select.form)) last.1 in
       let few_outs : length (outs_of select.form) ≤ 128 = few item_limit (length (outs_of select.form)) third.1 in
       omega (arith, by_count select.form, outs_count select.items select.form)
-
-with_four : (first a b c d : List NameFault) (fault : NameFault) → IsFirstOf first fault → IsFirstOf (first ++ a ++ b ++ c ++ d) fault
-with_four first a b c d fault is =
-    first_with_more (first ++ a ++ b ++ c) d fault (first_with_more (first ++ a ++ b) c fault (first_with_more (first ++ a) b fault (first_with_more first a fault is)))
 
 -- a refusal of a group stands first in all, where nothing is refused before it
 module _ (known : KnownNames) (select : RawSelect) (schemas : List Schema) (same : schemas ≡ schemas_of known select.tables)

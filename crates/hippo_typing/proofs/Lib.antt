@@ -2,7 +2,7 @@ pub mod MeaningTheorem
 pub mod ListLemmas
 pub mod Refused
 pub mod RepeatLemmas
-pub mod ComparedOperands
 pub mod FoundTheorem
 pub mod PairLemmas
 pub mod ChangesLemmas
+pub mod AuditTheorem

@@ -24,3 +24,8 @@ pub first_at_item : {A : Type 0} (refuse : A → List NameFault) (items slice : 
 first_at_item {A} refuse items slice i item fault same within read left first =
     let parted : drop i items ≡ item ∷ drop (i + 1) items = subst (λ (l : List A). drop i l ≡ item ∷ drop (i + 1) l) same (drop_at_get_or slice i item within read) in
     rw (left, parted) (first_with_more (refuse item) (flat_map refuse (drop (i + 1) items)) fault first)
+
+-- the first of a group is that of the group with four more behind it
+pub with_four : (first a b c d : List NameFault) (fault : NameFault) → IsFirstOf first fault → IsFirstOf (first ++ a ++ b ++ c ++ d) fault
+with_four first a b c d fault is =
+    first_with_more (first ++ a ++ b ++ c) d fault (first_with_more (first ++ a ++ b) c fault (first_with_more (first ++ a) b fault (first_with_more first a fault is)))

@@ -3,3 +3,4 @@ pub mod Meanings
 pub mod MeaningLaws
 pub mod Found
 pub mod FoundSelects
+pub mod FoundAudits

@@ -9,7 +9,7 @@ use crate::faults;
 use crate::found::{FoundColumn, FoundColumns};
 use crate::tables::StatementTables;
 use hippo_catalog::IndexedTable;
-use hippo_model::{NameFault, RawColumn, Ref};
+use hippo_model::{NameFault, RawColumn, Ref, Refs};
 use hippo_values::{Name, Sequence};
 use std::alloc::Global;
 
@@ -95,6 +95,21 @@ pub fn found_columns<'a>(
     for written in written {
         let column = found_column(alloc, tables, written)?;
         found.push(FoundColumn { written, column })?;
+    }
+    Ok(found)
+}
+
+/// The columns that written columns are, each of which has to be one of the statement's tables, and only one.
+pub fn found_references(
+    alloc: Global,
+    tables: &StatementTables<'_>,
+    written: &[RawColumn],
+) -> Result<Refs, NameFault>
+    ensures { Resolves (flat_map (column_refused tables.now) written.now) (map (column_of tables.now) written.now) result }
+{
+    let mut found = Sequence::new(alloc);
+    for column in written {
+        found.push(found_column(alloc, tables, column)?)?;
     }
     Ok(found)
 }

@@ -91,7 +91,7 @@ fn mixes_list(tables: &StatementTables<'_>, value: &Operand, list: &Operands) ->
 
 // Whether a condition compares operands of different kinds.
 #[cycle(mixes_kinds)]
-#[tactic(auto, using(crate::proofs::ComparedOperands::any_comparison))]
+#[tactic(auto, using(hippo_catalog::proofs::ComparedOperands::any_comparison))]
 fn mixes_kinds(tables: &StatementTables<'_>, condition: &CondOf<Operand>) -> bool
     ensures { result ≡ list_any (mixes_kinds tables.now) (comparisons condition.now) }
 {

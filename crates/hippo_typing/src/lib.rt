@@ -1,6 +1,7 @@
 //! From statements as they are written to what they mean in a history, or to the first refusal that holds.
 #![tactic(auto)]
 
+mod audits;
 mod columns;
 mod conditions;
 mod faults;
@@ -10,6 +11,7 @@ mod items;
 mod kinds;
 mod literals;
 mod pairs;
+mod parts;
 mod selects;
 mod tables;
 
@@ -26,4 +28,5 @@ mod texts;
 pub use changes::check_change;
 pub use texts::{at_most_one_meaning, meaning_is_that_of_texts, read_meaning};
 pub use hippo_catalog::Catalog;
+pub use audits::resolve_audit;
 pub use selects::resolve_select;

@@ -40,7 +40,7 @@ fn any_has_bad_text(list: &Operands) -> bool
 
 // Whether a literal of a condition is such a text.
 #[cycle(is_badly_written)]
-#[tactic(auto, using(crate::proofs::ComparedOperands::any_comparison))]
+#[tactic(auto, using(hippo_catalog::proofs::ComparedOperands::any_comparison))]
 fn is_badly_written(condition: &CondOf<Operand>) -> bool
     ensures { result ≡ list_any (list_any has_bad_text) (comparisons condition.now) }
 {

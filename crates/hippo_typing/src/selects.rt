@@ -17,6 +17,7 @@ use crate::items::found_items;
 use crate::kinds::check_kinds;
 use crate::literals::check_texts;
 use crate::pairs::paired;
+use crate::parts::check_count;
 use crate::tables::{StatementTables, found_tables};
 use hippo_catalog::{Catalog, FROM_LIMIT, ITEM_LIMIT};
 use hippo_model::{
@@ -116,15 +117,6 @@ fn found_select<'a>(
     let by = found_columns(alloc, tables, by_of(&select.form));
     let (cond, by) = paired(cond, by)?;
     Ok(FoundSelect { list, cond, by })
-}
-
-fn check_count(limit: usize, count: usize) -> Result<(), NameFault>
-    ensures { Resolves (too_many limit count) tt result }
-{
-    if count > limit {
-        return Err(NameFault::TooManyParts(limit as u64));
-    }
-    Ok(())
 }
 
 fn outs_of(form: &RawForm) -> &[RawOut]

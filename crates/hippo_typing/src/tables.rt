@@ -14,8 +14,8 @@ use std::alloc::Global;
 /// The tables of a statement, in the order of FROM.
 pub type StatementTables<'a> = Lent<'a, IndexedTable>;
 
-// The tables with these names.
-fn tables_of<'a>(
+/// The tables with these names, each of which must be there.
+pub fn tables_of<'a>(
     alloc: Global,
     catalog: &'a Catalog,
     names: &[Name],

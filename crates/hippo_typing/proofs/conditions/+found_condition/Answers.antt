@@ -3,7 +3,7 @@ use Rattle.std.specs.List.{flat_map}
 use Rattle.hippo_model.proofs.ChangedOperands.{changed_operands-All, changed_operands-Any}
 use Rattle.hippo_catalog.specs.Comparisons.{operand_refused, operands_refused, operand_of}
 use Rattle.hippo_catalog.specs.Refusals.{IsFirstOf}
-use Rattle.hippo_typing.proofs.ComparedOperands.{gathered-All, gathered-Any}
+use Rattle.hippo_catalog.proofs.ComparedOperands.{gathered-All, gathered-Any}
 use Rattle.hippo_typing.proofs.Refused.{first_at_item}
 use Rattle.hippo_typing.proofs.conditions.+found_condition.Goals as goal
 

@@ -3,7 +3,7 @@ use Rattle.std.specs.List.{list_any}
 use Rattle.hippo_model.specs.declared.query.CondOf.{CondOf}
 use Rattle.hippo_model.specs.declared.query.Operand.{Operand}
 use Rattle.hippo_catalog.specs.Comparisons.{comparisons, mixes_kinds}
-use Rattle.hippo_typing.proofs.ComparedOperands.{any-All, any-Any}
+use Rattle.hippo_catalog.proofs.ComparedOperands.{any-All, any-Any}
 use Rattle.hippo_typing.proofs.kinds.+mixes_kinds.Goals as goal
 
 pub mixes_kinds-returns-in-All : goal.mixes_kinds-returns-in-All

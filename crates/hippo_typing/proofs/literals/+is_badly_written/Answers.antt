@@ -1,6 +1,6 @@
 use Rattle.std.specs.List.{list_any}
 use Rattle.hippo_catalog.specs.Comparisons.{has_bad_text}
-use Rattle.hippo_typing.proofs.ComparedOperands.{any-All, any-Any}
+use Rattle.hippo_catalog.proofs.ComparedOperands.{any-All, any-Any}
 use Rattle.hippo_typing.proofs.literals.+is_badly_written.Goals as goal
 
 pub is_badly_written-returns-in-All : goal.is_badly_written-returns-in-All
