@@ -70,11 +70,7 @@ fn no_query(fault: NameFault) -> Result<Option<Query>, Memory>
 }
 
 // The query that a select means, if nothing of it is refused.
-fn query_in(
-    alloc: Global,
-    catalog: &Catalog,
-    select: &RawSelect,
-) -> Result<Option<Query>, Memory>
+fn query_in(alloc: Global, catalog: &Catalog, select: &RawSelect) -> Result<Option<Query>, Memory>
     ensures { IfOk result (λ found. found ≡ query_in catalog.now.names select.now) }
 {
     match resolve_select(alloc, catalog, select) {
@@ -95,11 +91,7 @@ fn meaning_in(alloc: Global, catalog: &Catalog, text: &str) -> Result<Option<Que
 
 /// The query that a text means where a catalog's names stand: the text is a select by the grammar, and nothing of it is
 /// refused. None exactly where it means none; the error is want of memory.
-pub fn read_meaning(
-    alloc: Global,
-    catalog: &Catalog,
-    text: &str,
-) -> Result<Option<Query>, Memory>
+pub fn read_meaning(alloc: Global, catalog: &Catalog, text: &str) -> Result<Option<Query>, Memory>
     ensures found { IfOk result (λ found. IfSome found (λ query. Means catalog.now.names text.now query)) }
     ensures none { IfOk result (λ found. IfNone found ((query : MeantQuery) → ¬ Means catalog.now.names text.now query)) }
     ensures meaning { IfOk result (λ found. found ≡ meaning_in catalog.now.names text.now) }
