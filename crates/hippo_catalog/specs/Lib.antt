@@ -1,0 +1,12 @@
+pub mod ColumnIndex
+pub mod Catalogs
+pub mod NewestNames
+pub mod Refusals
+pub mod WrittenColumns
+pub mod Kinds
+pub mod Comparisons
+pub mod StatementLimits
+pub mod Selects
+pub mod AuditExpressions
+pub mod ChangesRefused
+pub mod ChangesWanted

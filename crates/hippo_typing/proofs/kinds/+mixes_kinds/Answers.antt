@@ -1,0 +1,15 @@
+use Rattle.std.proofs.Common.{◌∙◌, ap, sym}
+use Rattle.std.specs.List.{list_any}
+use Rattle.hippo_model.specs.declared.query.CondOf.{CondOf}
+use Rattle.hippo_model.specs.declared.query.Operand.{Operand}
+use Rattle.hippo_catalog.specs.Comparisons.{comparisons, mixes_kinds}
+use Rattle.hippo_catalog.proofs.ComparedOperands.{any-All, any-Any}
+use Rattle.hippo_typing.proofs.kinds.+mixes_kinds.Goals as goal
+
+pub mixes_kinds-returns-in-All : goal.mixes_kinds-returns-in-All
+mixes_kinds-returns-in-All t c =
+    rw (c.in-All.is, any-All (mixes_kinds c.args.tables.now) c.in-All.parts) c.any_mixes_kinds.ensures
+
+pub mixes_kinds-returns-in-Any : goal.mixes_kinds-returns-in-Any
+mixes_kinds-returns-in-Any t c =
+    rw (c.in-Any.is, any-Any (mixes_kinds c.args.tables.now) c.in-Any.parts) c.any_mixes_kinds-in-Any.ensures

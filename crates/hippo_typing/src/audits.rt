@@ -1,0 +1,201 @@
+//! Audit expressions.
+ghost use Rattle.std.specs.Prelude.{◌≡◌, ◌++◌, flat_map, unwrap_or, Option};
+ghost use Rattle.hippo_values.specs.Moments.{first_moment};
+ghost use Rattle.hippo_values.specs.declared.moments.Moment.{Moment as Second};
+ghost use Rattle.hippo_model.specs.declared.name_fault.NameFault.TheVariants.{PeriodBack};
+ghost use Rattle.hippo_catalog.specs.declared.period.Period.{Period as PeriodEnds};
+ghost use Rattle.hippo_catalog.specs.Catalogs.{schemas_of};
+ghost use Rattle.hippo_catalog.specs.Refusals.{Resolves, refused, unknown_table, unknown_pair, repeated_names};
+ghost use Rattle.hippo_catalog.specs.AuditExpressions.{goes_back, IsMomentIn, IsPeriodOf, audit_parts_refused, period_refused, audit_refused, audit_of};
+ghost use Rattle.hippo_typing.specs.FoundAudits.{tables_refused, audit_columns_refused, audit_found, judged_refused, head_of_audit};
+
+use crate::change_names::check_pair;
+use crate::columns::found_references;
+use crate::conditions::found_condition;
+use crate::kinds::check_kinds;
+use crate::literals::check_texts;
+use crate::pairs::paired;
+use crate::parts::check_count;
+use crate::tables::{StatementTables, check_repeats, tables_of};
+use hippo_catalog::{Catalog, FROM_LIMIT, ITEM_LIMIT, PAIR_LIMIT, Period};
+use hippo_model::{Audit, CondOf, NameFault, Names, Operand, Pairs, RawAudit, Refs};
+use hippo_values::{Duplicate, Moment, Txt, read_moment};
+use std::alloc::Global;
+
+/// An audit expression's columns, as they are found.
+#[derive(Drop)]
+pub struct FoundAudit {
+    columns: Refs,
+    cond: CondOf<Operand>,
+}
+
+/// What an audit expression has beside its columns and its condition.
+#[derive(Drop)]
+pub struct AuditHead {
+    from: Moment,
+    to: Moment,
+    exempt: Pairs,
+    tables: Names,
+}
+
+// The moment that a text writes, if it writes one.
+fn read_end(text: &Txt) -> Option<Moment>
+    ensures is { IsMomentIn text.now result }
+    ensures only { (other : Option Second) → IsMomentIn text.now other → other ≡ result }
+{
+    read_moment(text.as_str())
+}
+
+// The ends of the period, as far as its texts are moments.
+fn read_period(audit: &RawAudit) -> Period
+    ensures is { IsPeriodOf audit.now result }
+    ensures only { (other : PeriodEnds) → IsPeriodOf audit.now other → other ≡ result }
+{
+    Period {
+        from: read_end(&audit.from),
+        to: read_end(&audit.to),
+    }
+}
+
+// The two ends of a period, the end not before the beginning.
+fn check_ends(from: Moment, to: Moment) -> Result<(Moment, Moment), NameFault>
+    ensures { Resolves (refused (goes_back from to) PeriodBack) (from, to) result }
+{
+    if from <= to {
+        return Ok((from, to));
+    }
+    Err(NameFault::PeriodBack)
+}
+
+// The two ends, where both texts are moments, the end not before the beginning.
+fn check_period(period: &Period) -> Result<(Moment, Moment), NameFault>
+    ensures { Resolves (period_refused period.now)
+        (unwrap_or period.now.from first_moment, unwrap_or period.now.to first_moment) result }
+{
+    match (period.from, period.to) {
+        (Some(from), Some(to)) => check_ends(from, to),
+        _ => Err(NameFault::BadMoment),
+    }
+}
+
+fn check_parts(audit: &RawAudit) -> Result<(), NameFault>
+    ensures { Resolves (audit_parts_refused audit.now) tt result }
+{
+    check_count(FROM_LIMIT, audit.tables.len())?;
+    check_count(ITEM_LIMIT, audit.columns.len())?;
+    check_count(PAIR_LIMIT, audit.exempt.len())
+}
+
+// The purposes and recipients of exempt pairs have to be there.
+fn check_pairs(alloc: Global, catalog: &Catalog, pairs: &Pairs) -> Result<(), NameFault>
+    ensures { Resolves (flat_map (λ pair. unknown_pair catalog.now.names pair.purpose pair.recipient) pairs.now) tt result }
+{
+    for pair in pairs.as_slice() {
+        check_pair(alloc, catalog, &pair.purpose, &pair.recipient)?;
+    }
+    Ok(())
+}
+
+// The tables of an audit, each of which must be there and stand once, and its exempt pairs.
+fn audit_tables<'a>(
+    alloc: Global,
+    catalog: &'a Catalog,
+    audit: &RawAudit,
+) -> Result<StatementTables<'a>, NameFault>
+    ensures { Resolves (tables_refused catalog.now.names audit.now) (schemas_of catalog.now.names audit.now.tables) result }
+{
+    let tables = tables_of(alloc, catalog, audit.tables.as_slice())?;
+    check_pairs(alloc, catalog, &audit.exempt)?;
+    check_repeats(alloc, audit.tables.as_slice())?;
+    Ok(tables)
+}
+
+// An audit with its columns found, each of which has to be one of its tables, and only one.
+fn found_audit(
+    alloc: Global,
+    tables: &StatementTables<'_>,
+    audit: &RawAudit,
+) -> Result<FoundAudit, NameFault>
+    ensures { Resolves (audit_columns_refused tables.now audit.now) (audit_found tables.now audit.now) result }
+{
+    let columns = found_references(alloc, tables, audit.columns.as_slice())?;
+    let cond = found_condition(alloc, tables, &audit.cond)?;
+    Ok(FoundAudit { columns, cond })
+}
+
+// What an audit has beside its columns and its condition, where it is not refused.
+fn checked_audit(
+    alloc: Global,
+    tables: &StatementTables<'_>,
+    audit: &RawAudit,
+    cond: &CondOf<Operand>,
+    period: &Period,
+) -> Result<AuditHead, NameFault>
+    ensures { Resolves (judged_refused tables.now audit.now cond.now period.now) (head_of_audit audit.now period.now) result }
+{
+    check_kinds(tables, cond)?;
+    check_texts(cond)?;
+    check_parts(audit)?;
+    let (from, to) = check_period(period)?;
+    let exempt = audit.exempt.copy(alloc)?;
+    let tables = audit.tables.copy(alloc)?;
+    Ok(AuditHead {
+        from,
+        to,
+        exempt,
+        tables,
+    })
+}
+
+fn audit_of(found: FoundAudit, head: AuditHead, shown: bool) -> Audit
+    ensures { result ≡ record { from = head.from; to = head.to; exempt = head.exempt; shown = shown; columns = found.columns; tables = head.tables; cond = found.cond } }
+{
+    let FoundAudit { columns, cond } = found;
+    let AuditHead {
+        from,
+        to,
+        exempt,
+        tables,
+    } = head;
+    Audit {
+        from,
+        to,
+        exempt,
+        shown,
+        columns,
+        tables,
+        cond,
+    }
+}
+
+// An audit whose period has been read.
+fn resolve_over(
+    alloc: Global,
+    catalog: &Catalog,
+    audit: &RawAudit,
+    period: &Period,
+) -> Result<Audit, NameFault>
+    ensures { Resolves (audit_refused catalog.now.names period.now audit.now)
+        (audit_of catalog.now.names period.now audit.now) result }
+{
+    let tables = audit_tables(alloc, catalog, audit)?;
+    let found = found_audit(alloc, &tables, audit)?;
+    let head = checked_audit(alloc, &tables, audit, &found.cond, period);
+    let (found, head) = paired(found, head)?;
+    Ok(audit_of(found, head, audit.shown))
+}
+
+/// The audit expression that is meant, each of whose columns is found in one table of its FROM list, or why it is refused.
+/// The ends of its period are the moments that its texts write.
+pub fn resolve_audit(
+    alloc: Global,
+    catalog: &Catalog,
+    audit: &RawAudit,
+) -> Result<Audit, NameFault>
+    ensures period { (period : PeriodEnds) × IsPeriodOf audit.now period }
+    ensures resolved { (period : PeriodEnds) → IsPeriodOf audit.now period
+        → Resolves (audit_refused catalog.now.names period audit.now) (audit_of catalog.now.names period audit.now) result }
+{
+    let period = read_period(audit);
+    resolve_over(alloc, catalog, audit, &period)
+}

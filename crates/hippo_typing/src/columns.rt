@@ -1,0 +1,115 @@
+//! Which column of a statement's tables a written column is.
+ghost use Rattle.std.specs.Prelude.{◌≡◌, List, ◌++◌, map, flat_map, unwrap_or, option_copied, option_to_list, MatchResult};
+ghost use Rattle.hippo_model.specs.declared.query.Ref.{Ref as Reference};
+ghost use Rattle.hippo_catalog.specs.Refusals.{Resolves, IsFirstOf};
+ghost use Rattle.hippo_catalog.specs.WrittenColumns.{may_stand_in, home_in, homes_refused, column_refused, column_of};
+ghost use Rattle.hippo_typing.specs.Found.{with_column};
+
+use crate::faults;
+use crate::found::{FoundColumn, FoundColumns};
+use crate::tables::StatementTables;
+use hippo_catalog::IndexedTable;
+use hippo_model::{NameFault, RawColumn, Ref, Refs};
+use hippo_values::{Name, Sequence};
+use std::alloc::Global;
+
+/// Whether a column with this table before it, or none, may be one of the table's.
+pub fn may_stand_in(qualifier: Option<&Name>, table: &Name) -> bool
+    ensures { result ≡ may_stand_in (option_copied qualifier.entry) table.now }
+{
+    match qualifier {
+        None => true,
+        Some(qualifier) => qualifier == table,
+    }
+}
+
+// The column of the table at a place that a written column may be.
+fn home_in(written: &RawColumn, place: usize, table: &IndexedTable) -> Option<Ref>
+    ensures { result ≡ home_in written.now place table.now }
+{
+    if !may_stand_in(written.table.as_ref(), &table.schema().name) {
+        return None;
+    }
+    let column = table.place(&written.column)?;
+    Some(Ref {
+        table: place,
+        column,
+    })
+}
+
+// What has been found, with what is found in one table more; it may be one column only.
+fn one_home(
+    alloc: Global,
+    written: &RawColumn,
+    home: Option<Ref>,
+    found: Option<Ref>,
+) -> Result<Option<Ref>, NameFault>
+    ensures { MatchResult result
+        (λ made. option_to_list home ++ option_to_list found ≡ option_to_list made)
+        (λ fault. (more : List Reference)
+            → IsFirstOf (homes_refused written.now (option_to_list home ++ option_to_list found ++ more)) fault) }
+{
+    match (home, found) {
+        (None, found) => Ok(found),
+        (Some(home), None) => Ok(Some(home)),
+        (Some(_), Some(_)) => Err(faults::ambiguous_column(alloc, &written.column)),
+    }
+}
+
+// The column that was found, or the fault that none was.
+fn some_home(alloc: Global, written: &RawColumn, home: Option<Ref>) -> Result<Ref, NameFault>
+    ensures { Resolves (homes_refused written.now (option_to_list home))
+        (unwrap_or home (record { table = 0; column = 0 })) result }
+{
+    match home {
+        Some(home) => Ok(home),
+        None => Err(faults::unknown_column(alloc, written)),
+    }
+}
+
+/// The column that a written column is; it has to be one of the statement's tables, and only one.
+pub fn found_column(
+    alloc: Global,
+    tables: &StatementTables<'_>,
+    written: &RawColumn,
+) -> Result<Ref, NameFault>
+    ensures { Resolves (column_refused tables.now written.now) (column_of tables.now written.now) result }
+{
+    let mut home = None;
+    for place in 0..tables.len() {
+        let found = home_in(written, place, tables.get(place));
+        home = one_home(alloc, written, home, found)?;
+    }
+    some_home(alloc, written, home)
+}
+
+/// Written columns with the columns that they are, each of which has to be one of the statement's tables, and only one.
+pub fn found_columns<'a>(
+    alloc: Global,
+    tables: &StatementTables<'_>,
+    written: &'a [RawColumn],
+) -> Result<FoundColumns<'a>, NameFault>
+    ensures { Resolves (flat_map (column_refused tables.now) written.now) (map (with_column tables.now) written.now) result }
+{
+    let mut found = Sequence::new(alloc);
+    for written in written {
+        let column = found_column(alloc, tables, written)?;
+        found.push(FoundColumn { written, column })?;
+    }
+    Ok(found)
+}
+
+/// The columns that written columns are, each of which has to be one of the statement's tables, and only one.
+pub fn found_references(
+    alloc: Global,
+    tables: &StatementTables<'_>,
+    written: &[RawColumn],
+) -> Result<Refs, NameFault>
+    ensures { Resolves (flat_map (column_refused tables.now) written.now) (map (column_of tables.now) written.now) result }
+{
+    let mut found = Sequence::new(alloc);
+    for column in written {
+        found.push(found_column(alloc, tables, column)?)?;
+    }
+    Ok(found)
+}

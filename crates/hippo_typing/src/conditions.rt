@@ -1,0 +1,184 @@
+//! A condition with its columns found.
+ghost use Rattle.std.specs.Prelude.{◌≡◌, ◌∷◌, [], flat_map, map};
+ghost use Rattle.hippo_model.specs.declared.query.CondOf.TheVariants.{All, Any, Not, Compare, Between, Among, Missing};
+ghost use Rattle.hippo_model.specs.declared.query.Operand.TheVariants.{Column, Literal};
+ghost use Rattle.hippo_catalog.specs.Refusals.{Resolves};
+ghost use Rattle.hippo_catalog.specs.WrittenColumns.{column_refused, column_of};
+ghost use Rattle.hippo_catalog.specs.Comparisons.{operand_refused, operand_of, operands_refused, condition_of};
+
+use crate::columns::found_column;
+use crate::tables::StatementTables;
+use hippo_model::{CondOf, NameFault, Operand, Operands, RawColumn, RawCond, RawOperand};
+use hippo_values::{Boxed, CompareOp, Duplicate, Sequence, Value};
+use std::alloc::Global;
+
+type RawOperands = Sequence<RawOperand>;
+
+fn column_operand(
+    alloc: Global,
+    tables: &StatementTables<'_>,
+    written: &RawColumn,
+) -> Result<Operand, NameFault>
+    ensures { Resolves (column_refused tables.now written.now) (Column (column_of tables.now written.now)) result }
+{
+    Ok(Operand::Column(found_column(alloc, tables, written)?))
+}
+
+fn literal_operand(alloc: Global, value: &Value) -> Result<Operand, NameFault>
+    ensures { Resolves [] (Literal value.now) result }
+{
+    Ok(Operand::Literal(value.copy(alloc)?))
+}
+
+fn found_operand(
+    alloc: Global,
+    tables: &StatementTables<'_>,
+    operand: &RawOperand,
+) -> Result<Operand, NameFault>
+    ensures { Resolves (operand_refused tables.now operand.now) (operand_of tables.now operand.now) result }
+{
+    match operand {
+        RawOperand::Column(written) => column_operand(alloc, tables, written),
+        RawOperand::Literal(value) => literal_operand(alloc, value),
+    }
+}
+
+fn found_list(
+    alloc: Global,
+    tables: &StatementTables<'_>,
+    list: &RawOperands,
+) -> Result<Operands, NameFault>
+    ensures { Resolves (flat_map (operand_refused tables.now) list.now) (map (operand_of tables.now) list.now) result }
+{
+    let mut found = Sequence::new(alloc);
+    for operand in list.as_slice() {
+        found.push(found_operand(alloc, tables, operand)?)?;
+    }
+    Ok(found)
+}
+
+fn found_comparison(
+    alloc: Global,
+    tables: &StatementTables<'_>,
+    op: CompareOp,
+    left: &RawOperand,
+    right: &RawOperand,
+) -> Result<CondOf<Operand>, NameFault>
+    ensures { Resolves (flat_map (operand_refused tables.now) (left.now ∷ right.now ∷ []))
+        (Compare op (operand_of tables.now left.now) (operand_of tables.now right.now)) result }
+{
+    let left = found_operand(alloc, tables, left)?;
+    let right = found_operand(alloc, tables, right)?;
+    Ok(CondOf::Compare { op, left, right })
+}
+
+fn found_between(
+    alloc: Global,
+    tables: &StatementTables<'_>,
+    value: &RawOperand,
+    low: &RawOperand,
+    high: &RawOperand,
+) -> Result<CondOf<Operand>, NameFault>
+    ensures { Resolves (flat_map (operand_refused tables.now) (value.now ∷ low.now ∷ high.now ∷ []))
+        (Between (operand_of tables.now value.now) (operand_of tables.now low.now) (operand_of tables.now high.now)) result }
+{
+    let value = found_operand(alloc, tables, value)?;
+    let low = found_operand(alloc, tables, low)?;
+    let high = found_operand(alloc, tables, high)?;
+    Ok(CondOf::Between { value, low, high })
+}
+
+fn found_among(
+    alloc: Global,
+    tables: &StatementTables<'_>,
+    value: &RawOperand,
+    list: &RawOperands,
+) -> Result<CondOf<Operand>, NameFault>
+    ensures { Resolves (flat_map (operand_refused tables.now) (value.now ∷ list.now))
+        (Among (operand_of tables.now value.now) (map (operand_of tables.now) list.now)) result }
+{
+    let value = found_operand(alloc, tables, value)?;
+    let list = found_list(alloc, tables, list)?;
+    Ok(CondOf::Among { value, list })
+}
+
+fn found_missing(
+    alloc: Global,
+    tables: &StatementTables<'_>,
+    value: &RawOperand,
+) -> Result<CondOf<Operand>, NameFault>
+    ensures { Resolves (flat_map (operand_refused tables.now) (value.now ∷ [])) (Missing (operand_of tables.now value.now)) result }
+{
+    let value = found_operand(alloc, tables, value)?;
+    Ok(CondOf::Missing { value })
+}
+
+/// A condition with its columns found, each of which has to be one of the statement's tables, and only one.
+#[cycle(found_condition)]
+#[tactic(auto, using(hippo_catalog::proofs::ComparedOperands::gathered, hippo_model::proofs::ChangedOperands::changes_of_operands))]
+pub fn found_condition(
+    alloc: Global,
+    tables: &StatementTables<'_>,
+    condition: &RawCond,
+) -> Result<CondOf<Operand>, NameFault>
+    ensures { Resolves (operands_refused tables.now condition.now) (condition_of tables.now condition.now) result }
+{
+    match condition {
+        CondOf::All(parts) => found_all(alloc, tables, parts),
+        CondOf::Any(parts) => found_any(alloc, tables, parts),
+        CondOf::Not(part) => found_not(alloc, tables, part),
+        CondOf::Compare { op, left, right } => found_comparison(alloc, tables, *op, left, right),
+        CondOf::Between { value, low, high } => found_between(alloc, tables, value, low, high),
+        CondOf::Among { value, list } => found_among(alloc, tables, value, list),
+        CondOf::Missing { value } => found_missing(alloc, tables, value),
+    }
+}
+
+#[cycle(found_condition)]
+fn found_parts(
+    alloc: Global,
+    tables: &StatementTables<'_>,
+    parts: &Sequence<RawCond>,
+) -> Result<Sequence<CondOf<Operand>>, NameFault>
+    ensures { Resolves (flat_map (operands_refused tables.now) parts.now) (map (condition_of tables.now) parts.now) result }
+{
+    let mut found = Sequence::new(alloc);
+    for part in parts.as_slice() {
+        found.push(found_condition(alloc, tables, part)?)?;
+    }
+    Ok(found)
+}
+
+#[cycle(found_condition)]
+fn found_all(
+    alloc: Global,
+    tables: &StatementTables<'_>,
+    parts: &Sequence<RawCond>,
+) -> Result<CondOf<Operand>, NameFault>
+    ensures { Resolves (flat_map (operands_refused tables.now) parts.now) (All (map (condition_of tables.now) parts.now)) result }
+{
+    Ok(CondOf::All(found_parts(alloc, tables, parts)?))
+}
+
+#[cycle(found_condition)]
+fn found_any(
+    alloc: Global,
+    tables: &StatementTables<'_>,
+    parts: &Sequence<RawCond>,
+) -> Result<CondOf<Operand>, NameFault>
+    ensures { Resolves (flat_map (operands_refused tables.now) parts.now) (Any (map (condition_of tables.now) parts.now)) result }
+{
+    Ok(CondOf::Any(found_parts(alloc, tables, parts)?))
+}
+
+#[cycle(found_condition)]
+fn found_not(
+    alloc: Global,
+    tables: &StatementTables<'_>,
+    part: &Boxed<RawCond>,
+) -> Result<CondOf<Operand>, NameFault>
+    ensures { Resolves (operands_refused tables.now part.now) (Not (condition_of tables.now part.now)) result }
+{
+    let part = found_condition(alloc, tables, part.get())?;
+    Ok(CondOf::Not(Boxed::new(alloc, part)?))
+}

@@ -1,0 +1,15 @@
+//! How many parts a statement may have.
+ghost use Rattle.hippo_catalog.specs.Refusals.{Resolves};
+ghost use Rattle.hippo_catalog.specs.StatementLimits.{too_many};
+
+use hippo_model::NameFault;
+
+/// Refuses more parts than there may be.
+pub fn check_count(limit: usize, count: usize) -> Result<(), NameFault>
+    ensures { Resolves (too_many limit count) tt result }
+{
+    if count > limit {
+        return Err(NameFault::TooManyParts(limit as u64));
+    }
+    Ok(())
+}

@@ -1,0 +1,246 @@
+//! Selects.
+ghost use Rattle.std.specs.Prelude.{◌≡◌, ◌+◌, ◌≤◌, ◌++◌, [], map, flat_map, length, IfOk};
+ghost use Rattle.hippo_model.specs.declared.query.Form.TheVariants.{Grouped};
+ghost use Rattle.hippo_catalog.specs.Refusals.{Resolves};
+ghost use Rattle.hippo_catalog.specs.StatementLimits.{too_many, item_limit, from_limit};
+ghost use Rattle.hippo_catalog.specs.WrittenColumns.{column_refused};
+ghost use Rattle.hippo_catalog.specs.Comparisons.{kinds_refused, texts_refused};
+ghost use Rattle.hippo_catalog.specs.Selects.{column_in, item_refused, item_columns, outs_of, by_of, list_refused, columns_refused, select_parts_refused, select_refused, query_of};
+ghost use Rattle.hippo_typing.specs.Found.{with_out, groups_found_refused, shown_found};
+ghost use Rattle.hippo_typing.specs.FoundSelects.{list_found, select_found, head_refused, head_of, items_of, form_found};
+
+use crate::columns::found_columns;
+use crate::conditions::found_condition;
+use crate::found::{FoundColumns, FoundOuts};
+use crate::groups::{check_groups, found_outs, grouped_items, shown_outs};
+use crate::items::found_items;
+use crate::kinds::check_kinds;
+use crate::literals::check_texts;
+use crate::pairs::paired;
+use crate::parts::check_count;
+use crate::tables::{StatementTables, found_tables};
+use hippo_catalog::{Catalog, FROM_LIMIT, ITEM_LIMIT};
+use hippo_model::{
+    CondOf, Form, NameFault, Names, Operand, Query, RawColumn, RawForm, RawOut, RawOuts, RawSelect, Refs, Shape,
+};
+use hippo_values::{Duplicate, Memory, Sequence};
+use std::alloc::Global;
+
+/// The columns of a select's list: those of its items or, where it is grouped, its members with theirs.
+#[derive(Drop)]
+pub struct FoundList<'a> {
+    items: Refs,
+    outs: FoundOuts<'a>,
+}
+
+/// A select with its columns found.
+#[derive(Drop)]
+pub struct FoundSelect<'a> {
+    list: FoundList<'a>,
+    cond: CondOf<Operand>,
+    by: FoundColumns<'a>,
+}
+
+/// What a query has beside its condition.
+#[derive(Drop)]
+pub struct QueryHead {
+    items: Refs,
+    tables: Names,
+    form: Form,
+}
+
+fn by_of(form: &RawForm) -> &[RawColumn]
+    ensures { result.now ≡ by_of form.now }
+{
+    match form {
+        RawForm::Plain => &[],
+        RawForm::Distinct => &[],
+        RawForm::Grouped { by, .. } => by.as_slice(),
+    }
+}
+
+fn plain_list<'a>(
+    alloc: Global,
+    tables: &StatementTables<'_>,
+    select: &'a RawSelect,
+) -> Result<FoundList<'a>, NameFault>
+    ensures { Resolves (flat_map (item_refused tables.now) select.now.items)
+        (record { items = flat_map (item_columns tables.now) select.now.items; outs = [] }) result }
+{
+    let items = found_items(alloc, tables, select.items.as_slice())?;
+    Ok(FoundList {
+        items,
+        outs: Sequence::new(alloc),
+    })
+}
+
+fn grouped_list<'a>(
+    alloc: Global,
+    tables: &StatementTables<'_>,
+    outs: &'a RawOuts,
+) -> Result<FoundList<'a>, NameFault>
+    ensures { Resolves (flat_map (λ out. column_refused tables.now (column_in out)) outs.now)
+        (record { items = []; outs = map (with_out tables.now) outs.now }) result }
+{
+    let outs = found_outs(alloc, tables, outs.as_slice())?;
+    Ok(FoundList {
+        items: Sequence::new(alloc),
+        outs,
+    })
+}
+
+fn found_list<'a>(
+    alloc: Global,
+    tables: &StatementTables<'_>,
+    select: &'a RawSelect,
+) -> Result<FoundList<'a>, NameFault>
+    ensures { Resolves (list_refused tables.now select.now.items select.now.form)
+        (list_found tables.now select.now.items select.now.form) result }
+{
+    match &select.form {
+        RawForm::Plain => plain_list(alloc, tables, select),
+        RawForm::Distinct => plain_list(alloc, tables, select),
+        RawForm::Grouped { outs, .. } => grouped_list(alloc, tables, outs),
+    }
+}
+
+// A select with its columns found, each of which has to be one of its tables, and only one.
+fn found_select<'a>(
+    alloc: Global,
+    tables: &StatementTables<'_>,
+    select: &'a RawSelect,
+) -> Result<FoundSelect<'a>, NameFault>
+    ensures { Resolves (columns_refused tables.now select.now) (select_found tables.now select.now) result }
+{
+    let list = found_list(alloc, tables, select)?;
+    let cond = found_condition(alloc, tables, &select.cond)?;
+    let by = found_columns(alloc, tables, by_of(&select.form));
+    let (cond, by) = paired(cond, by)?;
+    Ok(FoundSelect { list, cond, by })
+}
+
+fn outs_of(form: &RawForm) -> &[RawOut]
+    ensures { result.now ≡ outs_of form.now }
+{
+    match form {
+        RawForm::Plain => &[],
+        RawForm::Distinct => &[],
+        RawForm::Grouped { outs, .. } => outs.as_slice(),
+    }
+}
+
+fn check_parts(select: &RawSelect) -> Result<(), NameFault>
+    ensures { Resolves (select_parts_refused select.now) tt result }
+{
+    check_count(FROM_LIMIT, select.tables.len())?;
+    check_count(ITEM_LIMIT, select.items.len())?;
+    check_count(ITEM_LIMIT, outs_of(&select.form).len())?;
+    check_count(ITEM_LIMIT, by_of(&select.form).len())
+}
+
+// Refuses a select whose columns are found, for what its columns are, its texts or the number of its parts.
+fn check_select(
+    alloc: Global,
+    tables: &StatementTables<'_>,
+    select: &RawSelect,
+    found: &FoundSelect<'_>,
+) -> Result<(), NameFault>
+    ensures { Resolves (head_refused tables.now select.now found.now) tt result }
+{
+    check_groups(alloc, &found.list.outs, &found.by)?;
+    check_kinds(tables, &found.cond)?;
+    check_texts(&found.cond)?;
+    check_parts(select)
+}
+
+fn query_items(alloc: Global, form: &RawForm, found: &FoundSelect<'_>) -> Result<Refs, Memory>
+    ensures { IfOk result (λ items. items ≡ items_of form.now found.now) }
+{
+    match form {
+        RawForm::Plain => found.list.items.copy(alloc),
+        RawForm::Distinct => found.list.items.copy(alloc),
+        RawForm::Grouped { .. } => grouped_items(alloc, &found.list.outs, &found.by),
+    }
+}
+
+fn grouped_form(alloc: Global, found: &FoundSelect<'_>) -> Result<Form, Memory>
+    requires { length found.now.by + length found.now.list.outs ≤ 256 }
+    ensures { IfOk result (λ form. form ≡ Grouped (record { keys = length found.now.by; outs = shown_found found.now.by (length found.now.by) found.now.list.outs })) }
+{
+    let outs = shown_outs(alloc, &found.list.outs, &found.by)?;
+    Ok(Form::Grouped(Shape {
+        keys: found.by.len(),
+        outs,
+    }))
+}
+
+fn query_form(alloc: Global, form: &RawForm, found: &FoundSelect<'_>) -> Result<Form, Memory>
+    requires { length found.now.by + length found.now.list.outs ≤ 256 }
+    ensures { IfOk result (λ made. made ≡ form_found form.now found.now) }
+{
+    match form {
+        RawForm::Plain => Ok(Form::Plain),
+        RawForm::Distinct => Ok(Form::Distinct),
+        RawForm::Grouped { .. } => grouped_form(alloc, found),
+    }
+}
+
+fn query_head(
+    alloc: Global,
+    select: &RawSelect,
+    found: &FoundSelect<'_>,
+) -> Result<QueryHead, Memory>
+    requires { length found.now.by + length found.now.list.outs ≤ 256 }
+    ensures { IfOk result (λ head. head ≡ head_of select.now found.now) }
+{
+    let items = query_items(alloc, &select.form, found)?;
+    let tables = select.tables.copy(alloc)?;
+    let form = query_form(alloc, &select.form, found)?;
+    Ok(QueryHead {
+        items,
+        tables,
+        form,
+    })
+}
+
+// What a query has beside its condition, where the select is not refused.
+fn checked_head(
+    alloc: Global,
+    tables: &StatementTables<'_>,
+    select: &RawSelect,
+    found: &FoundSelect<'_>,
+) -> Result<QueryHead, NameFault>
+    requires { found.now ≡ select_found tables.now select.now }
+    ensures { Resolves (head_refused tables.now select.now found.now) (head_of select.now found.now) result }
+{
+    check_select(alloc, tables, select, found)?;
+    Ok(query_head(alloc, select, found)?)
+}
+
+fn query(found: FoundSelect<'_>, head: QueryHead) -> Query
+    ensures { result ≡ record { items = head.items; tables = head.tables; cond = found.entry.cond; form = head.form } }
+{
+    let FoundSelect { list: _, cond, by: _ } = found;
+    let QueryHead { items, tables, form } = head;
+    Query {
+        items,
+        tables,
+        cond,
+        form,
+    }
+}
+
+/// The query that a select means, each of whose columns is found in one table of its FROM list, or why it is refused.
+pub fn resolve_select(
+    alloc: Global,
+    catalog: &Catalog,
+    select: &RawSelect,
+) -> Result<Query, NameFault>
+    ensures { Resolves (select_refused catalog.now.names select.now) (query_of catalog.now.names select.now) result }
+{
+    let tables = found_tables(alloc, catalog, &select.tables)?;
+    let found = found_select(alloc, &tables, select)?;
+    let head = checked_head(alloc, &tables, select, &found);
+    let (found, head) = paired(found, head)?;
+    Ok(query(found, head))
+}
