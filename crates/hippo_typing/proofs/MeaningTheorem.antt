@@ -1,10 +1,14 @@
 -- A text means what `meaning_in` finds, and nothing else.
-use Rattle.std.proofs.Common.{◌≡◌, Bool, true, false, List, [], ◌∷◌, Option, Some, None, Result, Ok, Err, refl, sym, ◌∙◌, ap, subst}
-use Rattle.std.specs.Prelude.{is_ok, ◌↔◌, option_and_then, if◌then◌else◌, ◌⊎◌}
+use Rattle.std.proofs.Common.{◌≡◌, ◌≢◌, Bool, true, false, List, [], ◌∷◌, length, Option, Some, None, Result, Ok, Err, refl, sym, ◌∙◌, ap, subst}
+use Rattle.std.specs.Prelude.{is_ok, is_err, slice_get, ◌↔◌, option_and_then, if◌then◌else◌, IfSome, IfNone}
+use Rattle.std.proofs.Math.Nat.{sub-zero}
+use Rattle.std.proofs.Math.Seq.{take-length}
+use Rattle.std.proofs.lemmas.Result.{MatchResult-at_ok, MatchResult-at_err}
 use Rattle.std.proofs.lemmas.Option.{none-some, same_Some}
 use Rattle.hippo_values.specs.Texts.{Txt}
 use Rattle.hippo_lexer.specs.declared.faults.LexFault.{LexFault}
 use Rattle.hippo_lexer.specs.declared.faults.SyntaxFault.{SyntaxFault}
+use Rattle.hippo_lexer.specs.declared.faults.SyntaxFault.TheVariants as syntax
 use Rattle.hippo_lexer.specs.declared.kinds.Token.{Token}
 use Rattle.hippo_lexer.specs.Grammar.{IsOutcome}
 use Rattle.hippo_lexer.specs.Words.{words_check}
@@ -13,8 +17,8 @@ use Rattle.hippo_lexer.proofs.OutcomeLemmas.{outcome-one}
 use Rattle.hippo_model.specs.declared.name_fault.NameFault.{NameFault}
 use Rattle.hippo_model.specs.declared.query.Query.{Query}
 use Rattle.hippo_model.specs.declared.statement.RawSelect.{RawSelect}
-use Rattle.hippo_spj_reader.specs.Front.{Kinds, kinds}
-use Rattle.hippo_spj_reader.specs.Promises.{whole_of, ended}
+use Rattle.hippo_spj_reader.specs.Front.{Kinds, kinds, kinds_between}
+use Rattle.hippo_spj_reader.specs.Promises.{whole_of, ended, ReadsAll, IsFaultOnlyWhere}
 use Rattle.hippo_spj_reader.specs.SelectFinder.{leading_select}
 use Rattle.hippo_spj_reader.specs.SelectGrammar.{IsSelect}
 use Rattle.hippo_spj_reader.proofs.SelectTheorem.{found, complete, ends-nothing}
@@ -73,7 +77,7 @@ means_opened : (known : KnownNames) (text : Txt) (one : Option RawSelect) (query
 means_opened known text None query is e = absurd (none-some query e)
 means_opened known text (Some select) query is e =
     let parts = none_refused (select_refused known select) (query_of known select) query e in
-    record { select = select; read = IsSelectText-found text select is; right = parts.0; query = parts.1 }
+    record { select = select; read = IsSelectText-found text select is; right = parts.0; meant = parts.1 }
 
 -- the query that is found is what the text means
 pub Means-found : (known : KnownNames) (text : Txt) (query : Query) → meaning_in known text ≡ Some query → Means known text query
@@ -84,7 +88,7 @@ Means-found known text query e = means_opened known text (select_in (outcome_of 
 pub found-Means : (known : KnownNames) (text : Txt) (query : Query) → Means known text query → meaning_in known text ≡ Some query
 unfolding meaning_in
 found-Means known text query means =
-    rw (found-IsSelectText text means.select means.read, means.right) (ap Some (sym means.query))
+    rw (found-IsSelectText text means.select means.read, means.right) (ap Some (sym means.meant))
 
 pub says_what_texts_mean : SaysWhatTextsMean meaning
 says_what_texts_mean history text query = (Means-found (known_at history) text query, found-Means (known_at history) text query)
@@ -92,3 +96,51 @@ says_what_texts_mean history text query = (Means-found (known_at history) text q
 pub one_meaning : AtMostOneMeaning
 one_meaning known text one other means also =
     same_Some one other (sym (found-Means known text one means) ∙ found-Means known text other also)
+
+-- what is found, is what the text means
+pub means_what_is_found : (known : KnownNames) (text : Txt) (found : Option Query) → found ≡ meaning_in known text → IfSome found (λ query. Means known text query)
+means_what_is_found known text None is = tt
+means_what_is_found known text (Some query) is = Means-found known text query (sym is)
+
+-- where nothing is found, the text means nothing
+pub means_nothing : (known : KnownNames) (text : Txt) (found : Option Query) → found ≡ meaning_in known text → IfNone found ((query : Query) → ¬ Means known text query)
+means_nothing known text None is = λ query means. none-some query (is ∙ found-Means known text query means)
+means_nothing known text (Some query) is = tt
+
+-- all tokens of a list
+all_between : (tokens : List Token) → kinds_between tokens 0 (length tokens) ≡ kinds tokens
+all_between tokens = ap kinds (rw (sub-zero (length tokens)) (take-length tokens))
+
+nothing_found : (tokens : Kinds) (whole : Option RawSelect) → whole_of (leading_select tokens) ≡ whole → ((select : RawSelect) → ¬ IsSelect tokens select []) → whole ≡ None
+nothing_found tokens None is none = refl
+nothing_found tokens (Some select) is none = absurd (none select (IsSelect-whole tokens select is))
+
+only_where : (P : Type 0) (fault : SyntaxFault) → fault ≢ syntax.Memory → IsFaultOnlyWhere P fault → P
+only_where P syntax.TooDeep other only = absurd only
+only_where P (syntax.Unsupported place) other only = absurd only
+only_where P syntax.BadSyntax other only = only
+only_where P syntax.Memory other only = absurd (other refl)
+
+module _ (tokens : List Token) (words : words_check tokens ≡ Ok tt) (result : Result RawSelect SyntaxFault) (reads : ReadsAll IsSelect (kinds_between tokens 0 (length tokens)) result) where
+  -- what is read is the select that the tokens are
+  pub select-read : (select : RawSelect) → result ≡ Ok select → select_in (Ok tokens) ≡ Some select
+  select-read select is =
+      let reading : IsSelect (kinds_between tokens 0 (length tokens)) select [] = MatchResult-at_ok (λ x. IsSelect (kinds_between tokens 0 (length tokens)) x []) (λ fault. Unit {0}) select is reads.found in
+      rw (words, whole-IsSelect (kinds tokens) select (rw all_between at reading)) refl
+
+  -- where nothing is read though there was memory, they are none
+  pub none-read : (fault : SyntaxFault) → result ≡ Err fault → fault ≢ syntax.Memory → select_in (Ok tokens) ≡ None
+  none-read fault is other =
+      let between : Kinds = kinds_between tokens 0 (length tokens) in
+      let only : IsFaultOnlyWhere ((select : RawSelect) → ¬ IsSelect between select []) fault = MatchResult-at_err (λ select. Unit {0}) (IsFaultOnlyWhere ((select : RawSelect) → ¬ IsSelect between select [])) fault is reads.errors in
+      let none : (select : RawSelect) → ¬ IsSelect between select [] = only_where ((select : RawSelect) → ¬ IsSelect between select []) fault other only in
+      rw words (nothing_found (kinds tokens) (whole_of (leading_select (kinds tokens))) refl (rw all_between at none))
+
+pub passed : (checked : Result (Unit {0}) SyntaxFault) → is_err checked ≡ false → checked ≡ Ok tt
+passed (Ok tt) e = refl
+passed (Err fault) e = absurd cc
+
+-- a refused select means nothing
+pub unrefused-first : (refusals : List NameFault) (query : Query) (fault : NameFault) → slice_get refusals 0 ≡ Some fault → unrefused refusals query ≡ None
+unrefused-first [] query fault e = absurd (none-some fault e)
+unrefused-first (refusal ∷ more) query fault e = refl

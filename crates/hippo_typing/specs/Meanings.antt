@@ -30,7 +30,7 @@ pub record Means (known : KnownNames) (text : Txt) (query : Query) : Type 0 wher
   pub select : RawSelect
   pub read : IsSelectText text select
   pub right : select_refused known select ≡ []
-  pub query : query ≡ query_of known select
+  pub meant : query ≡ query_of known select
 
 -- the select that tokens are
 abbrev pub select_in : Result (List Token) LexFault → Option RawSelect

@@ -6,7 +6,6 @@ ghost use Rattle.hippo_catalog.specs.Refusals.{Resolves, refused};
 ghost use Rattle.hippo_catalog.specs.WrittenColumns.{place_of};
 ghost use Rattle.hippo_catalog.specs.ChangesRefused.{column_named, places_of, unknown_columns, key_refused, is_the_key, is_of_key, key_changed};
 ghost use Rattle.hippo_catalog.specs.ChangesWanted.{key_written};
-
 ghost use Rattle.hippo_model.specs.declared.name_fault.NameFault.TheVariants.{NotTheKey};
 
 use crate::change_faults;
@@ -130,11 +129,7 @@ fn is_of_key(table: &IndexedTable, name: &Name) -> bool
 }
 
 /// None of the columns may be one of the key.
-pub fn check_key_stays(
-    alloc: Global,
-    table: &IndexedTable,
-    names: &[Name],
-) -> Result<(), NameFault>
+pub fn check_key_stays(alloc: Global, table: &IndexedTable, names: &[Name]) -> Result<(), NameFault>
     ensures { Resolves (key_changed table.now names.now) tt result }
 {
     for name in names {

@@ -87,7 +87,10 @@ fn set(
         key_values.as_slice(),
     )?;
     let values = values.copy(alloc)?;
-    let UpdatePlaces { set: places, key: _ } = places;
+    let UpdatePlaces {
+        set: places,
+        key: _,
+    } = places;
     Ok(Wanted::Set {
         table,
         key,
@@ -122,11 +125,7 @@ pub fn check_update(
     Ok(set(alloc, table, found.schema(), places, values, key_values)?)
 }
 
-fn delete_places(
-    alloc: Global,
-    table: &IndexedTable,
-    key: Assigned,
-) -> Result<Places, NameFault>
+fn delete_places(alloc: Global, table: &IndexedTable, key: Assigned) -> Result<Places, NameFault>
     ensures { Resolves (delete_refused key.entry.names.now key.entry.values.now table.now)
         (places_of table.now key.entry.names.now) result }
 {

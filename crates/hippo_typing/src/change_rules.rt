@@ -26,11 +26,7 @@ pub struct RuleNames<'a> {
     pub columns: &'a Names,
 }
 
-fn rule_places(
-    alloc: Global,
-    table: &IndexedTable,
-    columns: &Names,
-) -> Result<Places, NameFault>
+fn rule_places(alloc: Global, table: &IndexedTable, columns: &Names) -> Result<Places, NameFault>
     ensures { Resolves (rule_refused columns.now table.now) (places_of table.now columns.now) result }
 {
     check_repeats(alloc, columns.as_slice())?;
@@ -104,9 +100,9 @@ pub fn check_allow(
     days: Option<u32>,
 ) -> Result<Wanted, NameFault>
     ensures { Grants (change_refused catalog.now.names (Allow rule.entry.purpose.now rule.entry.recipient.now
-            rule.entry.table.now rule.entry.columns.now item.now days))
+        rule.entry.table.now rule.entry.columns.now item.now days))
         (wanted_by catalog.now.names (Allow rule.entry.purpose.now rule.entry.recipient.now
-            rule.entry.table.now rule.entry.columns.now item.now days)) result }
+        rule.entry.table.now rule.entry.columns.now item.now days)) result }
 {
     let table = known_table(alloc, catalog, rule.table)?;
     check_pair(alloc, catalog, rule.purpose, rule.recipient)?;
@@ -117,15 +113,11 @@ pub fn check_allow(
 }
 
 /// REVOKE: the columns that a rule no longer shows.
-pub fn check_revoke(
-    alloc: Global,
-    catalog: &Catalog,
-    rule: RuleNames,
-) -> Result<Wanted, NameFault>
+pub fn check_revoke(alloc: Global, catalog: &Catalog, rule: RuleNames) -> Result<Wanted, NameFault>
     ensures { Grants (change_refused catalog.now.names (Revoke rule.entry.purpose.now rule.entry.recipient.now
-            rule.entry.table.now rule.entry.columns.now))
+        rule.entry.table.now rule.entry.columns.now))
         (wanted_by catalog.now.names (Revoke rule.entry.purpose.now rule.entry.recipient.now
-            rule.entry.table.now rule.entry.columns.now)) result }
+        rule.entry.table.now rule.entry.columns.now)) result }
 {
     let table = known_table(alloc, catalog, rule.table)?;
     check_pair(alloc, catalog, rule.purpose, rule.recipient)?;

@@ -134,11 +134,7 @@ fn check_insert(
 /// What a statement that changes something asks for, or the first refusal that holds: its names and types are right
 /// where a catalog's names stand. What it does may still wait for the rows that are there. A statement that changes
 /// nothing is answered with want of memory; of one that does, any error else is its first refusal.
-pub fn check_change(
-    alloc: Global,
-    catalog: &Catalog,
-    statement: &Stmt,
-) -> Result<Wanted, NameFault>
+pub fn check_change(alloc: Global, catalog: &Catalog, statement: &Stmt) -> Result<Wanted, NameFault>
     ensures answer { Grants (change_refused catalog.now.names statement.now)
         (wanted_by catalog.now.names statement.now) result }
     ensures other { changes_something statement.now ≡ false → result ≡ Err faults.Memory }

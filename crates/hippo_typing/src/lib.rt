@@ -24,8 +24,10 @@ mod change_rules;
 mod change_tables;
 mod change_values;
 mod changes;
+mod texts;
 
 pub use changes::check_change;
+pub use texts::{at_most_one_meaning, meaning_is_that_of_texts, read_meaning};
 pub use hippo_catalog::Catalog;
 pub use audits::resolve_audit;
 pub use selects::resolve_select;

@@ -1,10 +1,11 @@
 //! What the text of a question means.
-ghost use Rattle.std.specs.Prelude.{◌≡◌, Some, None, Ok, Err, IfOk, IfSome, MatchResult, IfNone, OnErr};
+ghost use Rattle.std.specs.Prelude.{◌≡◌, ◌≢◌, Ok, IfOk, IfSome, IfNone};
+ghost use Rattle.std.specs.Bool.{OnFalse};
 ghost use Rattle.hippo_model.specs.declared.query.Query.{Query as MeantQuery};
+ghost use Rattle.hippo_model.specs.declared.name_fault.NameFault.TheVariants as faults;
+ghost use Rattle.hippo_lexer.specs.declared.faults.SyntaxFault.TheVariants as syntax;
 ghost use Rattle.hippo_lexer.specs.Cutting.{outcome_of};
-ghost use Rattle.hippo_catalog.specs.Refusals.{Resolves};
-ghost use Rattle.hippo_catalog.specs.Selects.{select_refused, query_of};
-ghost use Rattle.hippo_typing.specs.Meanings.{Means, select_in, unrefused, query_in, meaning_in};
+ghost use Rattle.hippo_typing.specs.Meanings.{Means, select_in, query_in, meaning_in};
 ghost use Rattle.hippo_typing.specs.MeaningLaws.{MeaningIsThatOfTexts, AtMostOneMeaning};
 
 use crate::selects::resolve_select;
@@ -16,6 +17,16 @@ use hippo_spj_reader::read_select;
 use hippo_values::Memory;
 use std::alloc::Global;
 
+// No select was read, but for want of memory.
+fn no_select(fault: SyntaxFault) -> Result<Option<RawSelect>, Memory>
+    ensures { IfOk result (λ found. (found ≡ None) × (fault ≢ syntax.Memory)) }
+{
+    match fault {
+        SyntaxFault::Memory => Err(Memory),
+        _ => Ok(None),
+    }
+}
+
 // The select that tokens are, if they are one.
 fn whole_select(alloc: Global, tokens: &Tokens) -> Result<Option<RawSelect>, Memory>
     ensures { IfOk result (λ found. found ≡ select_in (Ok tokens.now)) }
@@ -25,8 +36,7 @@ fn whole_select(alloc: Global, tokens: &Tokens) -> Result<Option<RawSelect>, Mem
     }
     match read_select(alloc, tokens, 0, tokens.len()) {
         Ok(select) => Ok(Some(select)),
-        Err(SyntaxFault::Memory) => Err(Memory),
-        Err(_) => Ok(None),
+        Err(fault) => no_select(fault),
     }
 }
 
@@ -41,18 +51,31 @@ fn select_in(alloc: Global, text: &str) -> Result<Option<RawSelect>, Memory>
     }
 }
 
+fn is_memory(fault: &NameFault) -> bool
+    ensures { OnFalse result (fault.now ≢ faults.Memory) }
+{
+    matches!(fault, NameFault::Memory)
+}
+
+// A select was refused, but for want of memory.
+fn no_query(fault: NameFault) -> Result<Option<Query>, Memory>
+    ensures { IfOk result (λ found. (found ≡ None) × (fault ≢ faults.Memory)) }
+{
+    let is_short = is_memory(&fault);
+    drop(fault);
+    if is_short {
+        return Err(Memory);
+    }
+    Ok(None)
+}
+
 // The query that a select means, if nothing of it is refused.
-fn query_in(
-    alloc: Global,
-    catalog: &Catalog,
-    select: &RawSelect,
-) -> Result<Option<Query>, Memory>
+fn query_in(alloc: Global, catalog: &Catalog, select: &RawSelect) -> Result<Option<Query>, Memory>
     ensures { IfOk result (λ found. found ≡ query_in catalog.now.names select.now) }
 {
     match resolve_select(alloc, catalog, select) {
         Ok(query) => Ok(Some(query)),
-        Err(NameFault::Memory) => Err(Memory),
-        Err(_) => Ok(None),
+        Err(fault) => no_query(fault),
     }
 }
 
@@ -68,11 +91,7 @@ fn meaning_in(alloc: Global, catalog: &Catalog, text: &str) -> Result<Option<Que
 
 /// The query that a text means where a catalog's names stand: the text is a select by the grammar, and nothing of it is
 /// refused. None exactly where it means none; the error is want of memory.
-pub fn read_meaning(
-    alloc: Global,
-    catalog: &Catalog,
-    text: &str,
-) -> Result<Option<Query>, Memory>
+pub fn read_meaning(alloc: Global, catalog: &Catalog, text: &str) -> Result<Option<Query>, Memory>
     ensures found { IfOk result (λ found. IfSome found (λ query. Means catalog.now.names text.now query)) }
     ensures none { IfOk result (λ found. IfNone found ((query : MeantQuery) → ¬ Means catalog.now.names text.now query)) }
     ensures meaning { IfOk result (λ found. found ≡ meaning_in catalog.now.names text.now) }
