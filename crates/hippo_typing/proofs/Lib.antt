@@ -6,3 +6,5 @@ pub mod FoundTheorem
 pub mod PairLemmas
 pub mod ChangesLemmas
 pub mod AuditTheorem
+pub mod LastingNames
+pub mod CatalogTheorem

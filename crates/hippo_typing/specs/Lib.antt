@@ -4,3 +4,4 @@ pub mod MeaningLaws
 pub mod Found
 pub mod FoundSelects
 pub mod FoundAudits
+pub mod ResolutionLaws

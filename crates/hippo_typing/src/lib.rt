@@ -9,6 +9,7 @@ mod found;
 mod groups;
 mod items;
 mod kinds;
+pub mod laws;
 mod literals;
 mod pairs;
 mod parts;
