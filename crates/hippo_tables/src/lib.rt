@@ -1,0 +1,7 @@
+//! The rows of each table as they are now, and what a change of them comes to.
+#![tactic(auto)]
+
+mod table;
+mod tables;
+
+pub use tables::Tables;
