@@ -1,2 +1,4 @@
 pub mod RowPlaces
 pub mod KeptLemmas
+pub mod HistoryLemmas
+pub mod StandingLemmas

@@ -55,6 +55,14 @@ abbrev pub is_delete : Act → Bool
 is_delete (Delete table key) = true
 is_delete act = false
 
+-- whether an act changes no row and makes no table
+abbrev pub is_silent : Act → Bool
+is_silent (Create schema) = false
+is_silent (Insert table row) = false
+is_silent (Update table row) = false
+is_silent (Delete table key) = false
+is_silent act = true
+
 -- tables have taken in an entry
 pub record Adds (old new : Tables) (entry : Entry) : Type 0 where
   pub stands : (history : History) → IsNext history entry.act → StandsFor old history

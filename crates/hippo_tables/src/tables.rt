@@ -1,12 +1,13 @@
 //! The tables of a history.
-ghost use Rattle.std.specs.Prelude.{◌≡◌, ◌∷◌, [], ◌++◌, true, IsOk, OnOk, OnErr, IfOk, option_map, if◌then◌else◌, bytes_eq};
+ghost use Rattle.std.specs.Prelude.{◌≡◌, ◌∷◌, [], ◌++◌, true, IsOk, OnOk, OnErr, IfOk, option_map, option_and_then, if◌then◌else◌, bytes_eq};
 ghost use Rattle.std.specs.HashMap.{get};
 ghost use Rattle.hippo_values.specs.declared.names.Name.{Name as TableName};
 ghost use Rattle.hippo_model.specs.Terms.{History};
+ghost use Rattle.hippo_model.specs.declared.entry.Entry.{Entry as HistoryEntry};
 ghost use Rattle.hippo_model.specs.Rows.{key_of};
 ghost use Rattle.hippo_tables.specs.KeptTables.{KeptTable, inserted, deleted};
 ghost use Rattle.hippo_tables.specs.Before.{before_of, renewed_table};
-ghost use Rattle.hippo_tables.specs.Standing.{StandsFor, Remembers, Adds, IsAsBefore, Makes, Inserts, Updates, Deletes, is_delete, kept_table, with_change};
+ghost use Rattle.hippo_tables.specs.Standing.{StandsFor, Remembers, Adds, IsAsBefore, Makes, Inserts, Updates, Deletes, is_delete, is_silent, kept_table, with_change};
 
 use crate::table::{Before, Table};
 use hippo_model::{Act, Cells, Entry, RowSet, Schema};
@@ -63,6 +64,28 @@ fn delete_from(tables: &mut HashMap<Name, Table>, table: &Name, key: &Cells)
     }
 }
 
+// Puts a row in the place of the one that has its key, if both the table and it are there; the old row is handed out.
+fn update_in(
+    tables: &mut HashMap<Name, Table>,
+    alloc: Global,
+    table: &Name,
+    row: &Cells,
+    number: u64,
+) -> Result<Option<Before>, Memory>
+    ensures ok { OnOk result ((other : TableName) → get bytes_eq tables.new other
+        ≡ with_change table.now (renewed_table row.now number) (get bytes_eq tables.old) other) }
+    ensures before { IfOk result (λ before. before ≡ option_and_then (λ kept. before_of (key_of kept.rows.key row.now) kept) (get bytes_eq tables.old table.now)) }
+    ensures err { OnErr result ((other : TableName) → get bytes_eq tables.new other ≡ get bytes_eq tables.old other) }
+{
+    match tables.get_mut(table) {
+        None => Ok(None),
+        Some(kept) => match kept.update_copy(alloc, row, number) {
+            Ok(before) => Ok(before),
+            Err(Memory) => Err(Memory),
+        },
+    }
+}
+
 impl Tables {
     /// The tables of the empty history: none. Takes no memory.
     pub fn new(alloc: Global) -> Tables
@@ -100,5 +123,84 @@ impl Tables {
         self.tables.insert(name, table)?;
         self.remember(Change::Made(made));
         Ok(())
+    }
+
+    fn insert_row(
+        &mut self,
+        alloc: Global,
+        table: &Name,
+        row: &Cells,
+        born: &Moment,
+        number: u64,
+    ) -> Result<(), Memory>
+        ensures ok { OnOk result (Inserts self.old self.new table.now (record { row = row.now; born = born.now }) number) }
+        ensures err { OnErr result (IsAsBefore self.old self.new) }
+    {
+        let name = table.copy(alloc)?;
+        let key = insert_into(&mut self.tables, alloc, table, row, *born, number)?;
+        match key {
+            None => self.remember(Change::Nothing),
+            Some(key) => self.remember(Change::Inserted { table: name, key }),
+        }
+        Ok(())
+    }
+
+    fn update_row(
+        &mut self,
+        alloc: Global,
+        table: &Name,
+        row: &Cells,
+        number: u64,
+    ) -> Result<(), Memory>
+        ensures ok { OnOk result (Updates self.old self.new table.now row.now number) }
+        ensures err { OnErr result (IsAsBefore self.old self.new) }
+    {
+        let name = table.copy(alloc)?;
+        let before = update_in(&mut self.tables, alloc, table, row, number)?;
+        match before {
+            None => self.remember(Change::Nothing),
+            Some(before) => self.remember(Change::Updated { table: name, before }),
+        }
+        Ok(())
+    }
+
+    fn delete_row(&mut self, table: &Name, key: &Cells)
+        ensures { Deletes self.old self.new table.now key.now }
+    {
+        delete_from(&mut self.tables, table, key);
+        self.remember(Change::Nothing);
+    }
+
+    // An entry that changes no row and makes no table.
+    fn pass_over(&mut self)
+        ensures { (entry : HistoryEntry) → is_silent entry.act ≡ true → Adds self.old self.new entry }
+    {
+        self.remember(Change::Nothing);
+    }
+
+    /// Takes in the entry that comes next: the tables then stand for the history with the entry behind. They are unchanged
+    /// where memory is short, which it never is for a Delete.
+    pub fn apply(&mut self, alloc: Global, entry: &Entry) -> Result<(), Memory>
+        ensures ok { OnOk result (Adds self.old self.new entry.now) }
+        ensures err { OnErr result (IsAsBefore self.old self.new) }
+        ensures deletes { is_delete entry.now.act ≡ true → IsOk result }
+    {
+        match &entry.act {
+            Act::Create(schema) => self.make(alloc, schema),
+            Act::Insert { table, row } => {
+                self.insert_row(alloc, table, row, &entry.moment, entry.seq)
+            }
+            Act::Update { table, row } => self.update_row(alloc, table, row, entry.seq),
+            Act::Delete { table, key } => Ok(self.delete_row(table, key)),
+            Act::Purpose(_) => Ok(self.pass_over()),
+            Act::Recipient(_) => Ok(self.pass_over()),
+            Act::Item { .. } => Ok(self.pass_over()),
+            Act::Authorize { .. } => Ok(self.pass_over()),
+            Act::Deauthorize { .. } => Ok(self.pass_over()),
+            Act::Allow { .. } => Ok(self.pass_over()),
+            Act::Revoke { .. } => Ok(self.pass_over()),
+            Act::Choice { .. } => Ok(self.pass_over()),
+            Act::Asked { .. } => Ok(self.pass_over()),
+        }
     }
 }
