@@ -2,3 +2,4 @@ pub mod RowPlaces
 pub mod KeptLemmas
 pub mod HistoryLemmas
 pub mod StandingLemmas
+pub mod AddLemmas

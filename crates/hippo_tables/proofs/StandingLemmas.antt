@@ -1,6 +1,6 @@
 -- Tables that stand for a history stand for it with one entry more, and back again.
 use Rattle.std.proofs.Common.{◌≡◌, ℕ, ◌+◌, Bool, true, false, ◌&&◌, not, if◌then◌else◌, List, [], ◌∷◌, ◌++◌, map, length, Option, Some, None, option_map, is_some, slice_get, get_or, sym, ap, ◌∙◌, refl, subst, bytes_eq}
-use Rattle.std.specs.Prelude.{option_and_then, is_none}
+use Rattle.std.specs.Prelude.{option_and_then, is_none, nat_lt, count_by, filter_map}
 use Rattle.std.specs.Bool.{then_some}
 use Rattle.std.specs.Option.{option_or, option_map_or}
 use Rattle.std.proofs.lemmas.Bool.{and_parts, false≢true}
@@ -14,10 +14,11 @@ use Rattle.hippo_model.specs.declared.entry.Act.{Act}
 use Rattle.hippo_model.specs.declared.entry.Act.TheVariants.{Create, Insert, Update, Delete}
 use Rattle.hippo_model.specs.Terms.{History, Row, Key}
 use Rattle.hippo_model.specs.Histories.{last_word, created, schema_at}
-use Rattle.hippo_model.specs.Rows.{key_of, key_named, born_at, born_row_at, keys_named, table_rows}
+use Rattle.hippo_model.specs.Rows.{key_of, key_named, row_at, born_at, born_row_at, keys_named, table_rows}
 use Rattle.hippo_model.specs.RowSets.{KeyedRows, kept_at, key_in, find_row, row_with}
 use Rattle.hippo_model.specs.Versions.{row_fits, key_fits, is_live, version_fits}
-use Rattle.hippo_model.specs.Validity.{create_fits, is_table_version, is_well_formed}
+use Rattle.hippo_model.specs.Validity.{create_fits, creates_table, is_table_version, is_well_formed}
+use Rattle.hippo_values.specs.Limits.{table_limit}
 use Rattle.hippo_model.proofs.LastWords.{last_word-append}
 use Rattle.hippo_model.proofs.RowsAfter.{table_rows-Insert, table_rows-Update, table_rows-Delete, row_with-table_rows, IsAscending-table_rows, key_in-born_row_at}
 use Rattle.hippo_model.proofs.ChangesOfRows.{is_live-found}
@@ -120,6 +121,27 @@ not_true : (test : Bool) → not test ≡ true → test ≡ false
 not_true true wrong = absurd (false≢true wrong)
 not_true false right = refl
 
+none_here : (found : Option Schema) → is_none found ≡ true → found ≡ None
+none_here None no_one = refl
+none_here (Some schema) some = absurd cc
+
+create_parts : (history : History) (schema : Schema) → create_fits history schema ≡ true → is_none (schema_at history schema.name) ≡ true
+create_parts history schema fits =
+    let few : Bool = nat_lt (count_by (λ entry. creates_table entry.act) history) table_limit in
+    let both = and_parts (few && is_none (schema_at history schema.name)) (is_well_formed schema) fits in
+    (and_parts few (is_none (schema_at history schema.name)) both.0).1
+
+-- the row with a live key, and where it stands
+row_found : (schema : Schema) (history : History) (key : Key) (place : ℕ) → find_row schema.key key (table_rows schema history) ≡ Some place → slice_get (table_rows schema history) place ≡ born_row_at schema history key
+row_found schema history key place found =
+    sym (ap (option_and_then (slice_get (table_rows schema history))) found)
+    ∙ slice_get-find_row schema.key key (table_rows schema history) ∙ row_with-table_rows schema history key
+
+old_row : (schema : Schema) (history : History) (key : Key) → is_live schema history key ≡ true → (kept : BornRow) × (born_row_at schema history key ≡ Some kept) × (kept.born ≡ born_at schema history key)
+old_row schema history key lives =
+    let live = some_from (row_at schema history key) lives in
+    (record { row = live.0; born = born_at schema history key }, ap (option_map (λ row. record { row = row; born = born_at schema history key })) live.1, refl)
+
 module _ (history : History) (entry : Entry) (old new : Tables) where
   pub Adds-insert : (table : Name) (row : Row) → entry.act ≡ Insert table row → Inserts old new table (record { row = row; born = entry.moment }) entry.seq → IsNext history (Insert table row) → StandsFor old history → StandsFor new (history ++ entry ∷ []) × Remembers new history
   Adds-insert table row is inserts next stands =
@@ -140,3 +162,63 @@ module _ (history : History) (entry : Entry) (old new : Tables) where
       let last : new.last ≡ Inserted table key = inserts.remembered (table_at history schema) (stands.kept table ∙ ap (option_map (table_at history)) passed.1) in
       (stands-changed history entry table schema passed.1 (inserted kept entry.seq) becomes plain others old new inserts.tables stands,
         record { before = λ name. ap (λ (last : Change). undone last name (table_of new name)) last ∙ changed_back history entry table schema passed.1 (inserted kept entry.seq) becomes plain others old new inserts.tables stands (deleted key) again name })
+
+  pub Adds-update : (table : Name) (row : Row) → entry.act ≡ Update table row → Updates old new table row entry.seq → IsNext history (Update table row) → StandsFor old history → StandsFor new (history ++ entry ∷ []) × Remembers new history
+  Adds-update table row is updates next stands =
+      let passed = table_passed (schema_at history table) (λ schema. version_fits schema history (Update table row)) next in
+      let schema : Schema = passed.0 in
+      let key : Key = key_of schema.key row in
+      let parts = and_parts (bytes_eq table schema.name && row_fits schema row) (is_live schema history key) passed.2 in
+      let same = (and_parts (bytes_eq table schema.name) (row_fits schema row) parts.0).0 in
+      let lives : is_live schema history key ≡ true = parts.1 in
+      let kept : BornRow = record { row = row; born = born_at schema history key } in
+      let kept_table : KeptTable = table_at history schema in
+      let names : key_named schema entry.act ≡ Some key = ap (key_named schema) is ∙ rw same in
+      let found = some_from (find_row schema.key key (table_rows schema history)) (is_live-found schema history key ∙ lives) in
+      let live = old_row schema history key lives in
+      let at_place : slice_get (table_rows schema history) found.0 ≡ Some live.0 = row_found schema history key found.0 found.1 ∙ live.1 in
+      let before : Before = record { row = live.0.row; born = live.0.born; number = get_or kept_table.numbers found.0 0 } in
+      let before_is : before_of key kept_table ≡ Some before =
+      ap (option_and_then (λ place. option_map (λ (other : BornRow). record { row = other.row; born = other.born; number = get_or kept_table.numbers place 0 }) (slice_get kept_table.rows.rows place))) found.1
+      ∙ ap (option_map (λ (other : BornRow). record { row = other.row; born = other.born; number = get_or kept_table.numbers found.0 0 })) at_place in
+      let born : live.0.born ≡ born_at schema history key = live.2 in
+      let renewed_is : renewed_table row entry.seq kept_table ≡ updated kept entry.seq kept_table =
+      ap (λ (other : Option Before). option_map_or (λ (before : Before). updated (record { row = row; born = before.born }) entry.seq kept_table) other kept_table) before_is
+      ∙ ap (λ born. updated (record { row = row; born = born }) entry.seq kept_table) born in
+      let becomes = table_at-updated schema history entry key names kept refl (table_rows-Update schema history entry table row is same) lives ∙ sym renewed_is in
+      let again : updated (record { row = before.row; born = before.born }) before.number (renewed_table row entry.seq kept_table) ≡ kept_table =
+      ap (updated live.0 before.number) renewed_is
+      ∙ updated-updated kept_table (IsAscending-table_rows schema history) kept found.0 found.1 entry.seq before.number live.0 (length-map (table_rows schema history) (number_of schema history)) at_place refl (key_in-born_row_at schema history key live.0 live.1) in
+      let plain : (name : Name) → created name entry.act ≡ None = λ name. ap (created name) is in
+      let others : (other : Schema) → bytes_eq table other.name ≡ false → key_named other entry.act ≡ None = λ other differs. ap (key_named other) is ∙ rw differs in
+      let last : new.last ≡ Updated table before = updates.remembered kept_table before (stands.kept table ∙ ap (option_map (table_at history)) passed.1) before_is in
+      (stands-changed history entry table schema passed.1 (renewed_table row entry.seq) becomes plain others old new updates.tables stands,
+        record { before = λ name. ap (λ (last : Change). undone last name (table_of new name)) last ∙ changed_back history entry table schema passed.1 (renewed_table row entry.seq) becomes plain others old new updates.tables stands (updated (record { row = before.row; born = before.born }) before.number) again name })
+
+  pub Adds-delete : (table : Name) (key : Key) → entry.act ≡ Delete table key → Deletes old new table key → IsNext history (Delete table key) → StandsFor old history → StandsFor new (history ++ entry ∷ [])
+  Adds-delete table key is deletes next stands =
+      let passed = table_passed (schema_at history table) (λ schema. version_fits schema history (Delete table key)) next in
+      let schema : Schema = passed.0 in
+      let parts = and_parts (bytes_eq table schema.name && key_fits schema key) (is_live schema history key) passed.2 in
+      let same = (and_parts (bytes_eq table schema.name) (key_fits schema key) parts.0).0 in
+      let names : key_named schema entry.act ≡ Some key = ap (key_named schema) is ∙ rw same in
+      let becomes = table_at-deleted schema history entry key names (table_rows-Delete schema history entry table key is same) parts.1 in
+      let plain : (name : Name) → created name entry.act ≡ None = λ name. ap (created name) is in
+      let others : (other : Schema) → bytes_eq table other.name ≡ false → key_named other entry.act ≡ None = λ other differs. ap (key_named other) is ∙ rw differs in
+      stands-changed history entry table schema passed.1 (deleted key) becomes plain others old new deletes.tables stands
+
+  pub Adds-make : (schema : Schema) → entry.act ≡ Create schema → Makes old new schema → IsNext history (Create schema) → StandsFor old history → StandsFor new (history ++ entry ∷ []) × Remembers new history
+  Adds-make schema is makes next stands =
+      let unmade : schema_at history schema.name ≡ None = none_here (schema_at history schema.name) (create_parts history schema next.0) in
+      let rows : table_rows schema history ≡ [] = ap (filter_map (born_row_at schema history)) next.1 in
+      let names : (other : Schema) → key_named other entry.act ≡ None = λ other. ap (key_named other) is in
+      let empty : table_at (history ++ entry ∷ []) schema ≡ empty_table schema = table_at-other schema history entry (names schema) ∙ ap (λ rows. record { schema = schema; rows = record { key = schema.key; rows = rows }; numbers = map (number_of schema history) rows }) rows in
+      let word : (name : Name) → schema_at (history ++ entry ∷ []) name ≡ option_or (then_some (bytes_eq schema.name name) schema) (schema_at history name) = λ name. last_word-append (λ entry. created name entry.act) history entry ∙ ap (λ act. option_or (created name act) (schema_at history name)) is in
+      (record { kept = λ name. elim (bytes_eq schema.name name) as (λ same. bytes_eq schema.name name ≡ same → table_of new name ≡ kept_table (history ++ entry ∷ []) name) [
+          | true ↦ λ e. let found : schema_at (history ++ entry ∷ []) name ≡ Some schema = word name ∙ rw e in makes.kept name ∙ rw e (ap Some (sym empty) ∙ sym (ap (option_map (table_at (history ++ entry ∷ []))) found))
+          | false ↦ λ e. makes.kept name ∙ rw e (stands.kept name ∙ sym (kept_table-other history entry name (ap (created name) is ∙ rw e) (λ other has. names other)))
+        ] refl },
+        record { before = λ name. ap (λ (last : Change). undone last name (table_of new name)) makes.remembered ∙ (elim (bytes_eq schema.name name) as (λ same. bytes_eq schema.name name ≡ same → (if same then None else table_of new name) ≡ kept_table history name) [
+          | true ↦ λ e. sym (ap (option_map (table_at history)) (ap (schema_at history) (sym (same_name schema.name name e)) ∙ unmade))
+          | false ↦ λ e. makes.kept name ∙ rw e (stands.kept name)
+        ] refl) })

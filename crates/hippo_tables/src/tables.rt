@@ -1,11 +1,13 @@
 //! The tables of a history.
-ghost use Rattle.std.specs.Prelude.{◌≡◌, ◌∷◌, [], ◌++◌, true, IsOk, OnOk, OnErr, IfOk, option_map, option_and_then, if◌then◌else◌, bytes_eq};
+ghost use Rattle.std.specs.Prelude.{◌≡◌, ◌∷◌, [], ◌++◌, true, IsOk, OnOk, OnErr, IfOk, option_copied, option_map, option_and_then, if◌then◌else◌, bytes_eq};
 ghost use Rattle.std.specs.HashMap.{get};
 ghost use Rattle.hippo_values.specs.declared.names.Name.{Name as TableName};
 ghost use Rattle.hippo_model.specs.Terms.{History};
 ghost use Rattle.hippo_model.specs.declared.entry.Entry.{Entry as HistoryEntry};
+ghost use Rattle.hippo_model.specs.Histories.{schema_at};
 ghost use Rattle.hippo_model.specs.Rows.{key_of};
-ghost use Rattle.hippo_tables.specs.KeptTables.{KeptTable, inserted, deleted};
+ghost use Rattle.hippo_model.specs.RowSets.{kept_at};
+ghost use Rattle.hippo_tables.specs.KeptTables.{KeptTable, inserted, updated, deleted};
 ghost use Rattle.hippo_tables.specs.Before.{before_of, renewed_table};
 ghost use Rattle.hippo_tables.specs.Standing.{StandsFor, Remembers, Adds, IsAsBefore, Makes, Inserts, Updates, Deletes, is_delete, is_silent, kept_table, with_change};
 
@@ -14,6 +16,7 @@ use hippo_model::{Act, Cells, Entry, RowSet, Schema};
 use hippo_values::{Duplicate, Memory, Moment, Name};
 use std::alloc::Global;
 use std::collections::HashMap;
+use std::mem;
 
 /// What the last entry changed, and what stood there before.
 #[derive(Drop)]
@@ -86,6 +89,16 @@ fn update_in(
     }
 }
 
+// Puts back a row that was updated, if the table and a row with its key are there.
+fn restore_in(tables: &mut HashMap<Name, Table>, table: &Name, before: Before)
+    ensures { (other : TableName) → get bytes_eq tables.new other
+        ≡ with_change table.now (updated (record { row = before.entry.row; born = before.entry.born }) before.entry.number) (get bytes_eq tables.old) other }
+{
+    if let Some(kept) = tables.get_mut(table) {
+        kept.update(before.row, before.born, before.number);
+    }
+}
+
 impl Tables {
     /// The tables of the empty history: none. Takes no memory.
     pub fn new(alloc: Global) -> Tables
@@ -97,8 +110,20 @@ impl Tables {
         }
     }
 
-    /// A table's rows, none where there is no such table.
+    /// A table's schema, none where there is no such table.
+    pub fn schema(&self, table: &Name) -> Option<&Schema>
+        ensures { (history : History) → StandsFor self.now history → option_copied result ≡ schema_at history table.now }
+    {
+        match self.tables.get(table) {
+            None => None,
+            Some(kept) => Some(kept.schema()),
+        }
+    }
+
+    /// A table's rows with their births, in the order of their keys; none where there is no such table.
     pub fn rows(&self, table: &Name) -> Option<&RowSet>
+        ensures { (history : History) → StandsFor self.now history
+            → option_copied result ≡ option_map (λ schema. kept_at schema history) (schema_at history table.now) }
     {
         match self.tables.get(table) {
             None => None,
@@ -201,6 +226,21 @@ impl Tables {
             Act::Revoke { .. } => Ok(self.pass_over()),
             Act::Choice { .. } => Ok(self.pass_over()),
             Act::Asked { .. } => Ok(self.pass_over()),
+        }
+    }
+
+    /// Takes back the entry that was applied last, which must be no Delete: the tables then stand for the history before it.
+    /// Takes no memory.
+    pub fn take_back(&mut self)
+        ensures { (history : History) → Remembers self.old history → StandsFor self.new history }
+    {
+        match mem::replace(&mut self.last, Change::Nothing) {
+            Change::Nothing => {}
+            Change::Made(table) => {
+                let _ = self.tables.remove(&table);
+            }
+            Change::Inserted { table, key } => delete_from(&mut self.tables, &table, &key),
+            Change::Updated { table, before } => restore_in(&mut self.tables, &table, before),
         }
     }
 }
