@@ -1,5 +1,5 @@
 //! One table: its schema and rows, and which entry named each row's key last.
-ghost use Rattle.std.specs.Prelude.{◌≡◌, ◌∷◌, [], ◌++◌, map, option_map, slice_get, slice_index_or, OnOk, OnErr, IfOk, None};
+ghost use Rattle.std.specs.Prelude.{◌≡◌, ◌∷◌, [], ◌++◌, map, option_copied, option_map, option_and_then, slice_get, slice_index_or, OnOk, OnErr, IfOk, None};
 ghost use Rattle.hippo_model.specs.Rows.{cell_at, key_of};
 ghost use Rattle.hippo_model.specs.RowSets.{find_row};
 ghost use Rattle.hippo_tables.specs.Before.{before_of, renewed_table};
@@ -80,6 +80,17 @@ impl Table {
         ensures { result.now ≡ self.now.rows }
     {
         &self.rows
+    }
+
+    /// The row with a key, none exactly where no row has it.
+    pub fn row(&self, key: &Cells) -> Option<&Cells>
+        ensures { option_copied result ≡ option_map (λ kept. kept.row)
+            (option_and_then (slice_get self.now.rows.rows) (find_row self.now.rows.key key.now self.now.rows.rows)) }
+    {
+        match self.rows.find(key) {
+            None => None,
+            Some(place) => Some(self.rows.row(place)),
+        }
     }
 
     /// The number of the last entry that names a key, where a row has it.

@@ -9,6 +9,7 @@ ghost use Rattle.hippo_model.specs.Rows.{key_of};
 ghost use Rattle.hippo_model.specs.RowSets.{kept_at};
 ghost use Rattle.hippo_tables.specs.KeptTables.{KeptTable, inserted, updated, deleted};
 ghost use Rattle.hippo_tables.specs.Before.{before_of, renewed_table};
+ghost use Rattle.hippo_tables.specs.Finished.{live_row, live_number};
 ghost use Rattle.hippo_tables.specs.Standing.{StandsFor, Remembers, Adds, IsAsBefore, Makes, Inserts, Updates, Deletes, is_delete, is_silent, kept_table, with_change};
 
 use crate::table::{Before, Table};
@@ -92,7 +93,7 @@ fn update_in(
 // Puts back a row that was updated, if the table and a row with its key are there.
 fn restore_in(tables: &mut HashMap<Name, Table>, table: &Name, before: Before)
     ensures { (other : TableName) → get bytes_eq tables.new other
-        ≡ with_change table.now (updated (record { row = before.entry.row; born = before.entry.born }) before.entry.number) (get bytes_eq tables.old) other }
+        ≡ with_change table.now (updated (record { row = before.row; born = before.born }) before.number) (get bytes_eq tables.old) other }
 {
     if let Some(kept) = tables.get_mut(table) {
         kept.update(before.row, before.born, before.number);
@@ -128,6 +129,26 @@ impl Tables {
         match self.tables.get(table) {
             None => None,
             Some(kept) => Some(kept.rows()),
+        }
+    }
+
+    /// The row of a table with a key; none exactly where the table or the row is not there.
+    pub fn row(&self, table: &Name, key: &Cells) -> Option<&Cells>
+        ensures { (history : History) → StandsFor self.now history → option_copied result ≡ live_row history table.now key.now }
+    {
+        match self.tables.get(table) {
+            None => None,
+            Some(kept) => kept.row(key),
+        }
+    }
+
+    // The number of the last entry that names a live key.
+    pub(crate) fn number(&self, table: &Name, key: &Cells) -> Option<u64>
+        ensures { (history : History) → StandsFor self.now history → result ≡ live_number history table.now key.now }
+    {
+        match self.tables.get(table) {
+            None => None,
+            Some(kept) => kept.number(key),
         }
     }
 
