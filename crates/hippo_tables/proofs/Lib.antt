@@ -3,3 +3,4 @@ pub mod KeptLemmas
 pub mod HistoryLemmas
 pub mod StandingLemmas
 pub mod AddLemmas
+pub mod LiveLemmas

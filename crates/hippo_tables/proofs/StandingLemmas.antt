@@ -132,12 +132,12 @@ create_parts history schema fits =
     (and_parts few (is_none (schema_at history schema.name)) both.0).1
 
 -- the row with a live key, and where it stands
-row_found : (schema : Schema) (history : History) (key : Key) (place : ℕ) → find_row schema.key key (table_rows schema history) ≡ Some place → slice_get (table_rows schema history) place ≡ born_row_at schema history key
+pub row_found : (schema : Schema) (history : History) (key : Key) (place : ℕ) → find_row schema.key key (table_rows schema history) ≡ Some place → slice_get (table_rows schema history) place ≡ born_row_at schema history key
 row_found schema history key place found =
     sym (ap (option_and_then (slice_get (table_rows schema history))) found)
     ∙ slice_get-find_row schema.key key (table_rows schema history) ∙ row_with-table_rows schema history key
 
-old_row : (schema : Schema) (history : History) (key : Key) → is_live schema history key ≡ true → (kept : BornRow) × (born_row_at schema history key ≡ Some kept) × (kept.born ≡ born_at schema history key)
+pub old_row : (schema : Schema) (history : History) (key : Key) → is_live schema history key ≡ true → (kept : BornRow) × (born_row_at schema history key ≡ Some kept) × (kept.born ≡ born_at schema history key)
 old_row schema history key lives =
     let live = some_from (row_at schema history key) lives in
     (record { row = live.0; born = born_at schema history key }, ap (option_map (λ row. record { row = row; born = born_at schema history key })) live.1, refl)
