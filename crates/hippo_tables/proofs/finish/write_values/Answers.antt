@@ -7,8 +7,8 @@ use Rattle.hippo_tables.specs.Finished.{written}
 use Rattle.hippo_tables.proofs.finish.write_values.Goals as goal
 
 written-past_end : (places : List Place) (values : List Value) (row : Row) (n : ℕ) → n ≡ min (length places) (length values) → written (drop n places) (drop n values) row ≡ row
-written-past_end [] values row n e = rw e refl
-written-past_end (place ∷ places) [] row n e = rw e refl
+written-past_end [] values row n e = let none : n ≡ 0 = omega arith in rw none refl
+written-past_end (place ∷ places) [] row n e = let none : n ≡ 0 = omega arith in rw none refl
 written-past_end (place ∷ places) (value ∷ values) row zero e = absurd (omega arith)
 written-past_end (place ∷ places) (value ∷ values) row (suc n) e = let shorter : n ≡ min (length places) (length values) = omega arith in written-past_end places values row n shorter
 
