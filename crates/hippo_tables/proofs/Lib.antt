@@ -1,0 +1,6 @@
+pub mod RowPlaces
+pub mod KeptLemmas
+pub mod HistoryLemmas
+pub mod StandingLemmas
+pub mod AddLemmas
+pub mod LiveLemmas
