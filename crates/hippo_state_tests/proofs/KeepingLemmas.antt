@@ -1,9 +1,9 @@
 -- The number of the next entry, after a start and after an append.
-use Rattle.std.proofs.Common.{◌≡◌, ◌∙◌, ℕ, ◌+◌, List, [], Bool, true, false, ap, Result, Ok, Err, refl}
+use Rattle.std.proofs.Common.{◌≡◌, ◌∙◌, ℕ, ◌+◌, List, [], ap, Result, Ok, Err}
 use Rattle.std.specs.Prelude.{OnOk}
 use Rattle.hippo_model.specs.declared.stored.StoredEntry.{StoredEntry}
 use Rattle.hippo_keeper.specs.declared.faults.KeeperFault.{KeeperFault}
-use Rattle.hippo_keeper.specs.Keeping.{Store, KeeperState, IsReady, Starts, Appends, next_number}
+use Rattle.hippo_keeper.specs.Keeping.{Store, KeeperState, Starts, Appends, next_number}
 use Rattle.hippo_keeper.proofs.RisingLemmas.{next_number-append}
 use Rattle.hippo_state_tests.specs.Filling.{IsAt}
 
