@@ -14,11 +14,11 @@ use itoa::Buffer;
 use std::alloc::{AllocError, Global};
 
 // The record of these fields, with a line feed behind it.
-fn record_text(alloc: Global, record: &StringRecord) -> Result<Vec<u8>, Error>
-    ensures { IfOk result (λ text. text.items ≡ row_text default_writer (fields_of record.now)) }
+fn record_text(alloc: Global, fields: &StringRecord) -> Result<Vec<u8>, Error>
+    ensures { IfOk result (λ text. text.items ≡ row_text default_writer (fields_of fields.now)) }
 {
     let mut writer = WriterBuilder::new().from_writer(Vec::new(alloc));
-    writer.write_byte_record(record.as_byte_record())?;
+    writer.write_byte_record(fields.as_byte_record())?;
     match writer.into_inner() {
         Ok(text) => Ok(text),
         Err(refused) => Err(refused.into_error()),
