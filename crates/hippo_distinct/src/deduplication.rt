@@ -60,7 +60,8 @@ impl<'a, C: ChoiceView> Visitor for Finder<'a, C> {
 
     type State = DifferentRows;
 
-    ghost Keeps = { λ finder combinations kept. AreWithin ⟦<Sequence<CellKey> as Ord>⟧.cmp finder.limit (masked_rows (C.choices finder.choices.now) finder.query.now combinations) kept };
+    ghost Keeps = { λ finder combinations kept. AreWithin ⟦<Sequence<CellKey> as Ord>⟧.cmp finder.limit
+        (masked_rows (C.choices finder.choices.now) finder.query.now combinations) kept };
 
     fn visit(
         &self,
@@ -85,7 +86,8 @@ fn distinct_within<C: ChoiceView>(
     choices: &C,
     limit: usize,
 ) -> Result<Answer, EvalFault>
-    ensures { IsAnswered limit (different (masked_answer (C.choices choices.now) query.now (rows_of sets.now))) result }
+    ensures { let rows = masked_answer (C.choices choices.now) query.now (rows_of sets.now) in
+        IsAnswered limit (different rows) result }
 {
     let finder = Finder {
         query,
@@ -111,7 +113,8 @@ pub fn distinct<C: ChoiceView>(
     sets: &Sets<'_>,
     choices: &C,
 ) -> Result<Answer, EvalFault>
-    ensures { IsAnswered ANSWER_LIMIT (different (masked_answer (C.choices choices.now) query.now (rows_of sets.now))) result }
+    ensures { let rows = masked_answer (C.choices choices.now) query.now (rows_of sets.now) in
+        IsAnswered ANSWER_LIMIT (different rows) result }
 {
     distinct_within(alloc, query, sets, choices, ANSWER_LIMIT)
 }
