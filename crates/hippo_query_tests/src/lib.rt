@@ -8,3 +8,5 @@ mod choices;
 mod conditions;
 #[cfg(test)]
 mod evaluation;
+#[cfg(test)]
+mod tables;
