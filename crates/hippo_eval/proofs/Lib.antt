@@ -1,3 +1,4 @@
 pub mod TruthLemmas
+pub mod UnmaskedLemmas
 pub mod WalkLemmas
 pub mod KeptLemmas

@@ -1,9 +1,12 @@
 -- Conditions of audit expressions, over unmasked rows.
+use Rattle.std.specs.Prelude.{List, map}
+use Rattle.hippo_model.specs.declared.cells.Cell.TheVariants.{Shown}
 use Rattle.hippo_model.specs.declared.query.CondOf.{CondOf}
 use Rattle.hippo_model.specs.declared.query.Expr.{Expr}
 use Rattle.hippo_model.specs.declared.query.Expr.TheVariants as exprs
 use Rattle.hippo_model.specs.declared.query.Operand.{Operand}
 use Rattle.hippo_model.specs.declared.query.Operand.TheVariants.{Column, Literal}
+use Rattle.hippo_model.specs.Terms.{Combination, ShownRow}
 use Rattle.hippo_model.specs.Conditions.{changed_operands}
 
 -- what stands for an operand where no cell is masked
@@ -13,3 +16,7 @@ unmasked (Literal value) = exprs.Literal value
 
 abbrev pub unmasked_condition : CondOf Operand → CondOf Expr
 unmasked_condition condition = changed_operands unmasked condition
+
+-- a combination of rows with every cell shown
+abbrev pub all_shown : Combination → List ShownRow
+all_shown rows = map (λ kept. map Shown kept.row) rows

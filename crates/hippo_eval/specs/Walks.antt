@@ -15,8 +15,8 @@ rows_of sets = map (λ set. set.rows) sets
 abbrev pub continued : Combination → List Combination → List Combination
 continued front combinations = map (λ others. front ++ others) combinations
 
--- what a state keeps, after combinations that were visited before, of some more; where a visitor has enough, what it keeps
--- of them holds with whatever follows them
+-- what a state keeps, after combinations that were visited before, of some more; where a visitor has enough, what it
+-- keeps of them holds with whatever follows them
 abbrev pub KeptAfter : {S : Type 0} → (List Combination → S → Type 0) → Result Onward Memory
     → List Combination → List Combination → S → Type 0
 KeptAfter keeps (Ok More) before these state = keeps (before ++ these) state

@@ -45,7 +45,8 @@ impl<'a, C: ChoiceView> Visitor for Finder<'a, C> {
 
     type State = Answer;
 
-    ghost Keeps = { λ finder combinations rows. rows ≡ take (finder.limit + 1) (masked_rows (C.choices finder.choices.now) finder.query.now combinations) };
+    ghost Keeps = { λ finder combinations rows.
+        rows ≡ take (finder.limit + 1) (masked_rows (C.choices finder.choices.now) finder.query.now combinations) };
 
     fn visit(
         &self,
@@ -104,7 +105,8 @@ pub fn evaluate<C: ChoiceView>(
     sets: &Sets<'_>,
     choices: &C,
 ) -> Result<Answer, EvalFault>
-    ensures { IsAnswered ANSWER_LIMIT (masked_answer (C.choices choices.now) query.now (rows_of sets.now)) result }
+    ensures { let rows = masked_answer (C.choices choices.now) query.now (rows_of sets.now) in
+        IsAnswered ANSWER_LIMIT rows result }
 {
     evaluate_within(alloc, query, sets, choices, ANSWER_LIMIT)
 }

@@ -59,7 +59,8 @@ fn is_in_time(combo: &Combo<'_>, column: &Ref, after: &Option<i64>) -> bool
 
 // Whether the patient with this number agrees to an item; nobody is no patient.
 fn agrees<C: ChoiceView>(choices: &C, subject: Option<&Value>, item: &Name, opt_in: bool) -> bool
-    ensures { result ≡ agrees_by (C.choices choices.now) (number_in (or_null (option_copied subject.entry))) item.now opt_in }
+    ensures { let number = number_in (or_null (option_copied subject.entry)) in
+        result ≡ agrees_by (C.choices choices.now) number item.now opt_in }
 {
     match subject {
         Some(Value::Int(number)) => choices.choice(*number, item).unwrap_or(!opt_in),

@@ -40,7 +40,8 @@ fn compared_with<C: ChoiceView>(
     combo: &Combo<'_>,
     choices: &C,
 ) -> Truth
-    ensures { result ≡ comparison op (value_in (lent_cell left.now)) (masked_value (C.choices choices.now) combo.now right.now) }
+    ensures { result ≡ comparison op (value_in (lent_cell left.now))
+        (masked_value (C.choices choices.now) combo.now right.now) }
 {
     compared(op, left, &cell(right, combo, choices))
 }
@@ -52,7 +53,8 @@ fn comparison<C: ChoiceView>(
     combo: &Combo<'_>,
     choices: &C,
 ) -> Truth
-    ensures { result ≡ comparison op (masked_value (C.choices choices.now) combo.now left.now) (masked_value (C.choices choices.now) combo.now right.now) }
+    ensures { let value_of = masked_value (C.choices choices.now) combo.now in
+        result ≡ comparison op (value_of left.now) (value_of right.now) }
 {
     compared_with(op, &cell(left, combo, choices), right, combo, choices)
 }
@@ -64,9 +66,9 @@ fn is_between<C: ChoiceView>(
     combo: &Combo<'_>,
     choices: &C,
 ) -> Truth
-    ensures { result ≡ truth_and
-        (comparison AtLeast (masked_value (C.choices choices.now) combo.now value.now) (masked_value (C.choices choices.now) combo.now low.now))
-        (comparison AtMost (masked_value (C.choices choices.now) combo.now value.now) (masked_value (C.choices choices.now) combo.now high.now)) }
+    ensures { let value_of = masked_value (C.choices choices.now) combo.now in
+        result ≡ truth_and (comparison AtLeast (value_of value.now) (value_of low.now))
+        (comparison AtMost (value_of value.now) (value_of high.now)) }
 {
     let value = cell(value, combo, choices);
     let above = compared_with(CompareOp::Ge, &value, low, combo, choices);
@@ -77,8 +79,8 @@ fn is_between<C: ChoiceView>(
 }
 
 fn is_among<C: ChoiceView>(value: &Expr, list: &Exprs, combo: &Combo<'_>, choices: &C) -> Truth
-    ensures { result ≡ greatest (map (λ member. comparison Equal (masked_value (C.choices choices.now) combo.now value.now)
-        (masked_value (C.choices choices.now) combo.now member)) list.now) }
+    ensures { let value_of = masked_value (C.choices choices.now) combo.now in
+        result ≡ greatest (map (λ member. comparison Equal (value_of value.now) (value_of member)) list.now) }
 {
     let value = cell(value, combo, choices);
     let mut so_far = Truth::False;
@@ -101,7 +103,7 @@ fn is_missing<C: ChoiceView>(value: &Expr, combo: &Combo<'_>, choices: &C) -> Tr
     }
 }
 
-#[cycle(test)]
+#[cycle(truth)]
 fn least<C: ChoiceView>(parts: &Sequence<CondOf<Expr>>, combo: &Combo<'_>, choices: &C) -> Truth
     ensures { result ≡ least (map (masked_truth (C.choices choices.now) combo.now) parts.now) }
 {
@@ -115,7 +117,7 @@ fn least<C: ChoiceView>(parts: &Sequence<CondOf<Expr>>, combo: &Combo<'_>, choic
     so_far
 }
 
-#[cycle(test)]
+#[cycle(truth)]
 fn greatest<C: ChoiceView>(parts: &Sequence<CondOf<Expr>>, combo: &Combo<'_>, choices: &C) -> Truth
     ensures { result ≡ greatest (map (masked_truth (C.choices choices.now) combo.now) parts.now) }
 {
@@ -131,7 +133,7 @@ fn greatest<C: ChoiceView>(parts: &Sequence<CondOf<Expr>>, combo: &Combo<'_>, ch
 
 /// SQL's truth of a condition in a combination of rows, where each expression has the value of the cell that it stands
 /// for, and a denied cell counts as null. Takes no memory.
-#[cycle(test)]
+#[cycle(truth)]
 pub fn test<C: ChoiceView>(cond: &CondOf<Expr>, combo: &Combo<'_>, choices: &C) -> Truth
     ensures { result ≡ masked_truth (C.choices choices.now) combo.now cond.now }
 {

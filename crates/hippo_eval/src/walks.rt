@@ -48,7 +48,8 @@ fn walk_from<'a, V: Visitor>(
 ) -> Result<Onward, Memory>
     ensures same { OnOk result (combo.new ≡ combo.old) }
     ensures kept { (before : List Combination) → V.Keeps visitor.now before state.old
-        → KeptAfter (V.Keeps visitor.now) result before (continued combo.old (product (rows_of (drop place sets.now)))) state.new }
+        → KeptAfter (V.Keeps visitor.now) result before
+        (continued combo.old (product (rows_of (drop place sets.now)))) state.new }
 {
     if place >= sets.len() {
         return visitor.visit(alloc, state, combo);

@@ -1,44 +1,9 @@
 use crate::choices::NoChoices;
+use crate::tables::{firsts, numbers, pairs};
+use hippo_distinct::distinct;
 use hippo_eval::{EvalFault, evaluate};
-use hippo_model::{CondOf, Expr, Exprs, Masked, Names, Ref, RowSet, Sets};
-use hippo_values::{Memory, Moment, Sequence, Value};
+use hippo_model::{Masked, RowSet, Sets};
 use std::alloc::Global;
-
-// A table of one column, with the numbers from 0.
-fn numbers(alloc: Global, count: i64) -> Result<RowSet, Memory> {
-    let mut key = Sequence::new(alloc);
-    key.push(0)?;
-    let mut set = RowSet::new(alloc, key);
-    let born = Moment::new(0).unwrap();
-    for number in 0..count {
-        let mut row = Sequence::new(alloc);
-        row.push(Value::Int(number))?;
-        set.put(row, born)?;
-    }
-    Ok(set)
-}
-
-fn number_of(table: usize) -> Expr {
-    Expr::Keep(Ref { table, column: 0 })
-}
-
-fn both_numbers(alloc: Global) -> Result<Exprs, Memory> {
-    let mut items = Sequence::new(alloc);
-    items.push(number_of(0))?;
-    items.push(number_of(1))?;
-    Ok(items)
-}
-
-// SELECT both numbers FROM two tables.
-fn pairs(alloc: Global) -> Result<Masked, Memory> {
-    let items = both_numbers(alloc)?;
-    Ok(Masked {
-        items,
-        tables: Names::new(alloc),
-        guards: Sequence::new(alloc),
-        cond: CondOf::All(Sequence::new(alloc)),
-    })
-}
 
 // How many rows the product of two tables answers.
 fn count(alloc: Global, first: &RowSet, second: &RowSet) -> Result<usize, EvalFault> {
@@ -58,6 +23,35 @@ fn count_of_numbers(alloc: Global, first: i64, second: i64) -> Result<usize, Eva
     count(alloc, &first, &second)
 }
 
+fn count_different(
+    alloc: Global,
+    query: &Masked,
+    first: &RowSet,
+    second: &RowSet,
+) -> Result<usize, EvalFault> {
+    let mut sets = Sets::new(alloc);
+    sets.push(first)?;
+    sets.push(second)?;
+    match distinct(alloc, query, &sets, &NoChoices) {
+        Ok(rows) => Ok(rows.len()),
+        Err(fault) => Err(fault),
+    }
+}
+
+fn count_of_pairs(alloc: Global) -> Result<usize, EvalFault> {
+    let query = pairs(alloc)?;
+    let first = numbers(alloc, 317)?;
+    let second = numbers(alloc, 316)?;
+    count_different(alloc, &query, &first, &second)
+}
+
+fn count_of_firsts(alloc: Global) -> Result<usize, EvalFault> {
+    let query = firsts(alloc)?;
+    let first = numbers(alloc, 317)?;
+    let second = numbers(alloc, 316)?;
+    count_different(alloc, &query, &first, &second)
+}
+
 #[test]
 fn answers_up_to_the_limit(rt: HostRuntime) {
     let alloc = rt.alloc();
@@ -66,5 +60,13 @@ fn answers_up_to_the_limit(rt: HostRuntime) {
         assert_eq!(rt; count_of_numbers(alloc, first, second), Ok(rows));
     }
     let fault = count_of_numbers(alloc, 317, 316);
+    assert_eq!(rt; fault, Err(EvalFault::TooManyRows));
+}
+
+#[test]
+fn different_rows_up_to_the_limit(rt: HostRuntime) {
+    let alloc = rt.alloc();
+    assert_eq!(rt; count_of_firsts(alloc), Ok(317));
+    let fault = count_of_pairs(alloc);
     assert_eq!(rt; fault, Err(EvalFault::TooManyRows));
 }

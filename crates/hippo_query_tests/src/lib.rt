@@ -10,3 +10,5 @@ mod conditions;
 mod evaluation;
 #[cfg(test)]
 mod replies;
+#[cfg(test)]
+mod tables;

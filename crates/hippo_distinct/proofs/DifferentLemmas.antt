@@ -1,0 +1,99 @@
+-- The different rows, one row more.
+use Rattle.std.proofs.Common.{◌≡◌, ◌+◌, ◌≤◌, length, append_assoc, arith, Bool, true, false, not, cond, ◌||◌, List, [], ◌∷◌, ◌++◌, refl, sym, ap, subst, ◌∙◌}
+use Rattle.std.specs.Prelude.{filter}
+use Rattle.std.specs.Ordering.{is_eq, ordering_then}
+use Rattle.std.specs.declared.cmp.Ordering.{Ordering}
+use Rattle.std.specs.declared.cmp.Ordering.TheVariants.{Less, Equal, Greater}
+use Rattle.std.proofs.lemmas.Bool.{and_parts, eqb-true}
+use Rattle.std.proofs.lemmas.List.{append-nil, length-append}
+use Rattle.std.proofs.lemmas.List.Elements.{filter-append}
+use Rattle.std.proofs.lemmas.List.Folds.{list_any-append}
+use Rattle.hippo_values.specs.Order.{value_cmp}
+use Rattle.hippo_model.specs.declared.cells.Cell.{Cell}
+use Rattle.hippo_model.specs.declared.cells.Cell.TheVariants.{Shown, Denied}
+use Rattle.hippo_model.specs.Terms.{ShownRow}
+use Rattle.hippo_model.specs.Bags.{same_cell, same_row}
+use Rattle.hippo_model.specs.Forms.{different}
+use Rattle.hippo_model.proofs.Orders.{same_exact}
+use Rattle.hippo_distinct.specs.DistinctRows.{stands_in}
+use Rattle.hippo_values.specs.declared.values.Value.{Value}
+
+abbrev pub if_new : Bool → ShownRow → List ShownRow
+if_new stands row = cond stands [] (row ∷ [])
+
+new_after : (first row : ShownRow) (same stands : Bool) → same_row first row ≡ same → filter (λ other. not (same_row first other)) (if_new stands row) ≡ if_new (same || stands) row
+new_after first row true true e = refl
+new_after first row false true e = refl
+new_after first row true false e = rw e refl
+new_after first row false false e = rw e refl
+
+pub different-push : (rows : List ShownRow) (row : ShownRow) → different (rows ++ row ∷ []) ≡ different rows ++ if_new (stands_in row rows) row
+different-push [] row = refl
+different-push (first ∷ rows) row =
+    ap (λ (rest : List ShownRow). first ∷ filter (λ other. not (same_row first other)) rest) (different-push rows row)
+    ∙ ap (λ (rest : List ShownRow). first ∷ rest) (filter-append (λ other. not (same_row first other)) (different rows) (if_new (stands_in row rows) row))
+    ∙ ap (λ (last : List ShownRow). first ∷ filter (λ other. not (same_row first other)) (different rows) ++ last) (new_after first row (same_row first row) (stands_in row rows) refl)
+
+-- equal values are the same
+value_exact : (a b : Value) → same_cell (Shown a) (Shown b) ≡ true → a ≡ b
+value_exact a b same = ap (first_or a) (same_exact (a ∷ []) (b ∷ []) (then_equal (value_cmp a b) ∙ same))
+  where
+    first_or : Value → List Value → Value
+    first_or other [] = other
+    first_or other (value ∷ values) = value
+
+    then_equal : (order : Ordering) → is_eq (ordering_then order Equal) ≡ is_eq order
+    then_equal Less = refl
+    then_equal Equal = refl
+    then_equal Greater = refl
+
+same_cell-exact : (a b : Cell) → same_cell a b ≡ true → a ≡ b
+same_cell-exact (Shown a) (Shown b) same = ap Shown (value_exact a b same)
+same_cell-exact (Denied a) (Denied b) same = ap Denied (eqb-true a b same)
+same_cell-exact (Shown a) (Denied b) same = absurd cc
+same_cell-exact (Denied a) (Shown b) same = absurd cc
+
+pub same_row-exact : (a b : ShownRow) → same_row a b ≡ true → a ≡ b
+same_row-exact [] [] same = refl
+same_row-exact [] (b ∷ bs) same = absurd cc
+same_row-exact (a ∷ as_) [] same = absurd cc
+same_row-exact (a ∷ rest) (b ∷ others) same =
+    let both = and_parts (same_cell a b) (same_row rest others) same in
+    λ i. same_cell-exact a b both.0 i ∷ same_row-exact rest others both.1 i
+
+-- one row more is at most one different row more
+pub different-push-length : (rows : List ShownRow) (row : ShownRow) → length (different (rows ++ row ∷ [])) ≤ length (different rows) + 1
+different-push-length rows row = subst (λ (all : List ShownRow). length all ≤ length (different rows) + 1) (sym (different-push rows row)) (at_most (stands_in row rows))
+  where
+    at_most : (stands : Bool) → length (different rows ++ if_new stands row) ≤ length (different rows) + 1
+    at_most true = omega (arith, length-append (different rows) [])
+    at_most false = omega (arith, length-append (different rows) (row ∷ []))
+
+-- the different rows of a front come first
+pub different-append : (more rows : List ShownRow) → (rest : List ShownRow) × (different (rows ++ more) ≡ different rows ++ rest)
+different-append [] rows = ([], ap different (append-nil rows) ∙ sym (append-nil (different rows)))
+different-append (row ∷ more) rows =
+    let later = different-append more (rows ++ row ∷ []) in (
+      if_new (stands_in row rows) row ++ later.0,
+      ap different (sym (append_assoc rows (row ∷ []) more)) ∙ later.1 ∙ ap (λ (front : List ShownRow). front ++ later.0) (different-push rows row)
+          ∙ append_assoc (different rows) (if_new (stands_in row rows) row) later.0,
+    )
+
+or_false : (x : Bool) → (x || false) ≡ x
+or_false true = refl
+or_false false = refl
+
+pub stands-push : (other row : ShownRow) (rows : List ShownRow) → stands_in other (rows ++ row ∷ []) ≡ (stands_in other rows || same_row row other)
+stands-push other row rows = list_any-append (λ one. same_row one other) rows (row ∷ []) ∙ ap (λ (last : Bool). stands_in other rows || last) (or_false (same_row row other))
+
+or_true : (x : Bool) → (x || true) ≡ true
+or_true true = refl
+or_true false = refl
+
+-- a row that stands there already adds none
+pub stands-push-known : (other row : ShownRow) (rows : List ShownRow) → stands_in row rows ≡ true → stands_in other rows ≡ stands_in other (rows ++ row ∷ [])
+stands-push-known other row rows known = by (same_row row other) refl ∙ sym (stands-push other row rows)
+  where
+    by : (same : Bool) → same_row row other ≡ same → stands_in other rows ≡ (stands_in other rows || same)
+    by true same = sym (ap (λ (one : ShownRow). stands_in one rows) (same_row-exact row other same)) ∙ known ∙ sym (or_true (stands_in other rows))
+    by false same = sym (or_false (stands_in other rows))

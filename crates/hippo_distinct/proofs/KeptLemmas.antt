@@ -1,0 +1,84 @@
+-- What is kept of rows that were found, one row more.
+use Rattle.std.proofs.Common.{◌≡◌, ℕ, ◌+◌, ◌<◌, ◌≤◌, min, Bool, true, false, cond, ◌&&◌, ◌||◌, List, [], ◌∷◌, ◌++◌, take, length, refl, sym, ap, ◌∙◌, arith}
+use Rattle.std.specs.Ordering.{is_eq, ordering_then}
+use Rattle.std.specs.declared.cmp.Ordering.{Ordering}
+use Rattle.std.specs.declared.cmp.Ordering.TheVariants.{Less, Equal, Greater}
+use Rattle.std.specs.Cmp.Lexicographic.{slice_cmp}
+use Rattle.std.specs.BTreeSet as tree
+use Rattle.std.proofs.lemmas.List.{append-nil, take_all, take-append-le, length-take}
+use Rattle.hippo_model.specs.declared.cells.Cell.{Cell}
+use Rattle.hippo_model.specs.Terms.{ShownRow}
+use Rattle.hippo_model.specs.Bags.{same_cell, same_row}
+use Rattle.hippo_model.specs.Forms.{different}
+use Rattle.hippo_distinct.specs.declared.keys.CellKey.{CellKey}
+use Rattle.hippo_distinct.specs.declared.deduplication.DifferentRows.{DifferentRows}
+use Rattle.hippo_distinct.specs.RowKeys.{cell_key, row_key}
+use Rattle.hippo_distinct.specs.DistinctRows.{stands_in, KeyOrder, AreDifferent, AreWithin}
+use Rattle.hippo_distinct.proofs.DifferentLemmas.{if_new, different-push, different-push-length, different-append, stands-push, stands-push-known}
+
+then_equal : (first rest : Ordering) → is_eq (ordering_then first rest) ≡ (is_eq first && is_eq rest)
+then_equal Less rest = refl
+then_equal Equal rest = refl
+then_equal Greater rest = refl
+
+module _ (cmp : CellKey → CellKey → Ordering) (agrees : (a b : Cell) → is_eq (cmp (cell_key a) (cell_key b)) ≡ same_cell a b) where
+  abbrev order : KeyOrder
+  order = slice_cmp cmp
+
+  -- keys are equal where their rows are
+  pub key_same : (a b : ShownRow) → is_eq (order (row_key a) (row_key b)) ≡ same_row a b
+  key_same [] [] = refl
+  key_same [] (b ∷ bs) = refl
+  key_same (a ∷ rest) [] = refl
+  key_same (a ∷ rest) (b ∷ bs) =
+      then_equal (cmp (cell_key a) (cell_key b)) (order (row_key rest) (row_key bs)) ∙ λ i. agrees a b i && key_same rest bs i
+
+  -- a row that was found before
+  pub known : (found : List ShownRow) (kept : DifferentRows) (row : ShownRow) → AreDifferent order found kept → tree.contains order kept.seen (row_key row) ≡ true → AreDifferent order (found ++ row ∷ []) kept
+  known found kept row are there =
+      let stands : stands_in row found ≡ true = sym (are.seen row) ∙ there in
+      record {
+        rows = are.rows ∙ sym (append-nil (different found)) ∙ ap (λ (stands : Bool). different found ++ if_new stands row) (sym stands) ∙ sym (different-push found row);
+        seen = λ other. are.seen other ∙ stands-push-known other row found stands;
+      }
+
+  one_more : (same stands : Bool) → cond same true stands ≡ (stands || same)
+  one_more true true = refl
+  one_more true false = refl
+  one_more false true = refl
+  one_more false false = refl
+
+  -- a row that is new
+  pub added : (found : List ShownRow) (kept after : DifferentRows) (row : ShownRow) → AreDifferent order found kept → tree.contains order kept.seen (row_key row) ≡ false
+      → after.rows ≡ kept.rows ++ row ∷ [] → ((key : List CellKey) → tree.contains order after.seen key ≡ cond (is_eq (order (row_key row) key)) true (tree.contains order kept.seen key))
+      → AreDifferent order (found ++ row ∷ []) after
+  added found kept after row are missing pushed inserted =
+      let stands : stands_in row found ≡ false = sym (are.seen row) ∙ missing in
+      record {
+        rows = pushed ∙ ap (λ (rows : List ShownRow). rows ++ row ∷ []) are.rows ∙ ap (λ (stands : Bool). different found ++ if_new stands row) (sym stands) ∙ sym (different-push found row);
+        seen = λ other. inserted (row_key other) ∙ (λ i. cond (key_same row other i) true (are.seen other i)) ∙ one_more (same_row row other) (stands_in other found) ∙ sym (stands-push other row found);
+      }
+
+  -- nothing is cut off yet
+  pub short : (limit : ℕ) (found : List ShownRow) (kept : DifferentRows) → AreWithin order limit found kept → length kept.rows ≤ limit → AreDifferent order found kept
+  short limit found kept are few =
+      let cut : length kept.rows ≡ min (limit + 1) (length (different found)) = ap (length {A = ShownRow}) are.rows ∙ length-take (limit + 1) (different found) in
+      record { rows = are.rows ∙ take_all (limit + 1) (different found) (omega arith); seen = are.seen few }
+
+  -- one row more, where nothing was cut off
+  pub more : (limit : ℕ) (found : List ShownRow) (kept after : DifferentRows) (row : ShownRow) → AreDifferent order found kept → length kept.rows ≤ limit → AreDifferent order (found ++ row ∷ []) after → AreWithin order limit (found ++ row ∷ []) after
+  more limit found kept after row before few are =
+      let same : length kept.rows ≡ length (different found) = ap (length {A = ShownRow}) before.rows in
+      let fits : length (different (found ++ row ∷ [])) ≤ limit + 1 = omega (arith, different-push-length found row) in
+      record { rows = are.rows ∙ sym (take_all (limit + 1) (different (found ++ row ∷ [])) fits); seen = λ few. are.seen }
+
+  -- there is one beyond the limit, so whatever follows is cut off
+  pub enough : (limit : ℕ) (found later : List ShownRow) (kept : DifferentRows) → AreWithin order limit found kept → limit < length kept.rows → AreWithin order limit (found ++ later) kept
+  enough limit found later kept are many =
+      let cut : length kept.rows ≡ min (limit + 1) (length (different found)) = ap (length {A = ShownRow}) are.rows ∙ length-take (limit + 1) (different found) in
+      let long : limit + 1 ≤ length (different found) = omega arith in
+      let whole = different-append later found in
+      record {
+        rows = are.rows ∙ sym (take-append-le (limit + 1) (different found) whole.0 long) ∙ ap (take (limit + 1)) (sym whole.1);
+        seen = λ few. absurd (omega arith);
+      }

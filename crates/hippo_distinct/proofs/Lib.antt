@@ -1,0 +1,5 @@
+pub mod DifferentLemmas
+pub mod NeededRows
+pub mod KeptLemmas
+pub mod FoundLemmas
+pub mod CellOrder

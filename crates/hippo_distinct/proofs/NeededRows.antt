@@ -1,0 +1,198 @@
+-- Which of the different rows of an answer go when combinations are taken out.
+use Rattle.std.proofs.Common.{◌≡◌, ℕ, ◌+◌, Bool, true, false, not, cond, ◌&&◌, ◌||◌, List, [], ◌∷◌, ◌++◌, map, refl, sym, ap, ◌∙◌, zero-add}
+use Rattle.std.specs.Prelude.{filter, ◌==◌}
+use Rattle.std.specs.List.{list_any, list_all}
+use Rattle.std.specs.Cmp.{eq_by_cmp_equiv, nat_eq_equiv}
+use Rattle.std.proofs.lemmas.Bool.{and_parts, and_from, or_left, or_right}
+use Rattle.std.proofs.lemmas.List.Sums.{sum_by-cons}
+use Rattle.std.proofs.lemmas.List.Folds.{list_all-append}
+use Rattle.hippo_values.specs.OrderLaws.{value_total}
+use Rattle.hippo_model.specs.declared.cells.Cell.{Cell}
+use Rattle.hippo_model.specs.declared.cells.Cell.TheVariants.{Shown, Denied}
+use Rattle.hippo_model.specs.Terms.{ShownRow}
+use Rattle.hippo_model.specs.Bags.{same_cell, same_row, occurrences, same_bag}
+use Rattle.hippo_model.specs.Forms.{different}
+use Rattle.hippo_distinct.proofs.DifferentLemmas.{same_row-exact}
+
+same_cell-refl : (cell : Cell) → same_cell cell cell ≡ true
+same_cell-refl (Shown value) = (eq_by_cmp_equiv value_total).refl value
+same_cell-refl (Denied rule) = nat_eq_equiv.refl rule
+
+same_row-refl : (row : ShownRow) → same_row row row ≡ true
+same_row-refl [] = refl
+same_row-refl (cell ∷ row) = and_from _ _ (same_cell-refl cell) (same_row-refl row)
+
+-- whether a row is among others
+abbrev is_among : List ShownRow → ShownRow → Bool
+is_among rows row = list_any (same_row row) rows
+
+abbrev one_if : Bool → ℕ
+one_if test = cond test 1 0
+
+abbrev others : ShownRow → List ShownRow → List ShownRow
+others first rows = filter (λ row. not (same_row first row)) rows
+
+-- tests of all rows
+list_all-mono : (p q : ShownRow → Bool) → ((row : ShownRow) → p row ≡ true → q row ≡ true) → (rows : List ShownRow) → list_all p rows ≡ true → list_all q rows ≡ true
+list_all-mono p q then [] all = refl
+list_all-mono p q then (row ∷ rows) all =
+    let both = and_parts (p row) (list_all p rows) all in
+    and_from (q row) (list_all q rows) (then row both.0) (list_all-mono p q then rows both.1)
+
+-- a row that is the first one changes nothing where the first one passes
+one_dropped : (p : ShownRow → Bool) (first row : ShownRow) (same : Bool) → same_row first row ≡ same → p first ≡ true → (some rest : List ShownRow) → list_all p some ≡ list_all p rest
+    → list_all p (cond (not same) (row ∷ some) some) ≡ (p row && list_all p rest)
+one_dropped p first row true same passes some rest e = e ∙ ap (λ (test : Bool). test && list_all p rest) (sym (ap p (sym (same_row-exact first row same)) ∙ passes))
+one_dropped p first row false same passes some rest e = ap (λ (test : Bool). p row && test) e
+
+all_others : (p : ShownRow → Bool) (first : ShownRow) → p first ≡ true → (rows : List ShownRow) → list_all p (others first rows) ≡ list_all p rows
+all_others p first passes [] = refl
+all_others p first passes (row ∷ rows) = one_dropped p first row (same_row first row) refl passes (others first rows) rows (all_others p first passes rows)
+
+-- the different rows pass a test where all rows do
+all_different : (p : ShownRow → Bool) (rows : List ShownRow) → list_all p (different rows) ≡ list_all p rows
+all_different p [] = refl
+all_different p (first ∷ rows) = by (p first) refl ∙ ap (λ (rest : Bool). p first && rest) (all_different p rows)
+  where
+    by : (passes : Bool) → p first ≡ passes → (p first && list_all p (others first (different rows))) ≡ (p first && list_all p (different rows))
+    by true passes = ap (λ (rest : Bool). p first && rest) (all_others p first passes (different rows))
+    by false passes = ap (λ (test : Bool). test && list_all p (others first (different rows))) passes ∙ sym (ap (λ (test : Bool). test && list_all p (different rows)) passes)
+
+counted : (row first : ShownRow) (rest : List ShownRow) → occurrences row (first ∷ rest) ≡ one_if (same_row row first) + occurrences row rest
+counted row first rest = sum_by-cons (λ other. cond (same_row row other) 1 0) first rest
+
+-- a row does not stand among those that differ from it
+none_left : (row first : ShownRow) (same : Bool) → same_row row first ≡ same → (some : List ShownRow) → occurrences row some ≡ 0 → occurrences row (cond (not same) (first ∷ some) some) ≡ 0
+none_left row first true same some e = e
+none_left row first false same some e = counted row first some ∙ ap (λ (test : Bool). one_if test + occurrences row some) same ∙ ap (λ (count : ℕ). 0 + count) e
+
+none_of_others : (row : ShownRow) (rows : List ShownRow) → occurrences row (others row rows) ≡ 0
+none_of_others row [] = refl
+none_of_others row (first ∷ rows) = none_left row first (same_row row first) refl (others row rows) (none_of_others row rows)
+
+-- another row is not counted
+one_kept : (row first one : ShownRow) (same : Bool) → same_row first one ≡ same → same_row row first ≡ false → (some rest : List ShownRow) → occurrences row some ≡ occurrences row rest
+    → occurrences row (cond (not same) (one ∷ some) some) ≡ occurrences row (one ∷ rest)
+one_kept row first one true same apart some rest e =
+    let none : same_row row one ≡ false = ap (same_row row) (sym (same_row-exact first one same)) ∙ apart in
+    e ∙ sym (zero-add (occurrences row rest)) ∙ ap (λ (test : Bool). one_if test + occurrences row rest) (sym none) ∙ sym (counted row one rest)
+one_kept row first one false same apart some rest e = counted row one some ∙ ap (λ (count : ℕ). one_if (same_row row one) + count) e ∙ sym (counted row one rest)
+
+as_often_in_others : (row first : ShownRow) → same_row row first ≡ false → (rows : List ShownRow) → occurrences row (others first rows) ≡ occurrences row rows
+as_often_in_others row first apart [] = refl
+as_often_in_others row first apart (one ∷ rows) = one_kept row first one (same_row first one) refl apart (others first rows) rows (as_often_in_others row first apart rows)
+
+-- a row stands among the different rows once, or not at all
+once : (row : ShownRow) (rows : List ShownRow) → occurrences row (different rows) ≡ one_if (is_among rows row)
+once row [] = refl
+once row (first ∷ rows) = counted row first (others first (different rows)) ∙ by (same_row row first) refl (once row rows)
+  where
+    by : (same : Bool) → same_row row first ≡ same → occurrences row (different rows) ≡ one_if (is_among rows row)
+        → one_if (same_row row first) + occurrences row (others first (different rows)) ≡ one_if (same_row row first || is_among rows row)
+    by true same rest =
+        let none : occurrences row (others first (different rows)) ≡ 0 = ap (λ (one : ShownRow). occurrences row (others one (different rows))) (sym (same_row-exact row first same)) ∙ none_of_others row (different rows) in
+        (λ i. one_if (same i) + none i) ∙ sym (ap (λ (test : Bool). one_if (test || is_among rows row)) same)
+    by false same rest =
+        (λ i. one_if (same i) + (as_often_in_others row first same (different rows) ∙ rest) i) ∙ zero-add (one_if (is_among rows row)) ∙ sym (ap (λ (test : Bool). one_if (test || is_among rows row)) same)
+
+-- each row is among all
+all_among : (rows : List ShownRow) → list_all (is_among rows) rows ≡ true
+all_among [] = refl
+all_among (first ∷ rows) =
+    and_from _ _ (or_left (same_row first first) (is_among rows first) (same_row-refl first))
+    (list_all-mono (is_among rows) (is_among (first ∷ rows)) (λ row among. or_right (same_row row first) (is_among rows row) among) rows (all_among rows))
+
+-- where each row is among all, it is as often in some and in all exactly where it is among some
+abbrev as_often : List ShownRow → List ShownRow → ShownRow → Bool
+as_often some all row = one_if (is_among some row) == one_if (is_among all row)
+
+bit_of_true : (a b : Bool) → b ≡ true → (one_if a == one_if b) ≡ a
+bit_of_true true b is = ap (λ (test : Bool). 1 == one_if test) is
+bit_of_true false b is = ap (λ (test : Bool). 0 == one_if test) is
+
+as_often_within : (some all rows : List ShownRow) → list_all (is_among all) rows ≡ true → list_all (as_often some all) rows ≡ list_all (is_among some) rows
+as_often_within some all [] among = refl
+as_often_within some all (row ∷ rows) among =
+    let both = and_parts (is_among all row) (list_all (is_among all) rows) among in
+    λ i. bit_of_true (is_among some row) (is_among all row) both.0 i && as_often_within some all rows both.1 i
+
+-- the different rows of some and of all are one bag exactly where each of all is among some
+same_where_all_are_left : (some all : List ShownRow) → list_all (is_among all) some ≡ true → same_bag (different some) (different all) ≡ list_all (is_among some) all
+same_where_all_are_left some all within =
+    (λ i. list_all (λ row. once row some i == once row all i) (different some ++ different all))
+    ∙ list_all-append (as_often some all) (different some) (different all)
+    ∙ (λ i. all_different (as_often some all) some i && all_different (as_often some all) all i)
+    ∙ (λ i. as_often_within some all some within i && as_often_within some all all (all_among all) i)
+    ∙ ap (λ (test : Bool). test && list_all (is_among some) all) (all_among some)
+
+not_all : (p : ShownRow → Bool) (rows : List ShownRow) → not (list_all p rows) ≡ list_any (λ row. not (p row)) rows
+not_all p [] = refl
+not_all p (row ∷ rows) = by (p row) ∙ ap (λ (test : Bool). not (p row) || test) (not_all p rows)
+  where
+    by : (test : Bool) → not (test && list_all p rows) ≡ (not test || not (list_all p rows))
+    by true = refl
+    by false = refl
+
+module _ {C : Type 0} (row_of : C → ShownRow) (passes is_out : C → Bool) where
+  abbrev answered : List C → List ShownRow
+  answered combinations = map row_of (filter passes combinations)
+
+  abbrev left : List C → List ShownRow
+  left combinations = answered (filter (λ c. not (is_out c)) combinations)
+
+  -- whether a row comes from combinations that are taken out alone
+  abbrev alone : List C → ShownRow → Bool
+  alone combinations row = list_all (λ c. not (passes c && same_row row (row_of c)) || is_out c) combinations
+
+  one_answer : (test : Bool) (c : C) (rest : List C) → map row_of (cond test (c ∷ rest) rest) ≡ cond test (row_of c ∷ map row_of rest) (map row_of rest)
+  one_answer true c rest = refl
+  one_answer false c rest = refl
+
+  one_left : (out : Bool) (c : C) (rest : List C) → answered (cond (not out) (c ∷ rest) rest) ≡ cond (not out) (answered (c ∷ rest)) (answered rest)
+  one_left true c rest = refl
+  one_left false c rest = refl
+
+  left-cons : (c : C) (rest : List C) → left (c ∷ rest) ≡ cond (not (is_out c)) (cond (passes c) (row_of c ∷ left rest) (left rest)) (left rest)
+  left-cons c rest =
+      let kept : List C = filter (λ c. not (is_out c)) rest in
+      one_left (is_out c) c kept ∙ ap (λ (rows : List ShownRow). cond (not (is_out c)) rows (left rest)) (one_answer (passes c) c (filter passes kept))
+
+  alone_with_one : (out pass same : Bool) (first row : ShownRow) (rows : List ShownRow) → same_row row first ≡ same
+      → ((not (pass && same) || out) && not (is_among rows row)) ≡ not (is_among (cond (not out) (cond pass (first ∷ rows) rows) rows) row)
+  alone_with_one true true true first row rows e = refl
+  alone_with_one true true false first row rows e = refl
+  alone_with_one true false same first row rows e = refl
+  alone_with_one false false same first row rows e = refl
+  alone_with_one false true true first row rows e = ap (λ (test : Bool). not (test || is_among rows row)) (sym e)
+  alone_with_one false true false first row rows e = ap (λ (test : Bool). not (test || is_among rows row)) (sym e)
+
+  -- a row comes from them alone where it is not among those that are left
+  alone_is : (row : ShownRow) (combinations : List C) → alone combinations row ≡ not (is_among (left combinations) row)
+  alone_is row [] = refl
+  alone_is row (c ∷ rest) =
+      ap (λ (test : Bool). (not (passes c && same_row row (row_of c)) || is_out c) && test) (alone_is row rest)
+      ∙ alone_with_one (is_out c) (passes c) (same_row row (row_of c)) (row_of c) row (left rest) refl
+      ∙ ap (λ (rows : List ShownRow). not (is_among rows row)) (sym (left-cons c rest))
+
+  -- what is left is among all
+  within_one : (out pass : Bool) (first : ShownRow) (some all : List ShownRow) → list_all (is_among all) some ≡ true
+      → list_all (is_among (cond pass (first ∷ all) all)) (cond (not out) (cond pass (first ∷ some) some) some) ≡ true
+  within_one true true first some all within = list_all-mono (is_among all) (is_among (first ∷ all)) (λ row among. or_right (same_row row first) (is_among all row) among) some within
+  within_one true false first some all within = within
+  within_one false true first some all within =
+      and_from _ _ (or_left (same_row first first) (is_among all first) (same_row-refl first))
+      (list_all-mono (is_among all) (is_among (first ∷ all)) (λ row among. or_right (same_row row first) (is_among all row) among) some within)
+  within_one false false first some all within = within
+
+  left_within : (combinations : List C) → list_all (is_among (answered combinations)) (left combinations) ≡ true
+  left_within [] = refl
+  left_within (c ∷ rest) =
+      let step = within_one (is_out c) (passes c) (row_of c) (left rest) (answered rest) (left_within rest) in
+      (λ i. list_all (is_among (one_answer (passes c) c (filter passes rest) i)) (left-cons c rest i)) ∙ step
+
+  -- the different rows become another bag exactly where some row comes from what is taken out alone
+  pub needs_what_comes_alone : (combinations : List C) → not (same_bag (different (left combinations)) (different (answered combinations))) ≡ list_any (alone combinations) (answered combinations)
+  needs_what_comes_alone combinations =
+      ap not (same_where_all_are_left (left combinations) (answered combinations) (left_within combinations))
+      ∙ not_all (is_among (left combinations)) (answered combinations)
+      ∙ λ i. list_any (λ row. sym (alone_is row combinations) i) (answered combinations)

@@ -1,0 +1,33 @@
+-- The different rows of an answer, and the keys of the rows that were found.
+use Rattle.std.specs.Prelude.{◌≡◌, ℕ, ◌+◌, ◌≤◌, Bool, List, length, take}
+use Rattle.std.specs.List.{list_any}
+use Rattle.std.specs.BTreeSet as tree
+use Rattle.std.specs.declared.cmp.Ordering.{Ordering}
+use Rattle.hippo_model.specs.Terms.{ShownRow}
+use Rattle.hippo_model.specs.Bags.{same_row}
+use Rattle.hippo_model.specs.Forms.{different}
+use Rattle.hippo_distinct.specs.declared.keys.CellKey.{CellKey}
+use Rattle.hippo_distinct.specs.declared.deduplication.DifferentRows.{DifferentRows}
+use Rattle.hippo_distinct.specs.RowKeys.{row_key}
+
+-- whether a row stands among others
+abbrev pub stands_in : ShownRow → List ShownRow → Bool
+stands_in row rows = list_any (λ other. same_row other row) rows
+
+-- the order of keys by which rows are looked up
+abbrev pub KeyOrder : Type 0
+KeyOrder = List CellKey → List CellKey → Ordering
+
+-- the keys that are kept are those of the rows that were found
+abbrev pub HasSeen : KeyOrder → List ShownRow → DifferentRows → Type 0
+HasSeen order found kept = (row : ShownRow) → tree.contains order kept.seen (row_key row) ≡ stands_in row found
+
+-- the different ones of the rows that were found are kept
+pub record AreDifferent (order : KeyOrder) (found : List ShownRow) (kept : DifferentRows) : Type 0 where
+  pub rows : kept.rows ≡ different found
+  pub seen : HasSeen order found kept
+
+-- they are kept up to one beyond the limit
+pub record AreWithin (order : KeyOrder) (limit : ℕ) (found : List ShownRow) (kept : DifferentRows) : Type 0 where
+  pub rows : kept.rows ≡ take (limit + 1) (different found)
+  pub seen : length kept.rows ≤ limit → HasSeen order found kept

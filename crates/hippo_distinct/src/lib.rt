@@ -1,0 +1,8 @@
+//! Queries that answer equal rows once.
+#![tactic(auto)]
+
+mod deduplication;
+mod keys;
+pub mod laws;
+
+pub use deduplication::distinct;
