@@ -1,0 +1,45 @@
+-- What a change that is wanted comes to, by the rows as they are.
+use Rattle.std.specs.Prelude.{◌≡◌, ◌⊎◌, ℕ, List, [], ◌∷◌, Option, option_map, option_and_then, unwrap_or, slice_set, Result, Ok, Err}
+use Rattle.std.specs.Option.{option_map_or}
+use Rattle.hippo_values.specs.declared.names.Name.{Name}
+use Rattle.hippo_values.specs.declared.values.Value.{Value}
+use Rattle.hippo_model.specs.declared.entry.Act.{Act}
+use Rattle.hippo_model.specs.declared.entry.Act.TheVariants.{Insert, Update, Delete}
+use Rattle.hippo_model.specs.declared.statement.Wanted.{Wanted}
+use Rattle.hippo_model.specs.declared.statement.Wanted.TheVariants.{Ready, Add, Set, Remove}
+use Rattle.hippo_model.specs.declared.table_fault.TableFault.{TableFault}
+use Rattle.hippo_model.specs.declared.table_fault.TableFault.TheVariants.{KeyThere, KeyMissing, Memory}
+use Rattle.hippo_model.specs.Terms.{History, Row, Key, Place}
+use Rattle.hippo_model.specs.Histories.{schema_at}
+use Rattle.hippo_model.specs.Rows.{row_at, last_at}
+
+-- the row of a table with a key
+abbrev pub live_row : History → Name → Key → Option Row
+live_row history table key = option_and_then (λ schema. row_at schema history key) (schema_at history table)
+
+-- the number of the last entry that names a live key
+abbrev pub live_number : History → Name → Key → Option ℕ
+live_number history table key =
+    option_and_then
+    (λ schema. option_map (λ row. unwrap_or (last_at schema history key) 0) (row_at schema history key))
+    (schema_at history table)
+
+-- a row with values written at some places
+abbrev pub written : List Place → List Value → Row → Row
+written [] values row = row
+written (place ∷ places) [] row = row
+written (place ∷ places) (value ∷ values) row = written places values (slice_set row place value)
+
+-- the act, or why there is none
+abbrev pub finished : History → Wanted → Result Act TableFault
+finished history (Ready act) = Ok act
+finished history (Add table row key) =
+    option_map_or (λ number. Err (KeyThere number)) (live_number history table key) (Ok (Insert table row))
+finished history (Set table key places values) =
+    option_map_or (λ row. Ok (Update table (written places values row))) (live_row history table key) (Err KeyMissing)
+finished history (Remove table key) =
+    option_map_or (λ row. Ok (Delete table key)) (live_row history table key) (Err KeyMissing)
+
+-- an outcome, or want of memory
+abbrev pub IsFinished : Result Act TableFault → Result Act TableFault → Type 0
+IsFinished outcome result = (result ≡ Err Memory) ⊎ (result ≡ outcome)

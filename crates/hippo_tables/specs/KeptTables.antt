@@ -1,0 +1,61 @@
+-- A table as it is kept, and what one change does to it.
+use Rattle.std.specs.Prelude.{ℕ, List, [], map, unwrap_or, slice_set}
+use Rattle.std.specs.List.{insert, remove}
+use Rattle.std.specs.Option.{option_map_or}
+use Rattle.hippo_model.specs.declared.born_row.BornRow.{BornRow}
+use Rattle.hippo_model.specs.declared.schema.Schema.{Schema}
+use Rattle.hippo_model.specs.Terms.{History, Key, Place}
+use Rattle.hippo_model.specs.Rows.{last_at, table_rows}
+use Rattle.hippo_model.specs.RowSets.{KeyedRows, kept_at, key_in, with_row, without_row, find_row}
+
+-- the rows, and for each the number of the last entry that names its key
+pub record KeptTable : Type 0 where
+  pub schema : Schema
+  pub rows : KeyedRows
+  pub numbers : List ℕ
+
+abbrev pub number_of : Schema → History → BornRow → ℕ
+number_of schema history kept = unwrap_or (last_at schema history (key_in schema.key kept)) 0
+
+-- a table after some entries
+abbrev pub table_at : History → Schema → KeptTable
+table_at history schema = record {
+  schema = schema;
+  rows = kept_at schema history;
+  numbers = map (number_of schema history) (table_rows schema history);
+}
+
+-- the table with no rows
+abbrev pub empty_table : Schema → KeptTable
+empty_table schema = record { schema = schema; rows = record { key = schema.key; rows = [] }; numbers = [] }
+
+abbrev pub place_in : Key → KeyedRows → Place
+place_in key set = unwrap_or (find_row set.key key set.rows) 0
+
+-- with a new row, and its number beside it
+abbrev pub grown : BornRow → ℕ → KeptTable → KeptTable
+grown kept number table =
+    let rows = with_row kept table.rows in
+    record {
+      schema = table.schema;
+      rows = rows;
+      numbers = insert table.numbers (place_in (key_in table.rows.key kept) rows) number;
+    }
+
+-- with a row more, where no row has its key
+abbrev pub inserted : BornRow → ℕ → KeptTable → KeptTable
+inserted kept number table =
+    option_map_or (λ place. table) (find_row table.rows.key (key_in table.rows.key kept) table.rows.rows)
+    (grown kept number table)
+
+-- with a row instead of the one that has its key, if there is one
+abbrev pub updated : BornRow → ℕ → KeptTable → KeptTable
+updated kept number table =
+    option_map_or (λ place. record { schema = table.schema; rows = with_row kept table.rows; numbers = slice_set table.numbers place number })
+    (find_row table.rows.key (key_in table.rows.key kept) table.rows.rows) table
+
+-- without the row that has a key, if there is one
+abbrev pub deleted : Key → KeptTable → KeptTable
+deleted key table =
+    option_map_or (λ place. record { schema = table.schema; rows = without_row key table.rows; numbers = remove table.numbers place })
+    (find_row table.rows.key key table.rows.rows) table

@@ -1,0 +1,4 @@
+pub mod KeptTables
+pub mod Before
+pub mod Standing
+pub mod Finished
