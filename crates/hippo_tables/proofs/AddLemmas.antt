@@ -1,16 +1,15 @@
 -- What an entry of each kind adds.
-use Rattle.std.proofs.Common.{◌≡◌, true, false, Result, Ok, Err, OnOk, sym, ap, ◌∙◌, refl, subst}
+use Rattle.std.proofs.Common.{◌≡◌, true, Result, Ok, Err, OnOk, sym, ap, ◌∙◌, refl, subst}
 use Rattle.std.proofs.lemmas.Bool.{false≢true}
 use Rattle.hippo_values.specs.declared.names.Name.{Name}
 use Rattle.hippo_model.specs.declared.schema.Schema.{Schema}
 use Rattle.hippo_model.specs.declared.entry.Entry.{Entry}
 use Rattle.hippo_model.specs.declared.entry.Act.{Act}
 use Rattle.hippo_model.specs.declared.entry.Act.TheVariants.{Create, Insert, Update, Delete}
-use Rattle.hippo_model.specs.Terms.{History, Row, Key}
-use Rattle.hippo_tables.specs.declared.tables.Change.{Change}
+use Rattle.hippo_model.specs.Terms.{Row, Key}
 use Rattle.hippo_tables.specs.declared.tables.Change.TheVariants.{Nothing}
 use Rattle.hippo_tables.specs.declared.tables.Tables.{Tables}
-use Rattle.hippo_tables.specs.Standing.{table_of, undone, IsNext, is_delete, is_silent, Adds, Makes, Inserts, Updates, Deletes}
+use Rattle.hippo_tables.specs.Standing.{IsNext, is_delete, is_silent, Adds, Makes, Inserts, Updates, Deletes}
 use Rattle.hippo_tables.proofs.StandingLemmas.{stands-silent, Adds-insert, Adds-update, Adds-delete, Adds-make}
 
 pub OnOk-map : {T E : Type 0} (r : Result T E) (P Q : Type 0) → (P → Q) → OnOk r P → OnOk r Q

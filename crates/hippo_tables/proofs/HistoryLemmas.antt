@@ -1,28 +1,21 @@
 -- What a history with one entry more says of the tables.
-use Rattle.std.proofs.Common.{◌≡◌, ℕ, set, ◌+◌, Bool, true, false, ◌&&◌, not, if◌then◌else◌, List, [], ◌∷◌, ◌++◌, map, length, Option, Some, None, option_map, is_some, unwrap_or, sym, ap, ◌∙◌, refl, subst, bytes_eq}
-use Rattle.std.specs.Prelude.{option_and_then}
+use Rattle.std.proofs.Common.{◌≡◌, set, true, false, if◌then◌else◌, List, [], ◌∷◌, ◌++◌, map, Option, Some, None, is_some, unwrap_or, sym, ap, ◌∙◌, refl, subst}
 use Rattle.std.specs.Bool.{then_some}
 use Rattle.std.specs.Option.{option_or, option_map_or}
 use Rattle.std.specs.List.{insert, remove}
-use Rattle.std.proofs.lemmas.Bool.{and_parts, false≢true}
-use Rattle.std.proofs.lemmas.Slice.Eq.{bytes_eq-Decides}
 use Rattle.hippo_values.specs.Order.{same_cells}
-use Rattle.hippo_values.specs.declared.names.Name.{Name}
 use Rattle.hippo_model.specs.declared.born_row.BornRow.{BornRow}
 use Rattle.hippo_model.specs.declared.schema.Schema.{Schema}
 use Rattle.hippo_model.specs.declared.entry.Entry.{Entry}
-use Rattle.hippo_model.specs.declared.entry.Act.{Act}
-use Rattle.hippo_model.specs.declared.entry.Act.TheVariants.{Create, Insert, Update, Delete}
-use Rattle.hippo_model.specs.Terms.{History, Row, Key}
-use Rattle.hippo_model.specs.Histories.{last_word, created, schema_at}
-use Rattle.hippo_model.specs.Rows.{key_of, key_named, names_key, row_at, last_at, born_at, born_row_at, keys_named, table_rows}
-use Rattle.hippo_model.specs.RowSets.{KeyedRows, kept_at, key_in, find_row, put_row, take_row}
+use Rattle.hippo_model.specs.Terms.{History, Key}
+use Rattle.hippo_model.specs.Rows.{key_named, names_key, last_at, table_rows}
+use Rattle.hippo_model.specs.RowSets.{kept_at, key_in, find_row, put_row, take_row}
 use Rattle.hippo_model.specs.Versions.{is_live}
 use Rattle.hippo_model.proofs.LastWords.{last_word-append}
-use Rattle.hippo_model.proofs.RowsAfter.{table_rows-Insert, table_rows-Update, table_rows-Delete, table_rows-other, IsAscending-table_rows}
+use Rattle.hippo_model.proofs.RowsAfter.{table_rows-other, IsAscending-table_rows}
 use Rattle.hippo_model.proofs.ChangesOfRows.{is_live-found}
-use Rattle.hippo_tables.specs.KeptTables.{KeptTable, number_of, table_at, place_in, grown, inserted, updated, deleted}
-use Rattle.hippo_tables.proofs.RowPlaces.{same_itself, same_turned, put_missing, put_found, take_missing, map_taken}
+use Rattle.hippo_tables.specs.KeptTables.{number_of, table_at, grown, inserted, updated, deleted}
+use Rattle.hippo_tables.proofs.RowPlaces.{same_itself, same_turned, put_missing, put_found, map_taken}
 
 map-same : {A B : Type 0} (f g : A → B) → ((x : A) → f x ≡ g x) → (xs : List A) → map f xs ≡ map g xs
 map-same f g same [] = refl
@@ -72,7 +65,7 @@ module _ (schema : Schema) (history : History) (entry : Entry) where
         ap (λ rows. record { schema = schema; rows = record { key = schema.key; rows = rows }; numbers = map (number_of schema (history ++ entry ∷ [])) rows }) rows
         ∙ ap (λ numbers. record { schema = schema; rows = record { key = schema.key; rows = put_row schema.key kept (table_rows schema history) }; numbers = numbers })
         (at.1.mapped entry.seq (number_of schema history) (number_of schema (history ++ entry ∷ [])) (number_here kept has_key) (λ other differs. number_there other (subst (λ (key : Key). same_cells (key_in schema.key other) key ≡ false) has_key differs))
-          ∙ ap (λ place. insert (map (number_of schema history) (table_rows schema history)) place entry.seq) (sym (ap (λ found. unwrap_or found 0) at.1.found)))
+        ∙ ap (λ place. insert (map (number_of schema history) (table_rows schema history)) place entry.seq) (sym (ap (λ found. unwrap_or found 0) at.1.found)))
         ∙ sym (ap (λ found. option_map_or (λ place. table_at history schema) found (grown kept entry.seq (table_at history schema))) missing)
 
     -- a row in the place of another

@@ -1,16 +1,15 @@
 -- What changes of a kept table leave, and that they can be taken back.
-use Rattle.std.proofs.Common.{◌≡◌, ℕ, zero, suc, ◌+◌, ◌<◌, ◌≤◌, Bool, true, false, List, [], ◌∷◌, map, length, set, Option, Some, None, Result, Ok, Err, OnOk, slice_get, is_some, unwrap_or, sym, ap, ◌∙◌, refl, subst, arith, get_or}
+use Rattle.std.proofs.Common.{◌≡◌, ℕ, zero, suc, ◌+◌, ◌≤◌, List, [], ◌∷◌, map, length, set, Some, None, Result, Ok, Err, OnOk, slice_get, unwrap_or, ap, ◌∙◌, refl, arith, get_or}
 use Rattle.std.specs.Result.{IsOk}
 use Rattle.std.specs.List.{insert, remove}
 use Rattle.std.specs.Option.{option_map_or}
 use Rattle.std.proofs.lemmas.Bool.{false≢true}
-use Rattle.std.proofs.lemmas.List.{length-set, set-set, set-get_or}
-use Rattle.std.proofs.lemmas.List.Edits.{length-insert, length-remove}
+use Rattle.std.proofs.lemmas.List.{set-set, set-get_or}
 use Rattle.hippo_model.specs.declared.born_row.BornRow.{BornRow}
-use Rattle.hippo_model.specs.Terms.{Key, Place}
+use Rattle.hippo_model.specs.Terms.{Key}
 use Rattle.hippo_model.specs.RowSets.{KeyedRows, key_in, IsAscending, put_row, with_row, without_row, find_row}
-use Rattle.hippo_tables.specs.KeptTables.{KeptTable, place_in, grown, inserted, updated, deleted}
-use Rattle.hippo_tables.proofs.RowPlaces.{PutAt, PutOver, put_missing, put_found, length-taken}
+use Rattle.hippo_tables.specs.KeptTables.{KeptTable, place_in, grown, updated, deleted}
+use Rattle.hippo_tables.proofs.RowPlaces.{PutAt, PutOver, put_missing, put_found}
 
 pub ok_from : {T E : Type 0} (r : Result T E) (P : Type 0) → IsOk r → OnOk r P → P
 ok_from (Ok x) P is on = on

@@ -4,3 +4,4 @@ pub mod HistoryLemmas
 pub mod StandingLemmas
 pub mod AddLemmas
 pub mod LiveLemmas
+pub mod NextLemmas

@@ -1,16 +1,15 @@
 -- What tables that stand for a history say of a key.
-use Rattle.std.proofs.Common.{◌≡◌, ℕ, true, false, List, [], ◌∷◌, map, length, Option, Some, None, option_map, is_some, unwrap_or, slice_get, get_or, sym, ap, ◌∙◌, refl, subst}
+use Rattle.std.proofs.Common.{◌≡◌, ℕ, true, List, map, Option, Some, None, option_map, is_some, unwrap_or, slice_get, get_or, sym, ap, ◌∙◌, refl, subst}
 use Rattle.std.specs.Prelude.{option_and_then}
 use Rattle.std.proofs.lemmas.List.{get_or-map}
 use Rattle.std.proofs.lemmas.Option.{slice_get_within, get_or_from_slice_get}
 use Rattle.hippo_values.specs.declared.names.Name.{Name}
 use Rattle.hippo_model.specs.declared.born_row.BornRow.{BornRow}
 use Rattle.hippo_model.specs.declared.schema.Schema.{Schema}
-use Rattle.hippo_model.specs.Terms.{History, Row, Key, Place}
+use Rattle.hippo_model.specs.Terms.{History, Row, Key}
 use Rattle.hippo_model.specs.Histories.{schema_at}
-use Rattle.hippo_model.specs.Rows.{row_at, last_at, born_at, born_row_at, table_rows}
-use Rattle.hippo_model.specs.RowSets.{key_in, find_row}
-use Rattle.hippo_model.specs.Versions.{is_live}
+use Rattle.hippo_model.specs.Rows.{row_at, last_at, born_at, table_rows}
+use Rattle.hippo_model.specs.RowSets.{find_row}
 use Rattle.hippo_model.proofs.RowsAfter.{row_with-table_rows, key_in-born_row_at}
 use Rattle.hippo_model.proofs.KeptRows.{slice_get-find_row}
 use Rattle.hippo_model.proofs.ChangesOfRows.{is_live-found}

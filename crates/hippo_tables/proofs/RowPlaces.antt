@@ -1,5 +1,5 @@
 -- Where a row stands when it is put or taken, and what stands beside the rows then.
-use Rattle.std.proofs.Common.{◌≡◌, ℕ, zero, suc, ◌+◌, ◌<◌, ◌≤◌, Bool, true, false, if◌then◌else◌, List, [], ◌∷◌, map, length, set, Option, Some, None, option_map, slice_get, sym, ap, ◌∙◌, refl, subst, arith}
+use Rattle.std.proofs.Common.{◌≡◌, ℕ, suc, ◌+◌, ◌<◌, ◌≤◌, Bool, true, false, if◌then◌else◌, List, [], ◌∷◌, map, length, set, Option, Some, None, option_map, slice_get, sym, ap, ◌∙◌, refl, subst, arith}
 use Rattle.std.specs.Prelude.{not, nat_lt}
 use Rattle.std.specs.List.{position_or_len, insert, remove}
 use Rattle.std.specs.Ordering.{is_eq, match_ordering, ordering_reverse}

@@ -1,5 +1,5 @@
 -- Tables that stand for a history stand for it with one entry more, and back again.
-use Rattle.std.proofs.Common.{◌≡◌, ℕ, ◌+◌, Bool, true, false, ◌&&◌, not, if◌then◌else◌, List, [], ◌∷◌, ◌++◌, map, length, Option, Some, None, option_map, is_some, slice_get, get_or, sym, ap, ◌∙◌, refl, subst, bytes_eq}
+use Rattle.std.proofs.Common.{◌≡◌, ℕ, Bool, true, false, ◌&&◌, not, if◌then◌else◌, [], ◌∷◌, ◌++◌, map, Option, Some, None, option_map, slice_get, get_or, sym, ap, ◌∙◌, refl, subst, bytes_eq}
 use Rattle.std.specs.Prelude.{option_and_then, is_none, nat_lt, count_by, filter_map}
 use Rattle.std.specs.Bool.{then_some}
 use Rattle.std.specs.Option.{option_or, option_map_or}
@@ -13,23 +13,23 @@ use Rattle.hippo_model.specs.declared.entry.Entry.{Entry}
 use Rattle.hippo_model.specs.declared.entry.Act.{Act}
 use Rattle.hippo_model.specs.declared.entry.Act.TheVariants.{Create, Insert, Update, Delete}
 use Rattle.hippo_model.specs.Terms.{History, Row, Key}
-use Rattle.hippo_model.specs.Histories.{last_word, created, schema_at}
-use Rattle.hippo_model.specs.Rows.{key_of, key_named, row_at, born_at, born_row_at, keys_named, table_rows}
-use Rattle.hippo_model.specs.RowSets.{KeyedRows, kept_at, key_in, find_row, row_with}
+use Rattle.hippo_model.specs.Histories.{created, schema_at}
+use Rattle.hippo_model.specs.Rows.{key_of, key_named, row_at, born_at, born_row_at, table_rows}
+use Rattle.hippo_model.specs.RowSets.{find_row}
 use Rattle.hippo_model.specs.Versions.{row_fits, key_fits, is_live, version_fits}
-use Rattle.hippo_model.specs.Validity.{create_fits, creates_table, is_table_version, is_well_formed}
+use Rattle.hippo_model.specs.Validity.{create_fits, creates_table, is_well_formed}
 use Rattle.hippo_values.specs.Limits.{table_limit}
 use Rattle.hippo_model.proofs.LastWords.{last_word-append}
 use Rattle.hippo_model.proofs.RowsAfter.{table_rows-Insert, table_rows-Update, table_rows-Delete, row_with-table_rows, IsAscending-table_rows, key_in-born_row_at}
 use Rattle.hippo_model.proofs.ChangesOfRows.{is_live-found}
 use Rattle.hippo_model.proofs.KeptRows.{slice_get-find_row}
 use Rattle.hippo_tables.specs.declared.tables.Change.{Change}
-use Rattle.hippo_tables.specs.declared.tables.Change.TheVariants.{Nothing, Made, Inserted, Updated}
+use Rattle.hippo_tables.specs.declared.tables.Change.TheVariants.{Inserted, Updated}
 use Rattle.hippo_tables.specs.declared.tables.Tables.{Tables}
 use Rattle.hippo_tables.specs.declared.table.Before.{Before}
 use Rattle.hippo_tables.specs.KeptTables.{KeptTable, number_of, table_at, empty_table, grown, inserted, updated, deleted}
 use Rattle.hippo_tables.specs.Before.{before_of, renewed_table}
-use Rattle.hippo_tables.specs.Standing.{kept_table, table_of, StandsFor, undone, Remembers, IsNext, is_delete, is_silent, Adds, with_change, Makes, Inserts, Updates, Deletes}
+use Rattle.hippo_tables.specs.Standing.{kept_table, table_of, StandsFor, undone, Remembers, IsNext, is_silent, with_change, Makes, Inserts, Updates, Deletes}
 use Rattle.hippo_tables.proofs.KeptLemmas.{deleted-grown, updated-updated}
 use Rattle.hippo_tables.proofs.HistoryLemmas.{none_from, some_from, table_at-other, table_at-grown, table_at-updated, table_at-deleted}
 
@@ -125,7 +125,7 @@ none_here : (found : Option Schema) → is_none found ≡ true → found ≡ Non
 none_here None no_one = refl
 none_here (Some schema) some = absurd cc
 
-create_parts : (history : History) (schema : Schema) → create_fits history schema ≡ true → is_none (schema_at history schema.name) ≡ true
+pub create_parts : (history : History) (schema : Schema) → create_fits history schema ≡ true → is_none (schema_at history schema.name) ≡ true
 create_parts history schema fits =
     let few : Bool = nat_lt (count_by (λ entry. creates_table entry.act) history) table_limit in
     let both = and_parts (few && is_none (schema_at history schema.name)) (is_well_formed schema) fits in
@@ -159,9 +159,10 @@ module _ (history : History) (entry : Entry) (old new : Tables) where
       let again : deleted key (inserted kept entry.seq (table_at history schema)) ≡ table_at history schema = ap (deleted key) new_is ∙ deleted-grown (table_at history schema) kept missing entry.seq (length-map (table_rows schema history) (number_of schema history)) in
       let plain : (name : Name) → created name entry.act ≡ None = λ name. ap (created name) is in
       let others : (other : Schema) → bytes_eq table other.name ≡ false → key_named other entry.act ≡ None = λ other differs. ap (key_named other) is ∙ rw differs in
-      let last : new.last ≡ Inserted table key = inserts.remembered (table_at history schema) (stands.kept table ∙ ap (option_map (table_at history)) passed.1) in
-      (stands-changed history entry table schema passed.1 (inserted kept entry.seq) becomes plain others old new inserts.tables stands,
-        record { before = λ name. ap (λ (last : Change). undone last name (table_of new name)) last ∙ changed_back history entry table schema passed.1 (inserted kept entry.seq) becomes plain others old new inserts.tables stands (deleted key) again name })
+      let last : new.last ≡ Inserted table key = inserts.remembered (table_at history schema) (stands.kept table ∙ ap (option_map (table_at history)) passed.1) in (
+        stands-changed history entry table schema passed.1 (inserted kept entry.seq) becomes plain others old new inserts.tables stands,
+        record { before = λ name. ap (λ (last : Change). undone last name (table_of new name)) last ∙ changed_back history entry table schema passed.1 (inserted kept entry.seq) becomes plain others old new inserts.tables stands (deleted key) again name },
+      )
 
   pub Adds-update : (table : Name) (row : Row) → entry.act ≡ Update table row → Updates old new table row entry.seq → IsNext history (Update table row) → StandsFor old history → StandsFor new (history ++ entry ∷ []) × Remembers new history
   Adds-update table row is updates next stands =
@@ -191,9 +192,10 @@ module _ (history : History) (entry : Entry) (old new : Tables) where
       ∙ updated-updated kept_table (IsAscending-table_rows schema history) kept found.0 found.1 entry.seq before.number live.0 (length-map (table_rows schema history) (number_of schema history)) at_place refl (key_in-born_row_at schema history key live.0 live.1) in
       let plain : (name : Name) → created name entry.act ≡ None = λ name. ap (created name) is in
       let others : (other : Schema) → bytes_eq table other.name ≡ false → key_named other entry.act ≡ None = λ other differs. ap (key_named other) is ∙ rw differs in
-      let last : new.last ≡ Updated table before = updates.remembered kept_table before (stands.kept table ∙ ap (option_map (table_at history)) passed.1) before_is in
-      (stands-changed history entry table schema passed.1 (renewed_table row entry.seq) becomes plain others old new updates.tables stands,
-        record { before = λ name. ap (λ (last : Change). undone last name (table_of new name)) last ∙ changed_back history entry table schema passed.1 (renewed_table row entry.seq) becomes plain others old new updates.tables stands (updated (record { row = before.row; born = before.born }) before.number) again name })
+      let last : new.last ≡ Updated table before = updates.remembered kept_table before (stands.kept table ∙ ap (option_map (table_at history)) passed.1) before_is in (
+        stands-changed history entry table schema passed.1 (renewed_table row entry.seq) becomes plain others old new updates.tables stands,
+        record { before = λ name. ap (λ (last : Change). undone last name (table_of new name)) last ∙ changed_back history entry table schema passed.1 (renewed_table row entry.seq) becomes plain others old new updates.tables stands (updated (record { row = before.row; born = before.born }) before.number) again name },
+      )
 
   pub Adds-delete : (table : Name) (key : Key) → entry.act ≡ Delete table key → Deletes old new table key → IsNext history (Delete table key) → StandsFor old history → StandsFor new (history ++ entry ∷ [])
   Adds-delete table key is deletes next stands =
@@ -213,12 +215,17 @@ module _ (history : History) (entry : Entry) (old new : Tables) where
       let rows : table_rows schema history ≡ [] = ap (filter_map (born_row_at schema history)) next.1 in
       let names : (other : Schema) → key_named other entry.act ≡ None = λ other. ap (key_named other) is in
       let empty : table_at (history ++ entry ∷ []) schema ≡ empty_table schema = table_at-other schema history entry (names schema) ∙ ap (λ rows. record { schema = schema; rows = record { key = schema.key; rows = rows }; numbers = map (number_of schema history) rows }) rows in
-      let word : (name : Name) → schema_at (history ++ entry ∷ []) name ≡ option_or (then_some (bytes_eq schema.name name) schema) (schema_at history name) = λ name. last_word-append (λ entry. created name entry.act) history entry ∙ ap (λ act. option_or (created name act) (schema_at history name)) is in
-      (record { kept = λ name. elim (bytes_eq schema.name name) as (λ same. bytes_eq schema.name name ≡ same → table_of new name ≡ kept_table (history ++ entry ∷ []) name) [
-          | true ↦ λ e. let found : schema_at (history ++ entry ∷ []) name ≡ Some schema = word name ∙ rw e in makes.kept name ∙ rw e (ap Some (sym empty) ∙ sym (ap (option_map (table_at (history ++ entry ∷ []))) found))
-          | false ↦ λ e. makes.kept name ∙ rw e (stands.kept name ∙ sym (kept_table-other history entry name (ap (created name) is ∙ rw e) (λ other has. names other)))
-        ] refl },
-        record { before = λ name. ap (λ (last : Change). undone last name (table_of new name)) makes.remembered ∙ (elim (bytes_eq schema.name name) as (λ same. bytes_eq schema.name name ≡ same → (if same then None else table_of new name) ≡ kept_table history name) [
-          | true ↦ λ e. sym (ap (option_map (table_at history)) (ap (schema_at history) (sym (same_name schema.name name e)) ∙ unmade))
-          | false ↦ λ e. makes.kept name ∙ rw e (stands.kept name)
-        ] refl) })
+      let word : (name : Name) → schema_at (history ++ entry ∷ []) name ≡ option_or (then_some (bytes_eq schema.name name) schema) (schema_at history name) = λ name. last_word-append (λ entry. created name entry.act) history entry ∙ ap (λ act. option_or (created name act) (schema_at history name)) is in (
+        record {
+          kept = λ name. elim (bytes_eq schema.name name) as (λ same. bytes_eq schema.name name ≡ same → table_of new name ≡ kept_table (history ++ entry ∷ []) name) [
+            | true ↦ λ e. let found : schema_at (history ++ entry ∷ []) name ≡ Some schema = word name ∙ rw e in makes.kept name ∙ rw e (ap Some (sym empty) ∙ sym (ap (option_map (table_at (history ++ entry ∷ []))) found))
+            | false ↦ λ e. makes.kept name ∙ rw e (stands.kept name ∙ sym (kept_table-other history entry name (ap (created name) is ∙ rw e) (λ other has. names other)))
+          ] refl;
+        },
+        record {
+          before = λ name. ap (λ (last : Change). undone last name (table_of new name)) makes.remembered ∙ (elim (bytes_eq schema.name name) as (λ same. bytes_eq schema.name name ≡ same → (if same then None else table_of new name) ≡ kept_table history name) [
+            | true ↦ λ e. sym (ap (option_map (table_at history)) (ap (schema_at history) (sym (same_name schema.name name e)) ∙ unmade))
+            | false ↦ λ e. makes.kept name ∙ rw e (stands.kept name)
+          ] refl);
+        },
+      )

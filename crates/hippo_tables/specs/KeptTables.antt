@@ -1,5 +1,5 @@
 -- A table as it is kept, and what one change does to it.
-use Rattle.std.specs.Prelude.{ℕ, List, [], ◌∷◌, map, unwrap_or, slice_set}
+use Rattle.std.specs.Prelude.{ℕ, List, [], map, unwrap_or, slice_set}
 use Rattle.std.specs.List.{insert, remove}
 use Rattle.std.specs.Option.{option_map_or}
 use Rattle.hippo_model.specs.declared.born_row.BornRow.{BornRow}

@@ -205,7 +205,10 @@ impl Tables {
         let before = update_in(&mut self.tables, alloc, table, row, number)?;
         match before {
             None => self.remember(Change::Nothing),
-            Some(before) => self.remember(Change::Updated { table: name, before }),
+            Some(before) => self.remember(Change::Updated {
+                table: name,
+                before,
+            }),
         }
         Ok(())
     }

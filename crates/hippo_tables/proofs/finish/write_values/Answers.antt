@@ -1,5 +1,5 @@
 -- The pairs ended where the shorter list did.
-use Rattle.std.proofs.Common.{◌≡◌, ℕ, zero, suc, min, List, [], ◌∷◌, length, drop, refl, sym, ap, ◌∙◌, arith, rules}
+use Rattle.std.proofs.Common.{◌≡◌, ℕ, zero, suc, min, List, [], ◌∷◌, length, drop, refl, sym, ◌∙◌, arith, rules}
 use Rattle.std.proofs.lemmas.Slice.Zip.{zip_end}
 use Rattle.hippo_values.specs.declared.values.Value.{Value}
 use Rattle.hippo_model.specs.Terms.{Row, Place}

@@ -1,5 +1,5 @@
 -- The row's number stays at its place.
-use Rattle.std.proofs.Common.{◌≡◌, length, Some, refl, sym, ap, arith}
+use Rattle.std.proofs.Common.{◌≡◌, length, refl, sym, ap, arith}
 use Rattle.std.specs.Option.{IsSome}
 use Rattle.std.proofs.lemmas.List.{length-set}
 use Rattle.hippo_model.specs.declared.born_row.BornRow.{BornRow}

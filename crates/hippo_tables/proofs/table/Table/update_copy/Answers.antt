@@ -1,5 +1,5 @@
 -- The copy is the row, and the old row is the one that is found.
-use Rattle.std.proofs.Common.{◌≡◌, Option, sym, ap, ◌∙◌}
+use Rattle.std.proofs.Common.{Option, sym, ap, ◌∙◌}
 use Rattle.std.specs.Option.{option_map_or}
 use Rattle.hippo_model.specs.Terms.{Row}
 use Rattle.hippo_tables.specs.declared.table.Before.{Before}

@@ -1,5 +1,4 @@
 -- Each kind of entry adds what its act says.
-use Rattle.std.proofs.Common.{refl}
 use Rattle.hippo_tables.proofs.AddLemmas.{OnOk-map, added-insert, added-update, added-delete, added-make}
 use Rattle.hippo_tables.proofs.tables.Tables.apply.Goals as goal
 
