@@ -1,5 +1,5 @@
 -- Why a statement that changes something is refused.
-use Rattle.std.specs.Prelude.{ℕ, Bool, false, not, ◌&&◌, ◌==◌, List, [], ◌∷◌, ◌++◌, map, filter_map, flat_map, length, nat_eq, nat_le, slice_get, Option, None, is_some, is_none, option_and_then, option_to_list}
+use Rattle.std.specs.Prelude.{Bool, false, not, ◌&&◌, ◌==◌, List, [], ◌++◌, map, filter_map, flat_map, length, nat_eq, nat_le, slice_get, Option, None, is_some, is_none, option_and_then, option_to_list}
 use Rattle.std.specs.List.{list_any, list_all, zip}
 use Rattle.std.specs.Option.{option_map_or}
 use Rattle.hippo_values.specs.Limits.{table_limit}
