@@ -130,8 +130,8 @@ assignments_refused schema assigned =
     assigned_refused kind_refused schema assigned ++ assigned_refused null_refused schema assigned
     ++ assigned_refused text_refused schema assigned
 
--- columns that stand twice, or are none of the table's; keys that are not the key; columns of the key that are set; what
--- is assigned
+-- columns that stand twice, or are none of the table's; keys that are not the key; columns of the key that are set;
+-- what is assigned
 abbrev pub update_refused : List Name → List Value → List Name → List Value → Schema → List NameFault
 update_refused columns values keys key_values schema =
     repeated_names columns ++ repeated_names keys ++ unknown_columns schema (columns ++ keys)

@@ -1,4 +1,5 @@
--- What a text means after some entries. The relation says it by the grammar; `meaning` is the function that agrees with it.
+-- What a text means after some entries. The relation says it by the grammar; `meaning` is the function that agrees with
+-- it.
 use Rattle.std.specs.Prelude.{◌≡◌, List, [], ◌∷◌, Option, Some, None, Result, Ok, Err, is_ok, option_and_then, if◌then◌else◌}
 use Rattle.hippo_values.specs.Texts.{Txt}
 use Rattle.hippo_lexer.specs.declared.faults.LexFault.{LexFault}
