@@ -1,16 +1,14 @@
 -- Audit expressions that are refused for several causes at once.
-use Rattle.std.proofs.Common.{◌≡◌, ℕ, ℤ, pos, true, false, List, [], ◌∷◌, Option, Some, None, refl, codes, replicate}
+use Rattle.std.proofs.Common.{◌≡◌, ℤ, pos, true, false, List, [], ◌∷◌, Option, Some, None, refl, codes, replicate}
 use Rattle.std.specs.Prelude.{slice_get}
 use Rattle.hippo_values.specs.declared.names.Name.{Name}
 use Rattle.hippo_values.specs.declared.values.Value.TheVariants.{Int}
 use Rattle.hippo_values.specs.declared.truths.CompareOp.TheVariants.{Eq}
-use Rattle.hippo_model.specs.declared.audit.Audit.{Audit}
 use Rattle.hippo_model.specs.declared.audit.Pair.{Pair}
 use Rattle.hippo_model.specs.declared.name_fault.NameFault.{NameFault}
-use Rattle.hippo_model.specs.declared.name_fault.NameFault.TheVariants.{UnknownTable, UnknownColumn, UnknownPurpose, UnknownRecipient, RepeatedName, TypeMismatch, TooManyParts, BadMoment, PeriodBack}
+use Rattle.hippo_model.specs.declared.name_fault.NameFault.TheVariants.{UnknownTable, UnknownColumn, UnknownRecipient, TypeMismatch, TooManyParts, BadMoment, PeriodBack}
 use Rattle.hippo_model.specs.declared.query.CondOf.{CondOf}
 use Rattle.hippo_model.specs.declared.query.CondOf.TheVariants.{All, Compare}
-use Rattle.hippo_model.specs.declared.query.Operand.TheVariants as operands
 use Rattle.hippo_model.specs.declared.schema.Column.{Column}
 use Rattle.hippo_model.specs.declared.schema.ColumnKind.TheVariants.{Integer, Text as TextColumn}
 use Rattle.hippo_model.specs.declared.schema.Schema.{Schema}

@@ -1,26 +1,23 @@
 -- Selects that are refused for several causes at once, and what some mean.
-use Rattle.std.proofs.Common.{◌≡◌, ℕ, pos, true, false, List, [], ◌∷◌, Option, Some, None, refl, codes, replicate}
+use Rattle.std.proofs.Common.{◌≡◌, ℕ, pos, false, List, [], ◌∷◌, Option, Some, None, refl, codes, replicate}
 use Rattle.std.specs.Prelude.{slice_get}
 use Rattle.hippo_values.specs.declared.names.Name.{Name}
-use Rattle.hippo_values.specs.declared.values.Value.{Value}
 use Rattle.hippo_values.specs.declared.values.Value.TheVariants.{Null, Int, Text}
 use Rattle.hippo_values.specs.declared.truths.CompareOp.TheVariants.{Eq}
 use Rattle.hippo_model.specs.declared.name_fault.NameFault.{NameFault}
 use Rattle.hippo_model.specs.declared.name_fault.NameFault.TheVariants.{UnknownTable, UnknownColumn, AmbiguousColumn, RepeatedName, NotGrouped, TypeMismatch, BadText, TooManyParts}
 use Rattle.hippo_model.specs.declared.query.CondOf.{CondOf}
-use Rattle.hippo_model.specs.declared.query.CondOf.TheVariants.{All, Compare, Among, Missing}
+use Rattle.hippo_model.specs.declared.query.CondOf.TheVariants.{All, Compare, Among}
 use Rattle.hippo_model.specs.declared.query.Form.TheVariants as meant
 use Rattle.hippo_model.specs.declared.query.Operand.TheVariants as operands
 use Rattle.hippo_model.specs.declared.query.Out.TheVariants as shown
-use Rattle.hippo_model.specs.declared.query.Query.{Query}
 use Rattle.hippo_model.specs.declared.query.Ref.{Ref}
 use Rattle.hippo_model.specs.declared.schema.Column.{Column}
 use Rattle.hippo_model.specs.declared.schema.ColumnKind.{ColumnKind}
 use Rattle.hippo_model.specs.declared.schema.ColumnKind.TheVariants.{Integer, Text as TextColumn}
 use Rattle.hippo_model.specs.declared.schema.Schema.{Schema}
 use Rattle.hippo_model.specs.declared.statement.RawColumn.{RawColumn}
-use Rattle.hippo_model.specs.declared.statement.RawForm.{RawForm}
-use Rattle.hippo_model.specs.declared.statement.RawForm.TheVariants.{Plain, Distinct, Grouped}
+use Rattle.hippo_model.specs.declared.statement.RawForm.TheVariants.{Plain, Grouped}
 use Rattle.hippo_model.specs.declared.statement.RawItem.{RawItem}
 use Rattle.hippo_model.specs.declared.statement.RawItem.TheVariants as items
 use Rattle.hippo_model.specs.declared.statement.RawOperand.{RawOperand}

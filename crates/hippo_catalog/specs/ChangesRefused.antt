@@ -1,5 +1,5 @@
 -- Why a statement that changes something is refused.
-use Rattle.std.specs.Prelude.{ℕ, Bool, false, not, ◌&&◌, ◌==◌, List, [], ◌∷◌, ◌++◌, map, filter_map, flat_map, length, nat_eq, nat_le, slice_get, Option, None, is_some, is_none, option_and_then, option_to_list}
+use Rattle.std.specs.Prelude.{Bool, false, not, ◌&&◌, ◌==◌, List, [], ◌++◌, map, filter_map, flat_map, length, nat_eq, nat_le, slice_get, Option, None, is_some, is_none, option_and_then, option_to_list}
 use Rattle.std.specs.List.{list_any, list_all, zip}
 use Rattle.std.specs.Option.{option_map_or}
 use Rattle.hippo_values.specs.Limits.{table_limit}
@@ -130,8 +130,8 @@ assignments_refused schema assigned =
     assigned_refused kind_refused schema assigned ++ assigned_refused null_refused schema assigned
     ++ assigned_refused text_refused schema assigned
 
--- columns that stand twice, or are none of the table's; keys that are not the key; columns of the key that are set; what
--- is assigned
+-- columns that stand twice, or are none of the table's; keys that are not the key; columns of the key that are set;
+-- what is assigned
 abbrev pub update_refused : List Name → List Value → List Name → List Value → Schema → List NameFault
 update_refused columns values keys key_values schema =
     repeated_names columns ++ repeated_names keys ++ unknown_columns schema (columns ++ keys)

@@ -43,7 +43,8 @@ key_written schema names values =
 
 -- what a statement asks for, where its table is there; one that changes nothing asks for nothing
 abbrev pub wanted_by : KnownNames → Stmt → Option Wanted
-wanted_by known (CreateTable table columns key subject) = Some (Ready (acts.Create (table_made table columns key subject)))
+wanted_by known (CreateTable table columns key subject) =
+    Some (Ready (acts.Create (table_made table columns key subject)))
 wanted_by known (CreatePurpose purpose) = Some (Ready (acts.Purpose purpose))
 wanted_by known (CreateRecipient recipient) = Some (Ready (acts.Recipient recipient))
 wanted_by known (CreateItem item kind) = Some (Ready (acts.Item item kind))

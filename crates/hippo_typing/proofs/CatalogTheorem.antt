@@ -1,6 +1,6 @@
 -- The names of a history, one entry after the other, and what the history says of each.
-use Rattle.std.proofs.Common.{◌≡◌, ℕ, ◌+◌, Bool, true, false, cond, List, [], ◌∷◌, ◌++◌, length, filter_map, Option, None, Some, refl, sym, ap, subst, ◌∙◌, arith}
-use Rattle.std.specs.Prelude.{not, ◌&&◌, ◌||◌, ◌==◌, if◌then◌else◌, nat_lt, is_none, is_some, bytes_eq, count_by}
+use Rattle.std.proofs.Common.{◌≡◌, ◌+◌, Bool, true, false, cond, List, [], ◌∷◌, ◌++◌, length, Option, None, Some, refl, sym, ap, subst, ◌∙◌, arith}
+use Rattle.std.specs.Prelude.{not, ◌&&◌, ◌||◌, ◌==◌, if◌then◌else◌, nat_lt, is_none, bytes_eq, count_by}
 use Rattle.std.specs.Bool.{then_some}
 use Rattle.std.specs.Cmp.Lexicographic.{nat_list_eq_equiv}
 use Rattle.std.specs.List.{list_any, cons_option}
@@ -14,16 +14,16 @@ use Rattle.std.proofs.lemmas.Slice.Eq.{bytes_eq-Decides}
 use Rattle.hippo_values.specs.Limits.{table_limit}
 use Rattle.hippo_values.specs.declared.names.Name.{Name}
 use Rattle.hippo_model.specs.declared.entry.Act.{Act}
-use Rattle.hippo_model.specs.declared.entry.Act.TheVariants.{Create, Insert, Update, Delete, Purpose, Recipient, Item, Authorize, Deauthorize, Allow, Revoke, Choice, Asked}
+use Rattle.hippo_model.specs.declared.entry.Act.TheVariants.{Create, Purpose, Recipient, Item}
 use Rattle.hippo_model.specs.declared.entry.Entry.{Entry}
 use Rattle.hippo_model.specs.declared.entry.ItemKind.{ItemKind}
 use Rattle.hippo_model.specs.declared.schema.Schema.{Schema}
-use Rattle.hippo_model.specs.Histories.{created, item_created, schema_at, item_at, last_word}
+use Rattle.hippo_model.specs.Histories.{created, item_created, schema_at, item_at}
 use Rattle.hippo_model.specs.Keepable.{is_keepable}
 use Rattle.hippo_model.specs.Terms.{History, Meaning}
 use Rattle.hippo_model.specs.Validity.{creates_purpose, creates_recipient, is_purpose, is_recipient, creates_table, keeps_order, is_acceptable, is_well_formed, may_follow, is_valid}
 use Rattle.hippo_model.proofs.LastWords.{last_word-append}
-use Rattle.hippo_catalog.specs.Catalogs.{KnownNames, table_in, purpose_in, recipient_in, item_in, known_at, known_after, table_of, has_purpose, has_recipient, item_of, creates_anew}
+use Rattle.hippo_catalog.specs.Catalogs.{KnownNames, table_in, purpose_in, recipient_in, item_in, known_at, known_after, has_purpose, has_recipient, creates_anew}
 use Rattle.hippo_laws.proofs.ValidFronts.{holds_of_each_valid}
 use Rattle.hippo_typing.specs.ResolutionLaws.{NamesAreThoseOf}
 use Rattle.hippo_typing.proofs.LastingNames.{lookup-append}
@@ -127,19 +127,19 @@ module _ (meaning : Meaning) (history : History) (entry : Entry) (may : may_foll
   kept : NamesAreThoseOf history → NamesAreThoseOf (history ++ entry ∷ [])
   kept so_far = record {
     tables = λ table.
-    ap (lookup (bytes_eq table)) (filter_map-append (λ (e : Entry). table_in e.act) history (entry ∷ []))
-    ∙ lookup-append (bytes_eq table) (known_at history).tables (cons_option (table_in entry.act) [])
-    ∙ ap (λ o. option_or o (lookup (bytes_eq table) (cons_option (table_in entry.act) []))) (so_far.tables table)
-    ∙ table_step table entry.act (schema_at history table) (new_table table)
-    ∙ sym (last_word-append (λ (e : Entry). created table e.act) history entry);
+        ap (lookup (bytes_eq table)) (filter_map-append (λ (e : Entry). table_in e.act) history (entry ∷ []))
+        ∙ lookup-append (bytes_eq table) (known_at history).tables (cons_option (table_in entry.act) [])
+        ∙ ap (λ o. option_or o (lookup (bytes_eq table) (cons_option (table_in entry.act) []))) (so_far.tables table)
+        ∙ table_step table entry.act (schema_at history table) (new_table table)
+        ∙ sym (last_word-append (λ (e : Entry). created table e.act) history entry);
     purposes = purposes_are (history ++ entry ∷ []);
     recipients = recipients_are (history ++ entry ∷ []);
     items = λ item.
-    ap (lookup (bytes_eq item)) (filter_map-append (λ (e : Entry). item_in e.act) history (entry ∷ []))
-    ∙ lookup-append (bytes_eq item) (known_at history).items (cons_option (item_in entry.act) [])
-    ∙ ap (λ o. option_or o (lookup (bytes_eq item) (cons_option (item_in entry.act) []))) (so_far.items item)
-    ∙ item_step item entry.act (item_at history item) (new_item item)
-    ∙ sym (last_word-append (λ (e : Entry). item_created item e.act) history entry);
+        ap (lookup (bytes_eq item)) (filter_map-append (λ (e : Entry). item_in e.act) history (entry ∷ []))
+        ∙ lookup-append (bytes_eq item) (known_at history).items (cons_option (item_in entry.act) [])
+        ∙ ap (λ o. option_or o (lookup (bytes_eq item) (cons_option (item_in entry.act) []))) (so_far.items item)
+        ∙ item_step item entry.act (item_at history item) (new_item item)
+        ∙ sym (last_word-append (λ (e : Entry). item_created item e.act) history entry);
     count = tables_counted (history ++ entry ∷ []);
   }
 

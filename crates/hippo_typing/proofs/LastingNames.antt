@@ -1,14 +1,12 @@
 -- What is found among the names of a history is found when entries are added.
-use Rattle.std.proofs.Common.{◌≡◌, ℕ, ◌+◌, Bool, true, false, cond, List, [], ◌∷◌, ◌++◌, length, map, filter_map, Option, None, Some, refl, sym, ap, subst, ◌∙◌}
-use Rattle.std.specs.Prelude.{not, ◌||◌, is_none, bytes_eq, if◌then◌else◌}
+use Rattle.std.proofs.Common.{◌≡◌, Bool, true, false, cond, List, [], ◌∷◌, ◌++◌, map, Option, None, Some, refl, sym, ap, ◌∙◌}
+use Rattle.std.specs.Prelude.{not, ◌||◌, is_none, bytes_eq}
 use Rattle.std.specs.List.{list_any, flat_map, cons_option}
 use Rattle.std.specs.Map.{lookup}
 use Rattle.std.specs.Option.{option_or}
 use Rattle.std.proofs.lemmas.List.Elements.{filter_map-append}
 use Rattle.hippo_values.specs.declared.names.Name.{Name}
 use Rattle.hippo_model.specs.declared.audit.Pair.{Pair}
-use Rattle.hippo_model.specs.declared.entry.Act.{Act}
-use Rattle.hippo_model.specs.declared.entry.Act.TheVariants.{Create, Insert, Update, Delete, Purpose, Recipient, Item, Authorize, Deauthorize, Allow, Revoke, Choice, Asked}
 use Rattle.hippo_model.specs.declared.entry.Entry.{Entry}
 use Rattle.hippo_model.specs.declared.name_fault.NameFault.{NameFault}
 use Rattle.hippo_model.specs.declared.name_fault.NameFault.TheVariants.{UnknownTable, UnknownPurpose, UnknownRecipient}
@@ -18,7 +16,7 @@ use Rattle.hippo_model.specs.declared.statement.RawSelect.{RawSelect}
 use Rattle.hippo_model.specs.Terms.{History}
 use Rattle.hippo_catalog.specs.declared.period.Period.{Period}
 use Rattle.hippo_catalog.specs.AuditExpressions.{audit_parts_refused, period_refused, audit_refused, audit_of}
-use Rattle.hippo_catalog.specs.Catalogs.{KnownNames, table_in, purpose_in, recipient_in, item_in, known_at, known_after, table_of, has_purpose, has_recipient, schemas_of}
+use Rattle.hippo_catalog.specs.Catalogs.{KnownNames, table_in, purpose_in, recipient_in, known_at, table_of, has_purpose, has_recipient, schemas_of}
 use Rattle.hippo_catalog.specs.Comparisons.{operands_refused, condition_of, kinds_refused, texts_refused}
 use Rattle.hippo_catalog.specs.Refusals.{refused, unknown_table, unknown_purpose, unknown_recipient, unknown_pair, repeated_names}
 use Rattle.hippo_catalog.specs.Selects.{columns_refused, groups_refused, outs_of, by_of, select_parts_refused, select_refused, listed_columns, form_of, query_of}
@@ -54,15 +52,15 @@ still_any false b whole e is = absurd cc
 pub extends_later : (history later : History) → Extends (known_at history) (known_at (history ++ later))
 extends_later history later = record {
   tables = λ table schema found.
-  ap (lookup (bytes_eq table)) (filter_map-append (λ (entry : Entry). table_in entry.act) history later)
-  ∙ lookup-append (bytes_eq table) (known_at history).tables (known_at later).tables
-  ∙ ap (λ o. option_or o (table_of (known_at later) table)) found;
+      ap (lookup (bytes_eq table)) (filter_map-append (λ (entry : Entry). table_in entry.act) history later)
+      ∙ lookup-append (bytes_eq table) (known_at history).tables (known_at later).tables
+      ∙ ap (λ o. option_or o (table_of (known_at later) table)) found;
   purposes = λ purpose found.
-  still_any (has_purpose (known_at history) purpose) (has_purpose (known_at later) purpose) _
-  (ap (list_any (bytes_eq purpose)) (filter_map-append (λ (entry : Entry). purpose_in entry.act) history later) ∙ any-append (bytes_eq purpose) (known_at history).purposes (known_at later).purposes) found;
+      still_any (has_purpose (known_at history) purpose) (has_purpose (known_at later) purpose) _
+      (ap (list_any (bytes_eq purpose)) (filter_map-append (λ (entry : Entry). purpose_in entry.act) history later) ∙ any-append (bytes_eq purpose) (known_at history).purposes (known_at later).purposes) found;
   recipients = λ recipient found.
-  still_any (has_recipient (known_at history) recipient) (has_recipient (known_at later) recipient) _
-  (ap (list_any (bytes_eq recipient)) (filter_map-append (λ (entry : Entry). recipient_in entry.act) history later) ∙ any-append (bytes_eq recipient) (known_at history).recipients (known_at later).recipients) found;
+      still_any (has_recipient (known_at history) recipient) (has_recipient (known_at later) recipient) _
+      (ap (list_any (bytes_eq recipient)) (filter_map-append (λ (entry : Entry). recipient_in entry.act) history later) ∙ any-append (bytes_eq recipient) (known_at history).recipients (known_at later).recipients) found;
 }
 
 both_none : {A : Type 0} (first second : List A) → first ++ second ≡ [] → (first ≡ []) × (second ≡ [])
@@ -86,9 +84,10 @@ module _ (known more : KnownNames) (extends : Extends known more) where
   tables_last (table ∷ rest) none =
       let both = both_none (unknown_table known table) (flat_map (unknown_table known) rest) none in
       let first = table_lasts table both.0 in
-      let behind = tables_last rest both.1 in
-      (ap (λ l. l ++ flat_map (unknown_table more) rest) first.0 ∙ behind.0,
-      ap (λ o. cons_option o (schemas_of more rest)) first.1 ∙ ap (cons_option (table_of known table)) behind.1)
+      let behind = tables_last rest both.1 in (
+        ap (λ l. l ++ flat_map (unknown_table more) rest) first.0 ∙ behind.0,
+        ap (λ o. cons_option o (schemas_of more rest)) first.1 ∙ ap (cons_option (table_of known table)) behind.1,
+      )
 
   there : (test : Bool) (fault : NameFault) → refused (not test) fault ≡ [] → test ≡ true
   there true fault none = refl
@@ -125,9 +124,10 @@ module _ (known more : KnownNames) (extends : Extends known more) where
   pub select_lasts : (select : RawSelect) → select_refused known select ≡ [] → (select_refused more select ≡ []) × (query_of more select ≡ query_of known select)
   select_lasts select none =
       let found : flat_map (unknown_table known) select.tables ≡ [] = tables_first select (flat_map (unknown_table known) select.tables) (schemas_of known select.tables) none in
-      let lasts = tables_last select.tables found in
-      (ap (λ t. select_by select t (schemas_of more select.tables)) lasts.0 ∙ ap (select_by select []) lasts.1 ∙ sym (ap (λ t. select_by select t (schemas_of known select.tables)) found) ∙ none,
-      ap (λ (schemas : List Schema). record { items = listed_columns schemas select.items select.form; tables = select.tables; cond = condition_of schemas select.cond; form = form_of schemas select.form }) lasts.1)
+      let lasts = tables_last select.tables found in (
+        ap (λ t. select_by select t (schemas_of more select.tables)) lasts.0 ∙ ap (select_by select []) lasts.1 ∙ sym (ap (λ t. select_by select t (schemas_of known select.tables)) found) ∙ none,
+        ap (λ (schemas : List Schema). record { items = listed_columns schemas select.items select.form; tables = select.tables; cond = condition_of schemas select.cond; form = form_of schemas select.form }) lasts.1,
+      )
 
   abbrev audit_by : RawAudit → Period → List NameFault → List NameFault → List Schema → List NameFault
   audit_by audit period tables pairs schemas =
@@ -149,10 +149,11 @@ module _ (known more : KnownNames) (extends : Extends known more) where
       let pairs_of : KnownNames → List NameFault = λ names. flat_map (λ (pair : Pair). unknown_pair names pair.purpose pair.recipient) audit.exempt in
       let found = groups_first audit period (flat_map (unknown_table known) audit.tables) (pairs_of known) (schemas_of known audit.tables) none in
       let lasts = tables_last audit.tables found.0 in
-      let pairs : pairs_of more ≡ [] = pairs_last audit.exempt found.1 in
-      (ap (λ t. audit_by audit period t (pairs_of more) (schemas_of more audit.tables)) lasts.0
-      ∙ ap (λ p. audit_by audit period [] p (schemas_of more audit.tables)) pairs
-      ∙ ap (audit_by audit period [] []) lasts.1
-      ∙ sym (ap (λ t. audit_by audit period t (pairs_of known) (schemas_of known audit.tables)) found.0 ∙ ap (λ p. audit_by audit period [] p (schemas_of known audit.tables)) found.1)
-      ∙ none,
-      ap (λ (schemas : List Schema). record (audit_of known period audit) { columns = map (column_of schemas) audit.columns; cond = condition_of schemas audit.cond }) lasts.1)
+      let pairs : pairs_of more ≡ [] = pairs_last audit.exempt found.1 in (
+        ap (λ t. audit_by audit period t (pairs_of more) (schemas_of more audit.tables)) lasts.0
+            ∙ ap (λ p. audit_by audit period [] p (schemas_of more audit.tables)) pairs
+            ∙ ap (audit_by audit period [] []) lasts.1
+            ∙ sym (ap (λ t. audit_by audit period t (pairs_of known) (schemas_of known audit.tables)) found.0 ∙ ap (λ p. audit_by audit period [] p (schemas_of known audit.tables)) found.1)
+            ∙ none,
+        ap (λ (schemas : List Schema). record (audit_of known period audit) { columns = map (column_of schemas) audit.columns; cond = condition_of schemas audit.cond }) lasts.1,
+      )

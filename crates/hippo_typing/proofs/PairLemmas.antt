@@ -1,5 +1,5 @@
 -- A value and the answer of a check.
-use Rattle.std.proofs.Common.{◌≡◌, List, [], Some, Ok, Err, refl, sym, ap, subst, ◌∙◌}
+use Rattle.std.proofs.Common.{◌≡◌, List, [], Ok, Err, ap, subst, ◌∙◌}
 use Rattle.std.specs.Prelude.{Result}
 use Rattle.hippo_model.specs.declared.name_fault.NameFault.{NameFault}
 use Rattle.hippo_catalog.specs.Refusals.{Resolves, IsFirstOf}

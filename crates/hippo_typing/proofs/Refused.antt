@@ -1,11 +1,10 @@
 -- The first refusal of groups that stand one after the other.
-use Rattle.std.proofs.Common.{◌≡◌, ℕ, ◌+◌, ◌<◌, Bool, true, false, List, [], ◌∷◌, ◌++◌, length, get_or, drop, Some, refl, sym, ap, subst, ◌∙◌}
+use Rattle.std.proofs.Common.{◌≡◌, ℕ, ◌+◌, ◌<◌, List, [], ◌∷◌, ◌++◌, length, get_or, drop, Some, subst}
 use Rattle.std.specs.List.{flat_map}
 use Rattle.hippo_typing.proofs.ListLemmas.{drop_at_get_or}
 use Rattle.std.proofs.Common.{slice_get}
-use Rattle.std.specs.Prelude.{◌≢◌}
 use Rattle.hippo_model.specs.declared.name_fault.NameFault.{NameFault}
-use Rattle.hippo_catalog.specs.Refusals.{refused, IsFirstOf}
+use Rattle.hippo_catalog.specs.Refusals.{IsFirstOf}
 
 -- the first of some refusals is that of these and more
 pub first_with_more : (refusals later : List NameFault) (fault : NameFault) → IsFirstOf refusals fault → IsFirstOf (refusals ++ later) fault

@@ -9,7 +9,8 @@ use Rattle.hippo_typing.specs.Meanings.{Means, meaning}
 -- a function gives each text the query that it means, and no other text any
 abbrev pub SaysWhatTextsMean : Meaning → Type 0
 SaysWhatTextsMean meaning =
-    (history : History) (text : Txt) (query : Query) → (meaning history text ≡ Some query) ↔ Means (known_at history) text query
+    (history : History) (text : Txt) (query : Query) →
+    (meaning history text ≡ Some query) ↔ Means (known_at history) text query
 
 abbrev pub MeaningIsThatOfTexts : Type 0
 MeaningIsThatOfTexts = SaysWhatTextsMean meaning

@@ -1,4 +1,5 @@
--- What a text means after some entries. The relation says it by the grammar; `meaning` is the function that agrees with it.
+-- What a text means after some entries. The relation says it by the grammar; `meaning` is the function that agrees with
+-- it.
 use Rattle.std.specs.Prelude.{◌≡◌, List, [], ◌∷◌, Option, Some, None, Result, Ok, Err, is_ok, option_and_then, if◌then◌else◌}
 use Rattle.hippo_values.specs.Texts.{Txt}
 use Rattle.hippo_lexer.specs.declared.faults.LexFault.{LexFault}
@@ -9,7 +10,7 @@ use Rattle.hippo_lexer.specs.Cutting.{outcome_of}
 use Rattle.hippo_model.specs.declared.name_fault.NameFault.{NameFault}
 use Rattle.hippo_model.specs.declared.query.Query.{Query}
 use Rattle.hippo_model.specs.declared.statement.RawSelect.{RawSelect}
-use Rattle.hippo_model.specs.Terms.{History, Meaning}
+use Rattle.hippo_model.specs.Terms.{Meaning}
 use Rattle.hippo_spj_reader.specs.Front.{kinds}
 use Rattle.hippo_spj_reader.specs.Promises.{whole_of}
 use Rattle.hippo_spj_reader.specs.SelectFinder.{leading_select}

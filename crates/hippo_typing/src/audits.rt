@@ -187,11 +187,7 @@ fn resolve_over(
 
 /// The audit expression that is meant, each of whose columns is found in one table of its FROM list, or why it is refused.
 /// The ends of its period are the moments that its texts write.
-pub fn resolve_audit(
-    alloc: Global,
-    catalog: &Catalog,
-    audit: &RawAudit,
-) -> Result<Audit, NameFault>
+pub fn resolve_audit(alloc: Global, catalog: &Catalog, audit: &RawAudit) -> Result<Audit, NameFault>
     ensures period { (period : PeriodEnds) × IsPeriodOf audit.now period }
     ensures resolved { (period : PeriodEnds) → IsPeriodOf audit.now period
         → Resolves (audit_refused catalog.now.names period audit.now) (audit_of catalog.now.names period audit.now) result }

@@ -53,7 +53,8 @@ pub fn places<T: NamedColumns>(
     table: &T,
     names: &[Name],
 ) -> Result<Places, NameFault>
-    ensures { Resolves (unknown_columns (T.table table.now) names.now) (places_of (T.table table.now) names.now) result }
+    ensures { Resolves (unknown_columns (T.table table.now) names.now)
+        (places_of (T.table table.now) names.now) result }
 {
     let mut places = Sequence::new(alloc);
     for name in names {

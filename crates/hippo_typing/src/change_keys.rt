@@ -44,7 +44,8 @@ fn named_places(
     set: &[Name],
     key: &[Name],
 ) -> Result<UpdatePlaces, NameFault>
-    ensures { Resolves (repeated_names set.now ++ repeated_names key.now ++ unknown_columns table.now (set.now ++ key.now))
+    ensures { Resolves (repeated_names set.now ++ repeated_names key.now
+        ++ unknown_columns table.now (set.now ++ key.now))
         (record { set = places_of table.now set.now; key = places_of table.now key.now }) result }
 {
     check_repeats(alloc, set)?;
@@ -58,8 +59,12 @@ fn update_places(
     set: Assigned,
     key: Assigned,
 ) -> Result<UpdatePlaces, NameFault>
-    ensures { Resolves (update_refused set.entry.names.now set.entry.values.now key.entry.names.now key.entry.values.now table.now)
-        (record { set = places_of table.now set.entry.names.now; key = places_of table.now key.entry.names.now }) result }
+    ensures { Resolves (update_refused set.entry.names.now set.entry.values.now
+        key.entry.names.now key.entry.values.now table.now)
+        (record {
+          set = places_of table.now set.entry.names.now;
+          key = places_of table.now key.entry.names.now;
+        }) result }
 {
     let places = named_places(alloc, table, set.names, key.names)?;
     check_key(table.schema(), places.key.as_slice())?;
@@ -77,7 +82,8 @@ fn set(
     key_values: &Cells,
 ) -> Result<Wanted, Memory>
     ensures { IfOk result (λ made. made ≡ Set table.now
-        (filter_map (λ place. lookup (nat_eq place) (zip places.key key_values.now)) schema.now.key) places.set values.now) }
+        (filter_map (λ place. lookup (nat_eq place) (zip places.key key_values.now)) schema.now.key)
+        places.set values.now) }
 {
     let table = table.copy(alloc)?;
     let key = key_written(
@@ -109,7 +115,8 @@ pub fn check_update(
     keys: &Names,
     key_values: &Cells,
 ) -> Result<Wanted, NameFault>
-    ensures { Grants (change_refused catalog.now.names (Update table.now columns.now values.now keys.now key_values.now))
+    ensures { Grants (change_refused catalog.now.names
+        (Update table.now columns.now values.now keys.now key_values.now))
         (wanted_by catalog.now.names (Update table.now columns.now values.now keys.now key_values.now)) result }
 {
     let found = known_table(alloc, catalog, table)?;

@@ -73,8 +73,10 @@ fn key_places(
     subject: &Option<Name>,
 ) -> Result<KeyPlaces, NameFault>
     ensures { Resolves (unknown_columns (draft_of [] columns.now) (key.now ++ option_to_list subject.now))
-        (record { key = places_of (draft_of [] columns.now) key.now; subject = option_and_then (place_of (draft_of [] columns.now)) subject.now })
-        result }
+        (record {
+          key = places_of (draft_of [] columns.now) key.now;
+          subject = option_and_then (place_of (draft_of [] columns.now)) subject.now;
+        }) result }
 {
     let key = places(alloc, columns, key.as_slice())?;
     let subject = place_if_any(alloc, columns, subject)?;
@@ -102,8 +104,10 @@ fn check_table(
     subject: &Option<Name>,
 ) -> Result<KeyPlaces, NameFault>
     ensures { Resolves (create_refused catalog.now.names table.now columns.now key.now subject.now)
-        (record { key = places_of (draft_of [] columns.now) key.now; subject = option_and_then (place_of (draft_of [] columns.now)) subject.now })
-        result }
+        (record {
+          key = places_of (draft_of [] columns.now) key.now;
+          subject = option_and_then (place_of (draft_of [] columns.now)) subject.now;
+        }) result }
 {
     check_columns_differ(alloc, columns.as_slice())?;
     check_repeats(alloc, key.as_slice())?;

@@ -47,7 +47,7 @@ fn one_home(
     ensures { MatchResult result
         (λ made. option_to_list home ++ option_to_list found ≡ option_to_list made)
         (λ fault. (more : List Reference)
-            → IsFirstOf (homes_refused written.now (option_to_list home ++ option_to_list found ++ more)) fault) }
+        → IsFirstOf (homes_refused written.now (option_to_list home ++ option_to_list found ++ more)) fault) }
 {
     match (home, found) {
         (None, found) => Ok(found),

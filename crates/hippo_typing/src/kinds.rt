@@ -62,12 +62,7 @@ fn mixes_two(tables: &StatementTables<'_>, left: &Operand, right: &Operand) -> b
     !agree(operand_kind(tables, left), operand_kind(tables, right))
 }
 
-fn mixes_three(
-    tables: &StatementTables<'_>,
-    value: &Operand,
-    low: &Operand,
-    high: &Operand,
-) -> bool
+fn mixes_three(tables: &StatementTables<'_>, value: &Operand, low: &Operand, high: &Operand) -> bool
     ensures { result ≡ mixes_kinds tables.now (value.now ∷ low.now ∷ high.now ∷ []) }
 {
     let first = operand_kind(tables, value);

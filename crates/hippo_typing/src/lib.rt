@@ -2,6 +2,14 @@
 #![tactic(auto)]
 
 mod audits;
+mod change_columns;
+mod change_faults;
+mod change_keys;
+mod change_names;
+mod change_rules;
+mod change_tables;
+mod change_values;
+mod changes;
 mod columns;
 mod conditions;
 mod faults;
@@ -15,19 +23,10 @@ mod pairs;
 mod parts;
 mod selects;
 mod tables;
-
-mod change_columns;
-mod change_faults;
-mod change_keys;
-mod change_names;
-mod change_rules;
-mod change_tables;
-mod change_values;
-mod changes;
 mod texts;
 
-pub use changes::check_change;
-pub use texts::{at_most_one_meaning, meaning_is_that_of_texts, read_meaning};
-pub use hippo_catalog::Catalog;
 pub use audits::resolve_audit;
+pub use changes::check_change;
+pub use hippo_catalog::Catalog;
 pub use selects::resolve_select;
+pub use texts::{at_most_one_meaning, meaning_is_that_of_texts, read_meaning};

@@ -21,7 +21,8 @@ use crate::parts::check_count;
 use crate::tables::{StatementTables, found_tables};
 use hippo_catalog::{Catalog, FROM_LIMIT, ITEM_LIMIT};
 use hippo_model::{
-    CondOf, Form, NameFault, Names, Operand, Query, RawColumn, RawForm, RawOut, RawOuts, RawSelect, Refs, Shape,
+    CondOf, Form, NameFault, Names, Operand, Query, RawColumn, RawForm, RawOut, RawOuts, RawSelect,
+    Refs, Shape,
 };
 use hippo_values::{Duplicate, Memory, Sequence};
 use std::alloc::Global;
@@ -220,8 +221,16 @@ fn checked_head(
 fn query(found: FoundSelect<'_>, head: QueryHead) -> Query
     ensures { result ≡ record { items = head.items; tables = head.tables; cond = found.entry.cond; form = head.form } }
 {
-    let FoundSelect { list: _, cond, by: _ } = found;
-    let QueryHead { items, tables, form } = head;
+    let FoundSelect {
+        list: _,
+        cond,
+        by: _,
+    } = found;
+    let QueryHead {
+        items,
+        tables,
+        form,
+    } = head;
     Query {
         items,
         tables,

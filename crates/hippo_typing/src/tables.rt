@@ -10,7 +10,6 @@ use hippo_values::Name;
 use indexmap::IndexSet;
 use std::alloc::Global;
 
-
 /// The tables of a statement, in the order of FROM.
 pub type StatementTables<'a> = Lent<'a, IndexedTable>;
 

@@ -93,7 +93,8 @@ fn meaning_in(alloc: Global, catalog: &Catalog, text: &str) -> Result<Option<Que
 /// refused. None exactly where it means none; the error is want of memory.
 pub fn read_meaning(alloc: Global, catalog: &Catalog, text: &str) -> Result<Option<Query>, Memory>
     ensures found { IfOk result (λ found. IfSome found (λ query. Means catalog.now.names text.now query)) }
-    ensures none { IfOk result (λ found. IfNone found ((query : MeantQuery) → ¬ Means catalog.now.names text.now query)) }
+    ensures none { IfOk result
+        (λ found. IfNone found ((query : MeantQuery) → ¬ Means catalog.now.names text.now query)) }
     ensures meaning { IfOk result (λ found. found ≡ meaning_in catalog.now.names text.now) }
 {
     meaning_in(alloc, catalog, text)

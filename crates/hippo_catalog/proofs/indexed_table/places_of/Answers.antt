@@ -3,8 +3,6 @@ use Rattle.std.specs.Prelude.{position, bytes_eq}
 use Rattle.std.specs.Bool.{then_some}
 use Rattle.std.specs.Option.{option_or}
 use Rattle.std.proofs.lemmas.List.{take_more, length-take}
-use Rattle.indexmap.specs.IndexMap.{get}
-use Rattle.hippo_values.specs.declared.names.Name.{Name}
 use Rattle.hippo_model.specs.declared.schema.Column.{Column}
 use Rattle.hippo_catalog.proofs.ColumnIndexLemmas.{position-push}
 use Rattle.hippo_catalog.proofs.indexed_table.places_of.Goals as goal

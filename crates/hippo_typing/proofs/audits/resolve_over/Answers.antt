@@ -1,4 +1,4 @@
-use Rattle.std.proofs.Common.{◌≡◌, [], ap, subst, ◌∙◌, rules}
+use Rattle.std.proofs.Common.{◌≡◌, [], subst, ◌∙◌, rules}
 use Rattle.hippo_catalog.specs.Refusals.{IsFirstOf}
 use Rattle.hippo_catalog.specs.AuditExpressions.{audit_refused}
 use Rattle.hippo_typing.specs.declared.audits.FoundAudit.{FoundAudit}
@@ -32,6 +32,7 @@ returns c =
     let period = c.args.period.now in
     let schemas = c.in_ok-tables.tables in
     let made = paired_form c.in_ok-found.found (judged_refused schemas audit c.in_ok-found.found.cond period) (head_of_audit audit period) c.checked_audit-head.result c.in_ok-found-2.found c.in_ok-found-2.head c.in_ok-found-2.ensures c.checked_audit-head.ensures in
-    let checked = subst (λ (f : FoundAudit). judged_refused schemas audit f.cond period ≡ []) c.in_ok-found.ensures.1 made.0 in
-    (none_of_audit known audit period schemas c.in_ok-tables.ensures.1 c.in_ok-tables.ensures.0 c.in_ok-found.ensures.0 checked,
-    c.audit_of.ensures ∙ audit_of_found known audit period schemas c.in_ok-tables.ensures.1 c.in_ok-tables.ensures.0 c.in_ok-found-2.found c.in_ok-found-2.head (made.1 ∙ c.in_ok-found.ensures.1) made.2)
+    let checked = subst (λ (f : FoundAudit). judged_refused schemas audit f.cond period ≡ []) c.in_ok-found.ensures.1 made.0 in (
+      none_of_audit known audit period schemas c.in_ok-tables.ensures.1 c.in_ok-tables.ensures.0 c.in_ok-found.ensures.0 checked,
+      c.audit_of.ensures ∙ audit_of_found known audit period schemas c.in_ok-tables.ensures.1 c.in_ok-tables.ensures.0 c.in_ok-found-2.found c.in_ok-found-2.head (made.1 ∙ c.in_ok-found.ensures.1) made.2,
+    )

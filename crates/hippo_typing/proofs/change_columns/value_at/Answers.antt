@@ -1,6 +1,5 @@
 -- The pairs ended where the shorter list did.
-use Rattle.std.proofs.Common.{◌≡◌, None, nat_eq, length, drop, List, sym, ap, ◌∙◌, rules}
-use Rattle.std.specs.List.{zip}
+use Rattle.std.proofs.Common.{nat_eq, length, sym, ap, ◌∙◌, rules}
 use Rattle.std.specs.Map.{lookup}
 use Rattle.std.proofs.lemmas.Slice.Zip.{zip_end}
 use Rattle.hippo_typing.proofs.ChangesLemmas.{zip-past_end}

@@ -1,4 +1,4 @@
-use Rattle.std.proofs.Common.{◌≡◌, ℕ, ◌<◌, ◌∷◌, [], ◌++◌, map, take, length, get_or, Bor, false, ap, sym, ◌∙◌, arith, List, refl}
+use Rattle.std.proofs.Common.{◌≡◌, ℕ, ◌<◌, map, length, get_or, ap, sym, ◌∙◌, arith, List, refl}
 use Rattle.std.proofs.lemmas.List.{length-map, get_or-map}
 use Rattle.hippo_values.specs.declared.names.Name.{Name}
 use Rattle.hippo_model.specs.declared.schema.Column.{Column}

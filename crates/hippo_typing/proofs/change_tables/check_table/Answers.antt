@@ -1,9 +1,8 @@
 -- Each refusal stands behind groups in which nothing is refused.
-use Rattle.std.proofs.Common.{◌≡◌, List, [], ◌∷◌, ◌++◌, map, rules}
+use Rattle.std.proofs.Common.{◌≡◌, List, [], ◌++◌, map, rules}
 use Rattle.std.specs.Prelude.{is_some, option_to_list}
 use Rattle.hippo_model.specs.declared.name_fault.NameFault.{NameFault}
 use Rattle.hippo_model.specs.declared.schema.Column.{Column}
-use Rattle.hippo_model.specs.declared.schema.Schema.{Schema}
 use Rattle.hippo_catalog.specs.Catalogs.{table_of}
 use Rattle.hippo_catalog.specs.Refusals.{IsFirstOf, repeated_names}
 use Rattle.hippo_catalog.specs.ChangesRefused.{draft_of, unknown_columns, subject_refused, sizes_refused, taken, create_refused}

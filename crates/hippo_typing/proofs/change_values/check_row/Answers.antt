@@ -1,5 +1,5 @@
-use Rattle.std.proofs.Common.{◌≡◌, [], length, rules, refl, ap, ◌∙◌}
-use Rattle.std.specs.List.{zip, flat_map}
+use Rattle.std.proofs.Common.{length, rules, refl, ap, ◌∙◌}
+use Rattle.std.specs.List.{flat_map}
 use Rattle.std.proofs.lemmas.Slice.Zip.{zip_turn, zip_end}
 use Rattle.hippo_catalog.specs.Refusals.{IsFirstOf}
 use Rattle.hippo_catalog.specs.ChangesRefused.{row_refused}

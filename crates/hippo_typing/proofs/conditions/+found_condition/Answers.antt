@@ -1,4 +1,4 @@
-use Rattle.std.proofs.Common.{arith, rules, ◌≡◌}
+use Rattle.std.proofs.Common.{arith, rules}
 use Rattle.std.specs.List.{flat_map}
 use Rattle.hippo_model.proofs.ChangedOperands.{changed_operands-All, changed_operands-Any}
 use Rattle.hippo_catalog.specs.Comparisons.{operand_refused, operands_refused, operand_of}

@@ -1,8 +1,4 @@
-use Rattle.std.proofs.Common.{◌∙◌, ap, sym}
-use Rattle.std.specs.List.{list_any}
-use Rattle.hippo_model.specs.declared.query.CondOf.{CondOf}
-use Rattle.hippo_model.specs.declared.query.Operand.{Operand}
-use Rattle.hippo_catalog.specs.Comparisons.{comparisons, mixes_kinds}
+use Rattle.hippo_catalog.specs.Comparisons.{mixes_kinds}
 use Rattle.hippo_catalog.proofs.ComparedOperands.{any-All, any-Any}
 use Rattle.hippo_typing.proofs.kinds.+mixes_kinds.Goals as goal
 

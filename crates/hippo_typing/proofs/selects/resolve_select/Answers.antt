@@ -2,7 +2,7 @@ use Rattle.std.proofs.Common.{◌≡◌, [], ap, subst, ◌∙◌, rules}
 use Rattle.hippo_typing.specs.declared.selects.FoundSelect.{FoundSelect}
 use Rattle.hippo_catalog.specs.Refusals.{IsFirstOf}
 use Rattle.hippo_catalog.specs.Selects.{select_refused}
-use Rattle.hippo_typing.specs.FoundSelects.{head_refused, head_of, select_found}
+use Rattle.hippo_typing.specs.FoundSelects.{head_refused, head_of}
 use Rattle.hippo_typing.proofs.FoundTheorem.{first_of_columns, first_of_head, none_of_select, query_of_select}
 use Rattle.hippo_typing.proofs.PairLemmas.{paired_fault, paired_form}
 use Rattle.hippo_typing.proofs.selects.resolve_select.Goals as goal
@@ -29,6 +29,7 @@ returns c =
     let select = c.args.select.now in
     let schemas = c.in_ok-tables.tables in
     let made = paired_form c.in_ok-found.found (head_refused schemas select c.in_ok-found.found) (head_of select c.in_ok-found.found) c.checked_head-head.result c.in_ok-found-2.found c.in_ok-found-2.head c.in_ok-found-2.ensures c.checked_head-head.ensures in
-    let checked = subst (λ (f : FoundSelect). head_refused schemas select f ≡ []) c.in_ok-found.ensures.1 made.0 in
-    (none_of_select known select schemas c.in_ok-tables.ensures.1 c.in_ok-tables.ensures.0 c.in_ok-found.ensures.0 checked,
-    c.query.ensures ∙ query_of_select known select schemas c.in_ok-tables.ensures.1 c.in_ok-tables.ensures.0 c.in_ok-found-2.found c.in_ok-found-2.head (made.1 ∙ c.in_ok-found.ensures.1) (made.2 ∙ ap (head_of select) c.in_ok-found.ensures.1))
+    let checked = subst (λ (f : FoundSelect). head_refused schemas select f ≡ []) c.in_ok-found.ensures.1 made.0 in (
+      none_of_select known select schemas c.in_ok-tables.ensures.1 c.in_ok-tables.ensures.0 c.in_ok-found.ensures.0 checked,
+      c.query.ensures ∙ query_of_select known select schemas c.in_ok-tables.ensures.1 c.in_ok-tables.ensures.0 c.in_ok-found-2.found c.in_ok-found-2.head (made.1 ∙ c.in_ok-found.ensures.1) (made.2 ∙ ap (head_of select) c.in_ok-found.ensures.1),
+    )

@@ -1,8 +1,5 @@
-use Rattle.std.proofs.Common.{◌≡◌, ℕ, ◌∷◌, [], ◌++◌, map, take, Bor, false, ap, sym, ◌∙◌, arith, List, refl}
-use Rattle.std.proofs.lemmas.List.{take_more}
-use Rattle.std.specs.Prelude.{if◌then◌else◌}
+use Rattle.std.proofs.Common.{ℕ, sym, ◌∙◌, arith, List, refl}
 use Rattle.hippo_values.specs.declared.names.Name.{Name}
-use Rattle.hippo_typing.proofs.ListLemmas.{lent-push}
 use Rattle.hippo_typing.proofs.RepeatLemmas.{repeated, not_repeated, kept_more}
 use Rattle.hippo_typing.proofs.tables.check_repeats.Goals as goal
 

@@ -1,4 +1,4 @@
-use Rattle.std.proofs.Common.{◌≡◌, ◌++◌, take, drop, flat_map}
+use Rattle.std.proofs.Common.{◌≡◌, ◌++◌, drop, flat_map}
 use Rattle.hippo_catalog.specs.Catalogs.{schemas_of}
 use Rattle.hippo_catalog.specs.Refusals.{unknown_table}
 use Rattle.hippo_typing.proofs.tables.tables_of.Given as goal

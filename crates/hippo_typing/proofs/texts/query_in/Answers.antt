@@ -1,5 +1,5 @@
 use Rattle.std.proofs.Common.{◌≡◌, ◌≢◌, Option, None, sym, ◌∙◌}
-use Rattle.std.proofs.lemmas.Result.{IfOk-weaker, MatchResult-at_err}
+use Rattle.std.proofs.lemmas.Result.{IfOk-weaker}
 use Rattle.hippo_model.specs.declared.name_fault.NameFault.TheVariants as faults
 use Rattle.hippo_model.specs.declared.query.Query.{Query}
 use Rattle.hippo_catalog.specs.Selects.{select_refused, query_of}

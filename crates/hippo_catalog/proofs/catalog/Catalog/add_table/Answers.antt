@@ -1,4 +1,4 @@
-use Rattle.std.proofs.Common.{◌≡◌, ap, sym, ◌∙◌, refl, rules}
+use Rattle.std.proofs.Common.{ap}
 use Rattle.hippo_model.specs.declared.entry.Act.TheVariants.{Create}
 use Rattle.hippo_catalog.specs.Catalogs.{known_after}
 use Rattle.hippo_catalog.specs.declared.catalog.Catalog.{Catalog}
