@@ -1,0 +1,3 @@
+pub mod ProductLemmas
+pub mod FoundLemmas
+pub mod KnownLemmas

@@ -1,0 +1,4 @@
+//! Planned joins, and the first rows that a query and an audit share.
+#![tactic(auto)]
+
+mod known;
