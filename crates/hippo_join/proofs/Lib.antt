@@ -1,3 +1,5 @@
 pub mod ProductLemmas
 pub mod FoundLemmas
 pub mod KnownLemmas
+pub mod SlotLemmas
+pub mod LookupLemmas

@@ -1,16 +1,16 @@
 -- Which conditions can be tested once the rows of some tables are chosen.
-use Rattle.std.specs.Prelude.{Bool, true, false, ◌&&◌, List, slice_get, Option, is_some}
+use Rattle.std.specs.Prelude.{Bool, true, ◌&&◌, List, Option, is_some}
 use Rattle.std.specs.List.{list_all}
-use Rattle.std.specs.Option.{option_map_or}
 use Rattle.hippo_model.specs.declared.query.CondOf.{CondOf, CondOf-F, fold-CondOf}
 use Rattle.hippo_model.specs.declared.query.CondOf.TheOpen.{All, Any, Not, Compare, Between, Among, Missing}
 use Rattle.hippo_model.specs.declared.query.Expr.{Expr}
 use Rattle.hippo_model.specs.declared.query.Expr.TheVariants.{Keep, Null, Aged, Case, Literal}
 use Rattle.hippo_model.specs.Terms.{Place}
+use Rattle.hippo_join.specs.Places.{slot_at}
 
 -- whether a table's row is chosen
 abbrev pub is_chosen : List (Option Place) → Place → Bool
-is_chosen slots table = option_map_or is_some (slice_get slots table) false
+is_chosen slots table = is_some (slot_at slots table)
 
 -- whether an expression's columns are in rows that are chosen
 abbrev pub knows_expr : List (Option Place) → Expr → Bool

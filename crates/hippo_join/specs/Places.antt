@@ -1,5 +1,5 @@
 -- Combinations of rows by the rows' places in their tables.
-use Rattle.std.specs.Prelude.{Bool, true, false, ◌&&◌, nat_lt, List, [], ◌∷◌, map, length, slice_get, Option, Some, unwrap_or}
+use Rattle.std.specs.Prelude.{◌≡◌, Bool, true, false, ◌&&◌, nat_lt, List, [], ◌∷◌, map, length, slice_get, Option, Some, None, unwrap_or}
 use Rattle.std.specs.List.{range_with_len}
 use Rattle.std.specs.Option.{option_map_or}
 use Rattle.hippo_values.specs.Moments.{first_moment}
@@ -17,6 +17,10 @@ blank = record { row = []; born = first_moment }
 abbrev pub row_at : List BornRow → Place → BornRow
 row_at rows place = unwrap_or (slice_get rows place) blank
 
+-- the place that is chosen in a table, if one is
+abbrev pub slot_at : List (Option Place) → Place → Option Place
+slot_at slots table = unwrap_or (slice_get slots table) None
+
 -- the rows at the places that are chosen, and blank ones of the other tables
 abbrev pub rows_at : List KeyedRows → List (Option Place) → Combination
 rows_at [] slots = []
@@ -26,6 +30,14 @@ rows_at (set ∷ sets) (slot ∷ slots) = option_map_or (row_at set.rows) slot b
 -- the rows at one place in each table
 abbrev pub chosen : List KeyedRows → List Place → Combination
 chosen sets places = rows_at sets (map Some places)
+
+-- places that are those chosen, where a place is chosen
+abbrev pub Fits : List (Option Place) → List Place → Type 0
+Fits [] [] = Unit {0}
+Fits [] (place ∷ places) = ⊥
+Fits (slot ∷ slots) [] = ⊥
+Fits (None ∷ slots) (place ∷ places) = Fits slots places
+Fits (Some fixed ∷ slots) (place ∷ places) = (fixed ≡ place) × Fits slots places
 
 -- whether each place is one of its table's
 abbrev pub in_range : List KeyedRows → List Place → Bool

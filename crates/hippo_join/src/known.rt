@@ -1,18 +1,26 @@
 //! Which conditions can be tested once the rows of some tables are chosen.
 ghost use Rattle.std.specs.Prelude.{◌≡◌};
 ghost use Rattle.std.specs.List.{list_all};
+ghost use Rattle.hippo_join.specs.Places.{slot_at};
 ghost use Rattle.hippo_join.specs.Known.{is_chosen, knows_expr, knows};
 
 use hippo_model::{CondOf, Expr};
+
+// The place that is chosen in a table, if one is.
+pub(crate) fn slot_at(slots: &[Option<usize>], table: usize) -> Option<usize>
+    ensures { result ≡ slot_at slots.now table }
+{
+    match slots.get(table) {
+        Some(slot) => *slot,
+        None => None,
+    }
+}
 
 // Whether a table's row is chosen.
 pub(crate) fn is_chosen(slots: &[Option<usize>], table: usize) -> bool
     ensures { result ≡ is_chosen slots.now table }
 {
-    match slots.get(table) {
-        Some(slot) => slot.is_some(),
-        None => false,
-    }
+    slot_at(slots, table).is_some()
 }
 
 // Whether an expression's columns are in rows that are chosen.
