@@ -1,0 +1,3 @@
+pub mod TruthLemmas
+pub mod WalkLemmas
+pub mod KeptLemmas

@@ -1,0 +1,3 @@
+pub mod LentCells
+pub mod MaskedTruth
+pub mod Walks

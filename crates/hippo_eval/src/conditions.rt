@@ -1,0 +1,147 @@
+//! The truth of a condition in a combination of rows.
+ghost use Rattle.std.specs.Prelude.{◌≡◌, ◌↔◌, map, IsTrue};
+ghost use Rattle.hippo_values.specs.declared.truths.CompareOp.TheVariants.{Eq as Equal, Le as AtMost, Ge as AtLeast};
+ghost use Rattle.hippo_values.specs.declared.truths.Truth.TheVariants.{False as Untrue, True as Truly};
+ghost use Rattle.hippo_values.specs.Truths.{truth_and, truth_of, comparison};
+ghost use Rattle.hippo_model.specs.Conditions.{least, greatest, is_null};
+ghost use Rattle.hippo_model.specs.Forms.{value_in};
+ghost use Rattle.hippo_eval.specs.LentCells.{lent_cell};
+ghost use Rattle.hippo_eval.specs.MaskedTruth.{masked_value, masked_truth};
+
+use crate::cells::{LentCell, cell};
+use hippo_model::{ChoiceView, Combo, CondOf, Expr, Exprs};
+use hippo_values::{CompareOp, Sequence, Truth, Value, compare, truth_and, truth_not, truth_or};
+
+fn is_false(truth: Truth) -> bool
+    ensures { IsTrue result ↔ (truth ≡ Untrue) }
+{
+    matches!(truth, Truth::False)
+}
+
+fn is_true(truth: Truth) -> bool
+    ensures { IsTrue result ↔ (truth ≡ Truly) }
+{
+    matches!(truth, Truth::True)
+}
+
+// What a comparison of two cells says, where a denied one counts as null.
+fn compared(op: CompareOp, left: &LentCell<'_>, right: &LentCell<'_>) -> Truth
+    ensures { result ≡ comparison op (value_in (lent_cell left.now)) (value_in (lent_cell right.now)) }
+{
+    let left = left.value().unwrap_or(&Value::Null);
+    compare(op, left, right.value().unwrap_or(&Value::Null))
+}
+
+// What a comparison of a cell with an expression says.
+fn compared_with<C: ChoiceView>(
+    op: CompareOp,
+    left: &LentCell<'_>,
+    right: &Expr,
+    combo: &Combo<'_>,
+    choices: &C,
+) -> Truth
+    ensures { result ≡ comparison op (value_in (lent_cell left.now)) (masked_value (C.choices choices.now) combo.now right.now) }
+{
+    compared(op, left, &cell(right, combo, choices))
+}
+
+fn comparison<C: ChoiceView>(
+    op: CompareOp,
+    left: &Expr,
+    right: &Expr,
+    combo: &Combo<'_>,
+    choices: &C,
+) -> Truth
+    ensures { result ≡ comparison op (masked_value (C.choices choices.now) combo.now left.now) (masked_value (C.choices choices.now) combo.now right.now) }
+{
+    compared_with(op, &cell(left, combo, choices), right, combo, choices)
+}
+
+fn is_between<C: ChoiceView>(
+    value: &Expr,
+    low: &Expr,
+    high: &Expr,
+    combo: &Combo<'_>,
+    choices: &C,
+) -> Truth
+    ensures { result ≡ truth_and
+        (comparison AtLeast (masked_value (C.choices choices.now) combo.now value.now) (masked_value (C.choices choices.now) combo.now low.now))
+        (comparison AtMost (masked_value (C.choices choices.now) combo.now value.now) (masked_value (C.choices choices.now) combo.now high.now)) }
+{
+    let value = cell(value, combo, choices);
+    let above = compared_with(CompareOp::Ge, &value, low, combo, choices);
+    truth_and(
+        above,
+        compared_with(CompareOp::Le, &value, high, combo, choices),
+    )
+}
+
+fn is_among<C: ChoiceView>(value: &Expr, list: &Exprs, combo: &Combo<'_>, choices: &C) -> Truth
+    ensures { result ≡ greatest (map (λ member. comparison Equal (masked_value (C.choices choices.now) combo.now value.now)
+        (masked_value (C.choices choices.now) combo.now member)) list.now) }
+{
+    let value = cell(value, combo, choices);
+    let mut so_far = Truth::False;
+    for member in list.as_slice() {
+        let equal = compared_with(CompareOp::Eq, &value, member, combo, choices);
+        so_far = truth_or(so_far, equal);
+        if is_true(so_far) {
+            return so_far;
+        }
+    }
+    so_far
+}
+
+fn is_missing<C: ChoiceView>(value: &Expr, combo: &Combo<'_>, choices: &C) -> Truth
+    ensures { result ≡ truth_of (is_null (masked_value (C.choices choices.now) combo.now value.now)) }
+{
+    match cell(value, combo, choices).value().unwrap_or(&Value::Null) {
+        Value::Null => Truth::True,
+        _ => Truth::False,
+    }
+}
+
+#[cycle(test)]
+fn least<C: ChoiceView>(parts: &Sequence<CondOf<Expr>>, combo: &Combo<'_>, choices: &C) -> Truth
+    ensures { result ≡ least (map (masked_truth (C.choices choices.now) combo.now) parts.now) }
+{
+    let mut so_far = Truth::True;
+    for part in parts.as_slice() {
+        so_far = truth_and(so_far, test(part, combo, choices));
+        if is_false(so_far) {
+            return so_far;
+        }
+    }
+    so_far
+}
+
+#[cycle(test)]
+fn greatest<C: ChoiceView>(parts: &Sequence<CondOf<Expr>>, combo: &Combo<'_>, choices: &C) -> Truth
+    ensures { result ≡ greatest (map (masked_truth (C.choices choices.now) combo.now) parts.now) }
+{
+    let mut so_far = Truth::False;
+    for part in parts.as_slice() {
+        so_far = truth_or(so_far, test(part, combo, choices));
+        if is_true(so_far) {
+            return so_far;
+        }
+    }
+    so_far
+}
+
+/// SQL's truth of a condition in a combination of rows, where each expression has the value of the cell that it stands
+/// for, and a denied cell counts as null. Takes no memory.
+#[cycle(test)]
+pub fn test<C: ChoiceView>(cond: &CondOf<Expr>, combo: &Combo<'_>, choices: &C) -> Truth
+    ensures { result ≡ masked_truth (C.choices choices.now) combo.now cond.now }
+{
+    match cond {
+        CondOf::All(parts) => least(parts, combo, choices),
+        CondOf::Any(parts) => greatest(parts, combo, choices),
+        CondOf::Not(part) => truth_not(test(part.get(), combo, choices)),
+        CondOf::Compare { op, left, right } => comparison(*op, left, right, combo, choices),
+        CondOf::Between { value, low, high } => is_between(value, low, high, combo, choices),
+        CondOf::Among { value, list } => is_among(value, list, combo, choices),
+        CondOf::Missing { value } => is_missing(value, combo, choices),
+    }
+}

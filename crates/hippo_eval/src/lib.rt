@@ -1,0 +1,12 @@
+//! What a query with the policy written into it answers, over unmasked rows: its definition, carried out.
+#![tactic(auto)]
+
+mod cells;
+mod conditions;
+mod queries;
+mod walks;
+
+pub use cells::{LentCell, cell};
+pub use conditions::test;
+pub use queries::{passes, project};
+pub use walks::{Onward, Visitor, walk};

@@ -1,0 +1,58 @@
+//! The guards, the condition and the items of a query in one combination of rows.
+ghost use Rattle.std.specs.Prelude.{◌≡◌, ◌&&◌, IfOk};
+ghost use Rattle.hippo_model.specs.Conditions.{is_true};
+ghost use Rattle.hippo_model.specs.Masking.{masked_cell, is_shown_cell, is_guarded, masked_passes, masked_items};
+
+use crate::cells::cell;
+use crate::conditions::test;
+use hippo_model::{CellRow, ChoiceView, Combo, Expr, Masked};
+use hippo_values::{Memory, Sequence, Truth};
+use std::alloc::Global;
+
+fn is_shown<C: ChoiceView>(expr: &Expr, combo: &Combo<'_>, choices: &C) -> bool
+    ensures { result ≡ is_shown_cell (masked_cell (C.choices choices.now) combo.now expr.now) }
+{
+    cell(expr, combo, choices).is_shown()
+}
+
+fn is_guarded<C: ChoiceView>(query: &Masked, combo: &Combo<'_>, choices: &C) -> bool
+    ensures { result ≡ is_guarded (C.choices choices.now) query.now combo.now }
+{
+    for guard in query.guards.as_slice() {
+        if !is_shown(&guard.expr, combo, choices) {
+            return false;
+        }
+    }
+    true
+}
+
+fn is_true(truth: Truth) -> bool
+    ensures { result ≡ is_true truth }
+{
+    matches!(truth, Truth::True)
+}
+
+/// Whether a combination of rows makes a row of a query's answer: each guard is shown, and the condition is true. Takes no
+/// memory.
+pub fn passes<C: ChoiceView>(query: &Masked, combo: &Combo<'_>, choices: &C) -> bool
+    ensures { result ≡ (is_guarded (C.choices choices.now) query.now combo.now
+        && masked_passes (C.choices choices.now) query.now combo.now) }
+{
+    is_guarded(query, combo, choices) && is_true(test(&query.cond, combo, choices))
+}
+
+/// The row of a query's answer that a combination of rows makes.
+pub fn project<C: ChoiceView>(
+    alloc: Global,
+    query: &Masked,
+    combo: &Combo<'_>,
+    choices: &C,
+) -> Result<CellRow, Memory>
+    ensures { IfOk result (λ row. row ≡ masked_items (C.choices choices.now) query.now combo.now) }
+{
+    let mut cells = Vec::with_capacity(alloc, query.items.len())?;
+    for item in query.items.as_slice() {
+        cells.push(cell(item, combo, choices).copy(alloc)?)?;
+    }
+    Ok(Sequence::from_vec(cells))
+}
