@@ -3,3 +3,4 @@ pub mod FoundLemmas
 pub mod KnownLemmas
 pub mod SlotLemmas
 pub mod LookupLemmas
+pub mod PartLemmas

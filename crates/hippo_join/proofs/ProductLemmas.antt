@@ -15,7 +15,8 @@ use Rattle.hippo_model.specs.declared.born_row.BornRow.{BornRow}
 use Rattle.hippo_model.specs.Terms.{Combination, Place}
 use Rattle.hippo_model.specs.RowSets.{KeyedRows}
 use Rattle.hippo_model.specs.Answers.{product}
-use Rattle.hippo_join.specs.Places.{blank, row_at, rows_at, chosen, in_range, rows_of, places_of}
+use Rattle.hippo_eval.specs.Walks.{rows_of}
+use Rattle.hippo_join.specs.Places.{blank, row_at, rows_at, chosen, in_range, places_of}
 
 module _ {A B : Type 0} where
   pub map-flat_map : {X : Type 0} (f : A → B) (g : X → List A) (xs : List X) → map f (flat_map g xs) ≡ flat_map (λ x. map f (g x)) xs

@@ -46,9 +46,6 @@ in_range [] (place ∷ places) = false
 in_range (set ∷ sets) [] = false
 in_range (set ∷ sets) (place ∷ places) = nat_lt place (length set.rows) && in_range sets places
 
-abbrev pub rows_of : List KeyedRows → List (List BornRow)
-rows_of sets = map (λ set. set.rows) sets
-
 -- all combinations, by their places
 abbrev pub places_of : List KeyedRows → List (List Place)
 places_of sets = product (map (λ set. range_with_len 0 (length set.rows)) sets)

@@ -3,3 +3,6 @@
 
 mod known;
 mod lookups;
+mod sides;
+mod steps;
+mod ties;
