@@ -4,3 +4,4 @@ pub mod KnownLemmas
 pub mod SlotLemmas
 pub mod LookupLemmas
 pub mod PartLemmas
+pub mod PruneLemmas

@@ -1,10 +1,11 @@
 -- Rows that are chosen, and combinations that agree with them.
-use Rattle.std.proofs.Common.{◌≡◌, ℕ, zero, suc, ◌+◌, ◌<◌, Bool, true, false, ◌&&◌, List, [], ◌∷◌, ◌++◌, map, length, drop, refl, sym, ap, ◌∙◌, arith, Option, Some, None, unwrap_or, add-one, subst, not, nat_lt, ℤ, int_le}
+use Rattle.std.proofs.Common.{◌≡◌, ℕ, zero, suc, ◌+◌, ◌<◌, ◌≤◌, Bool, true, false, ◌&&◌, List, [], ◌∷◌, ◌++◌, map, length, drop, refl, sym, ap, ◌∙◌, arith, Option, Some, None, unwrap_or, add-one, append_assoc, subst, not, nat_lt, ℤ, int_le}
 use Rattle.std.specs.Prelude.{slice_get, option_map, is_some}
 use Rattle.std.specs.Prelude.{replicate, slice_set}
 use Rattle.std.specs.Option.{option_map_or}
 use Rattle.std.proofs.lemmas.Bool.{and_parts, false≢true}
 use Rattle.std.proofs.Math.Seq.{drop-nil}
+use Rattle.std.proofs.lemmas.List.{append-nil, drop_all}
 use Rattle.hippo_values.specs.declared.values.Value.{Value}
 use Rattle.hippo_values.specs.declared.values.Value.TheVariants.{Null as NullValue}
 use Rattle.hippo_model.specs.declared.cells.Cell.TheVariants.{Shown}
@@ -130,3 +131,15 @@ length-in_range [] [] e = refl
 length-in_range [] (place ∷ places) e = absurd (false≢true e)
 length-in_range (set ∷ sets) [] e = absurd (false≢true e)
 length-in_range (set ∷ sets) (place ∷ places) e = ap suc (length-in_range sets places (and_parts (nat_lt place (length set.rows)) (in_range sets places) e).1)
+
+-- a loop over the tables: one row more, and the end
+pub rows-more : (sets : List KeyedRows) (slots : List (Option Place)) (i : ℕ) (set : KeyedRows) (slot : Option Place) (empty : BornRow) (rows more whole : Combination) → slice_get sets i ≡ Some set → slot ≡ slot_at slots i → empty ≡ blank
+    → more ≡ rows ++ option_map_or (λ place. unwrap_or (slice_get set.rows place) empty) slot empty ∷ [] → rows ++ rows_at (drop i sets) (drop i slots) ≡ whole → more ++ rows_at (drop (i + 1) sets) (drop (i + 1) slots) ≡ whole
+rows-more sets slots i set slot empty rows more whole at of_slot of_blank pushed so_far =
+    let pushed_here : more ≡ rows ++ option_map_or (row_at set.rows) (slot_at slots i) blank ∷ [] = pushed ∙ (λ j. rows ++ option_map_or (λ place. unwrap_or (slice_get set.rows place) (of_blank j)) (of_slot j) (of_blank j) ∷ []) in
+    let rest : Combination = rows_at (drop (suc i) sets) (drop (suc i) slots) in
+    rw (add-one i) (ap (λ (r : Combination). r ++ rest) pushed_here ∙ append_assoc rows (option_map_or (row_at set.rows) (slot_at slots i) blank ∷ []) rest ∙ sym (ap (λ (r : Combination). rows ++ r) (rows_at-drop sets slots i set at)) ∙ so_far)
+
+pub rows-all : (sets : List KeyedRows) (slots : List (Option Place)) (i : ℕ) (rows whole : Combination) → length sets ≤ i → rows ++ rows_at (drop i sets) (drop i slots) ≡ whole → rows ≡ whole
+rows-all sets slots i rows whole past so_far =
+    sym (append-nil rows) ∙ sym (ap (λ (s : List KeyedRows). rows ++ rows_at s (drop i slots)) (drop_all i sets past)) ∙ so_far

@@ -70,4 +70,75 @@ impl<'a, C: ChoiceView> Side<'a, C> {
     {
         !knows_expr(&guard.expr, slots) || cell(&guard.expr, rows, self.choices).is_shown()
     }
+
+    // Whether the guards hold, as far as their columns are known: true where some combination counts that has these rows.
+    fn guards_hold(&self, slots: &[Option<usize>], rows: &Combo<'_>) -> bool
+        requires { rows.now ≡ rows_at self.now.sets.now slots.now }
+        ensures { (places : List Place) → Fits slots.now places
+            → stands (C.choices self.now.choices.now) self.now.query.now self.now.sets.now places ≡ true → result ≡ true }
+    {
+        for guard in self.query.guards.as_slice() {
+            if !self.guard_holds(guard, slots, rows) {
+                return false;
+            }
+        }
+        true
+    }
+
+    // Whether one part of the condition holds, as far as its columns are known.
+    fn test_holds(&self, test: usize, slots: &[Option<usize>], rows: &Combo<'_>) -> bool
+        requires { rows.now ≡ rows_at self.now.sets.now slots.now }
+        ensures { (places : List Place) → Fits slots.now places
+            → stands (C.choices self.now.choices.now) self.now.query.now self.now.sets.now places ≡ true → result ≡ true }
+    {
+        match outer_parts(&self.query.cond).get(test) {
+            Some(part) => self.part_holds(part, slots, rows),
+            None => true,
+        }
+    }
+
+    // The same of some parts, by their places.
+    fn tests_hold(&self, tests: &[usize], slots: &[Option<usize>], rows: &Combo<'_>) -> bool
+        requires { rows.now ≡ rows_at self.now.sets.now slots.now }
+        ensures { (places : List Place) → Fits slots.now places
+            → stands (C.choices self.now.choices.now) self.now.query.now self.now.sets.now places ≡ true → result ≡ true }
+    {
+        for test in tests {
+            if !self.test_holds(*test, slots, rows) {
+                return false;
+            }
+        }
+        true
+    }
+
+    // Whether a combination may count that has the rows that are chosen, by some parts of the condition.
+    pub(crate) fn may_count(
+        &self,
+        alloc: Global,
+        tests: &[usize],
+        slots: &[Option<usize>],
+    ) -> Result<bool, Memory>
+        ensures { IfOk result (λ may. (places : List Place) → Fits slots.now places
+            → stands (C.choices self.now.choices.now) self.now.query.now self.now.sets.now places ≡ true → may ≡ true) }
+    {
+        if tests.is_empty() {
+            return Ok(true);
+        }
+        let rows = self.rows(alloc, slots)?;
+        Ok(self.tests_hold(tests, slots, &rows))
+    }
+
+    // Whether a combination may count that has the row of one table, by the guards and by some parts of the condition.
+    fn may_count_alone(
+        &self,
+        alloc: Global,
+        tests: &[usize],
+        slots: &[Option<usize>],
+    ) -> Result<bool, Memory>
+        ensures { IfOk result (λ may. (places : List Place) → Fits slots.now places
+            → stands (C.choices self.now.choices.now) self.now.query.now self.now.sets.now places ≡ true → may ≡ true) }
+    {
+        let rows = self.rows(alloc, slots)?;
+        Ok(self.guards_hold(slots, &rows) && self.tests_hold(tests, slots, &rows))
+    }
 }
