@@ -5,3 +5,4 @@ pub mod SlotLemmas
 pub mod LookupLemmas
 pub mod PartLemmas
 pub mod PruneLemmas
+pub mod ReachLemmas

@@ -24,7 +24,7 @@ use Rattle.hippo_join.specs.Lookups.{value_at}
 use Rattle.hippo_join.specs.Ties.{holds, AreEqual}
 use Rattle.hippo_join.proofs.KnownLemmas.{truth-known}
 use Rattle.hippo_join.proofs.PartLemmas.{parts-hold}
-use Rattle.hippo_join.proofs.SlotLemmas.{cell-known, raw-at, Fits-at}
+use Rattle.hippo_join.proofs.SlotLemmas.{cell-known, raw-at, Fits-at, length-in_range}
 
 -- a member of a list passes a test that all pass
 pub one-of-all : {X : Type 0} (test : X → Bool) (xs : List X) (k : ℕ) (x : X) → slice_get xs k ≡ Some x → list_all test xs ≡ true → test x ≡ true
@@ -39,9 +39,13 @@ or_of : (known holds : Bool) → (known ≡ true → holds ≡ true) → (not kn
 or_of true holds h = h refl
 or_of false holds h = refl
 
-module _ (choices : Choices) (query : Masked) (sets : List KeyedRows) (slots : List (Option Place)) (places : List Place) (fits : Fits slots places) (counts : stands choices query sets places ≡ true) where
+-- what is said of a combination that counts
+module _ (choices : Choices) (query : Masked) (sets : List KeyedRows) (places : List Place) (counts : stands choices query sets places ≡ true) where
   pub in-range : in_range sets places ≡ true
   in-range = (and_parts (in_range sets places) (stays choices query (chosen sets places)) counts).0
+
+  pub long-enough : length places ≡ length sets
+  long-enough = length-in_range sets places in-range
 
   both : (is_guarded choices query (chosen sets places) ≡ true) × (masked_passes choices query (chosen sets places) ≡ true)
   unfolding stays
@@ -50,17 +54,18 @@ module _ (choices : Choices) (query : Masked) (sets : List KeyedRows) (slots : L
   pub all-hold : list_all (holds choices (chosen sets places)) (outer_parts query.cond) ≡ true
   all-hold = parts-hold (masked_value choices (chosen sets places)) query.cond ∙ both.1
 
+module _ (choices : Choices) (query : Masked) (sets : List KeyedRows) (slots : List (Option Place)) (places : List Place) (fits : Fits slots places) (counts : stands choices query sets places ≡ true) where
   -- a part whose columns are known
   pub part-holds : (k : ℕ) (part : CondOf Expr) → slice_get (outer_parts query.cond) k ≡ Some part → (not (knows slots part) || holds choices (rows_at sets slots) part) ≡ true
   part-holds k part at = or_of (knows slots part) (holds choices (rows_at sets slots) part) (λ known.
       ap is_true (truth-known slots (masked_value choices (rows_at sets slots)) (masked_value choices (chosen sets places)) (λ expr is. ap value_in (cell-known choices sets slots places fits expr is)) part known)
-      ∙ one-of-all (holds choices (chosen sets places)) (outer_parts query.cond) k part at all-hold)
+      ∙ one-of-all (holds choices (chosen sets places)) (outer_parts query.cond) k part at (all-hold choices query sets places counts))
 
   -- a guard whose columns are known
   pub guard-holds : (k : ℕ) (guard : Guard) → slice_get query.guards k ≡ Some guard → (not (knows_expr slots guard.expr) || is_shown_cell (masked_cell choices (rows_at sets slots) guard.expr)) ≡ true
   guard-holds k guard at = or_of (knows_expr slots guard.expr) (is_shown_cell (masked_cell choices (rows_at sets slots) guard.expr)) (λ known.
       ap is_shown_cell (cell-known choices sets slots places fits guard.expr known)
-      ∙ one-of-all (λ (g : Guard). is_shown_cell (masked_cell choices (chosen sets places) g.expr)) query.guards k guard at both.0)
+      ∙ one-of-all (λ (g : Guard). is_shown_cell (masked_cell choices (chosen sets places) g.expr)) query.guards k guard at (both choices query sets places counts).0)
 
   -- the value of a tie's column
   pub value-tied : (table : Place) (column : Place) (other : Ref) (set others : KeyedRows) (place fixed : Place) → AreEqual (chosen sets places) (record { table = table; column = column }) other

@@ -3,6 +3,7 @@
 
 mod known;
 mod lookups;
+mod reaching;
 mod sides;
 mod steps;
 mod ties;

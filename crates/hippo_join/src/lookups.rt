@@ -1,11 +1,12 @@
 //! Rows of a table in the order of one of its columns.
-ghost use Rattle.std.specs.Prelude.{◌≡◌, option_copied, unwrap_or};
+ghost use Rattle.std.specs.Prelude.{◌≡◌, true, MatchOption, option_copied, unwrap_or};
 ghost use Rattle.std.specs.List.{Contains};
 ghost use Rattle.std.specs.List.Sorted.{IsPermutation};
 ghost use Rattle.std.specs.Ordering.{is_lt, is_le};
 ghost use Rattle.std.specs.declared.cmp.Ordering.TheVariants.{Equal};
 ghost use Rattle.hippo_values.specs.declared.values.Value.TheVariants.{Null};
 ghost use Rattle.hippo_values.specs.Order.{value_cmp};
+ghost use Rattle.hippo_model.specs.Conditions.{is_null};
 ghost use Rattle.hippo_model.specs.Terms.{Place};
 ghost use Rattle.hippo_join.specs.Lookups.{value_at, IsByColumn};
 
@@ -22,6 +23,20 @@ pub(crate) fn value_at<'a>(set: &'a RowSet, column: usize, place: usize) -> Opti
     } else {
         None
     }
+}
+
+fn is_null(value: &Value) -> bool
+    ensures { result ≡ is_null value.now }
+{
+    matches!(value, Value::Null)
+}
+
+// The same, without those that are null.
+pub(crate) fn known_value<'a>(set: &'a RowSet, column: usize, place: usize) -> Option<&'a Value>
+    ensures { MatchOption result (is_null (value_at set.now column place) ≡ true) (λ value. value.now ≡ value_at set.now column place) }
+{
+    let value = value_at(set, column, place)?;
+    if is_null(value) { None } else { Some(value) }
 }
 
 fn value_order(set: &RowSet, column: usize, place: usize, value: &Value) -> Ordering

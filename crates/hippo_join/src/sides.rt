@@ -129,7 +129,7 @@ impl<'a, C: ChoiceView> Side<'a, C> {
     }
 
     // Whether a combination may count that has the row of one table, by the guards and by some parts of the condition.
-    fn may_count_alone(
+    pub(crate) fn may_count_alone(
         &self,
         alloc: Global,
         tests: &[usize],
