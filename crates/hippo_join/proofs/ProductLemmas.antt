@@ -16,6 +16,7 @@ use Rattle.hippo_model.specs.Terms.{Combination, Place}
 use Rattle.hippo_model.specs.RowSets.{KeyedRows}
 use Rattle.hippo_model.specs.Answers.{product}
 use Rattle.hippo_eval.specs.Walks.{rows_of}
+use Rattle.hippo_join.specs.Finding.{has_places}
 use Rattle.hippo_join.specs.Places.{blank, row_at, rows_at, chosen, in_range, places_of}
 
 module _ {A B : Type 0} where
@@ -67,10 +68,6 @@ product-rows (set ∷ sets) =
     ∙ flat_map_same (λ place. after (row_at set.rows place)) (λ place. map (chosen (set ∷ sets)) (map (λ others. place ∷ others) (places_of sets)))
       (λ place. ap (map (λ others. row_at set.rows place ∷ others)) (product-rows sets) ∙ sym (one_more set sets place (places_of sets))) (range_with_len 0 (length set.rows))
     ∙ sym (map-flat_map (chosen (set ∷ sets)) (λ place. map (λ others. place ∷ others) (places_of sets)) (range_with_len 0 (length set.rows)))
-
--- whether places stand in a list
-abbrev pub has_places : List Place → List (List Place) → Bool
-has_places places some = list_any (λ other. is_eq (slice_cmp nat_cmp places other)) some
 
 -- whether places stand behind a first one
 behind : (a p : Place) (rest : List Place) (some : List (List Place)) → has_places (a ∷ rest) (map (λ others. p ∷ others) some) ≡ (nat_eq a p && has_places rest some)

@@ -3,3 +3,4 @@ pub mod Known
 pub mod Lookups
 pub mod Ties
 pub mod Steps
+pub mod Finding

@@ -1,0 +1,39 @@
+-- What a join finds: the places of all combinations that count.
+use Rattle.std.specs.Prelude.{◌≡◌, ◌<◌, Bool, true, List, length, map, Option, Result, Ok, Err, ◌⊎◌}
+use Rattle.std.specs.List.{list_any, Contains}
+use Rattle.std.specs.Ordering.{is_eq, nat_cmp}
+use Rattle.std.specs.Cmp.Lexicographic.{slice_cmp}
+use Rattle.hippo_model.specs.declared.query.Masked.{Masked}
+use Rattle.hippo_model.specs.Terms.{Place}
+use Rattle.hippo_model.specs.RowSets.{KeyedRows}
+use Rattle.hippo_model.specs.Masking.{Choices}
+use Rattle.hippo_eval.specs.declared.answers.EvalFault.{EvalFault}
+use Rattle.hippo_eval.specs.declared.answers.EvalFault.TheVariants.{TooManyRows, Memory}
+use Rattle.hippo_join.specs.declared.steps.Step.{Step}
+use Rattle.hippo_join.specs.Places.{Fits, stands}
+use Rattle.hippo_join.specs.Known.{is_chosen}
+
+-- whether places stand in a list
+abbrev pub has_places : List Place → List (List Place) → Bool
+has_places places some = list_any (λ other. is_eq (slice_cmp nat_cmp places other)) some
+
+-- each table's row is chosen, or is to be chosen by a step
+abbrev pub Covers : List Step → List (Option Place) → Type 0
+Covers steps slots =
+    (table : Place) → table < length slots → (is_chosen slots table ≡ true) ⊎ Contains (map (λ step. step.table) steps) table
+
+abbrev pub AllCount : Choices → Masked → List KeyedRows → List (List Place) → Type 0
+AllCount choices query sets some = (places : List Place) → has_places places some ≡ true → stands choices query sets places ≡ true
+
+-- what stays while more is found: nothing is lost, and only what counts is added
+pub record Grows (choices : Choices) (query : Masked) (sets : List KeyedRows) (before after : List (List Place)) : Type 0 where
+  pub keeps : (places : List Place) → has_places places before ≡ true → has_places places after ≡ true
+  pub sound : AllCount choices query sets before → AllCount choices query sets after
+
+-- all combinations that have the rows that are chosen and count were found; or more than the limit
+abbrev pub IsFound :
+    Choices → Masked → List KeyedRows → List (Option Place) → List (List Place) → Result (Unit {0}) EvalFault → Type 0
+IsFound choices query sets slots found (Ok done) =
+    (places : List Place) → Fits slots places → stands choices query sets places ≡ true → has_places places found ≡ true
+IsFound choices query sets slots found (Err TooManyRows) = 100000 < length found
+IsFound choices query sets slots found (Err Memory) = Unit {0}
