@@ -4,7 +4,6 @@ use Rattle.hippo_values.specs.declared.memory.Memory.{Memory}
 use Rattle.hippo_model.specs.declared.born_row.BornRow.{BornRow}
 use Rattle.hippo_model.specs.RowSets.{KeyedRows}
 use Rattle.hippo_model.specs.Terms.{Combination}
-use Rattle.hippo_model.specs.Answers.{product}
 use Rattle.hippo_eval.specs.declared.walks.Onward.{Onward}
 use Rattle.hippo_eval.specs.declared.walks.Onward.TheVariants.{More, Enough}
 

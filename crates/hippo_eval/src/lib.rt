@@ -1,11 +1,15 @@
 //! What a query with the policy written into it answers, over unmasked rows: its definition, carried out.
 #![tactic(auto)]
 
+mod answers;
+mod audit_conditions;
 mod cells;
 mod conditions;
 mod queries;
 mod walks;
 
+pub use answers::{ANSWER_LIMIT, EvalFault, evaluate};
+pub use audit_conditions::unmasked_condition;
 pub use cells::{LentCell, cell};
 pub use conditions::test;
 pub use queries::{passes, project};

@@ -1,12 +1,11 @@
 -- One row more, with all that may follow it.
-use Rattle.std.proofs.Common.{◌≡◌, ◌+◌, ◌++◌, List, [], ◌∷◌, take, drop, Ok, sym, ap, subst, ◌∙◌, Some, slice_get, arith}
+use Rattle.std.proofs.Common.{◌≡◌, ◌+◌, ◌++◌, [], ◌∷◌, take, drop, ap, ◌∙◌, Some, slice_get, arith}
 use Rattle.std.specs.List.{flat_map}
 use Rattle.std.proofs.lemmas.List.{take_all}
 use Rattle.hippo_model.specs.declared.born_row.BornRow.{BornRow}
 use Rattle.hippo_model.specs.Terms.{Combination}
 use Rattle.hippo_model.specs.Answers.{product}
-use Rattle.hippo_eval.specs.declared.walks.Onward.{Onward}
-use Rattle.hippo_eval.specs.Walks.{rows_of, continued, KeptAfter}
+use Rattle.hippo_eval.specs.Walks.{rows_of, continued}
 use Rattle.hippo_eval.proofs.WalkLemmas.{beginning, without_last}
 use Rattle.hippo_eval.proofs.KeptLemmas.{kept_more, kept_enough, born_row, product_at}
 use Rattle.hippo_eval.proofs.walks.+walk_from.Goals as goal

@@ -1,0 +1,19 @@
+-- What is answered, and when an answer has too many rows.
+use Rattle.std.specs.Prelude.{◌≡◌, ℕ, ◌<◌, ◌≤◌, ◌&&◌, List, length, map, filter, Result, Ok, Err}
+use Rattle.hippo_model.specs.declared.query.Masked.{Masked}
+use Rattle.hippo_model.specs.Terms.{Combination, ShownRow}
+use Rattle.hippo_model.specs.Masking.{Choices, is_guarded, masked_passes, masked_items}
+use Rattle.hippo_eval.specs.declared.answers.EvalFault.{EvalFault}
+use Rattle.hippo_eval.specs.declared.answers.EvalFault.TheVariants.{TooManyRows, Memory}
+
+-- the rows that a query makes of some combinations
+abbrev pub masked_rows : Choices → Masked → List Combination → List ShownRow
+masked_rows choices query combinations =
+    map (masked_items choices query)
+    (filter (λ rows. is_guarded choices query rows && masked_passes choices query rows) combinations)
+
+-- what is answered where these are the rows: them, or that they are too many; or want of memory
+abbrev pub IsAnswered : ℕ → List ShownRow → Result (List ShownRow) EvalFault → Type 0
+IsAnswered limit rows (Ok answer) = (answer ≡ rows) × (length rows ≤ limit)
+IsAnswered limit rows (Err TooManyRows) = limit < length rows
+IsAnswered limit rows (Err Memory) = Unit {0}
