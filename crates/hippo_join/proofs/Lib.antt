@@ -6,3 +6,4 @@ pub mod LookupLemmas
 pub mod PartLemmas
 pub mod PruneLemmas
 pub mod ReachLemmas
+pub mod FindingLemmas

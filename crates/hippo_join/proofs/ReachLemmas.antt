@@ -7,6 +7,7 @@ use Rattle.hippo_model.specs.declared.query.Expr.{Expr}
 use Rattle.std.proofs.lemmas.List.{set-set}
 use Rattle.std.proofs.lemmas.List.Elements.{Contains-append_left, Contains-push}
 use Rattle.std.specs.Option.{IfSome}
+use Rattle.std.specs.Prelude.{Result, Ok, Err, IfOk}
 use Rattle.std.specs.Cmp.{tied_itself}
 use Rattle.std.specs.declared.cmp.Ordering.TheVariants.{Equal}
 use Rattle.std.proofs.lemmas.Bool.{false≢true}
@@ -101,3 +102,7 @@ length-unchosen slots n m none same = ap length none ∙ long n ∙ same
     long : (n : ℕ) → length (replicate {A = Option Place} n None) ≡ n
     long zero = refl
     long (suc n) = ap suc (long n)
+
+pub ok-then : {T E : Type 0} (P Q : T → Type 0) (r : Result T E) → IfOk r P → ((x : T) → P x → Q x) → IfOk r Q
+ok-then P Q (Ok x) p next = next x p
+ok-then P Q (Err e) p next = tt

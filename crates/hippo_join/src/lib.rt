@@ -1,9 +1,11 @@
 //! Planned joins, and the first rows that a query and an audit share.
 #![tactic(auto)]
 
+mod finding;
 mod known;
 mod lookups;
 mod reaching;
 mod sides;
 mod steps;
+mod stops;
 mod ties;
