@@ -20,8 +20,10 @@ use Rattle.hippo_join.specs.declared.stops.Stop.TheVariants.{TooManyRows, Memory
 use Rattle.hippo_join.specs.declared.steps.Step.{Step}
 use Rattle.hippo_join.specs.Places.{Fits, chosen, in_range, stays, stands}
 use Rattle.hippo_join.specs.Known.{is_chosen}
+use Rattle.hippo_join.specs.Steps.{ReachesFrom}
 use Rattle.hippo_join.specs.Finding.{has_places, Covers, AllCount, Grows, IsFound, HasOneMore, IsAdded}
-use Rattle.hippo_join.proofs.SlotLemmas.{Fits-whole}
+use Rattle.hippo_join.proofs.SlotLemmas.{Fits-set, Fits-whole}
+use Rattle.hippo_join.proofs.PruneLemmas.{long-enough}
 
 -- a test of places, one table after the other
 pub in_range-drop : (sets : List KeyedRows) (places : List Place) (i : ℕ) (set : KeyedRows) (place : Place) → slice_get sets i ≡ Some set → slice_get places i ≡ Some place → in_range (drop i sets) (drop i places) ≡ (nat_lt place (length set.rows) && in_range (drop (i + 1) sets) (drop (i + 1) places))
@@ -168,3 +170,49 @@ covers-more step steps slots place covers here table within =
         | inr later ↦ inr later
       ]
     ]
+
+pub unchosen-same : (slots : List (Option Place)) (table : Place) → is_chosen slots table ≡ false → slice_set slots table None ≡ slots
+unchosen-same [] table none = by_case table
+  where
+    by_case : (table : Place) → slice_set {A = Option Place} [] table None ≡ []
+    by_case zero = refl
+    by_case (suc table) = refl
+unchosen-same (None ∷ slots) zero none = refl
+unchosen-same (Some place ∷ slots) zero none = absurd (false≢true (sym none))
+unchosen-same (slot ∷ slots) (suc table) none = ap (λ l. slot ∷ l) (unchosen-same slots table none)
+
+module _ (choices : Choices) (query : Masked) (sets : List KeyedRows) where
+  -- a place more of a step's was tried
+  pub so-far-more : (slots : List (Option Place)) (table : Place) (some : List Place) (i : ℕ) (before after : List (List Place)) → Grows choices query sets before after
+      → ((places : List Place) → Fits (slice_set slots table (Some (get_or some i 0))) places → stands choices query sets places ≡ true → has_places places after ≡ true)
+      → ((places : List Place) → Fits slots places → stands choices query sets places ≡ true → (k : ℕ) → k < i → slice_get places table ≡ Some (get_or some k 0) → has_places places before ≡ true)
+      → (places : List Place) → Fits slots places → stands choices query sets places ≡ true → (k : ℕ) → k < i + 1 → slice_get places table ≡ Some (get_or some k 0) → has_places places after ≡ true
+  so-far-more slots table some i before after grows found so_far places fits counts k lower at =
+      elim (below_or_at k i lower) as (λ _. has_places places after ≡ true) [
+        | inl earlier ↦ grows.keeps places (so_far places fits counts k earlier at)
+        | inr here ↦
+          let at_i : slice_get places table ≡ Some (get_or some i 0) = at ∙ ap (λ j. Some (get_or some j 0)) here in
+          found places (Fits-set slots places table (get_or some i 0) fits at_i) counts
+      ]
+    where
+      below_or_at : (k n : ℕ) → k < n + 1 → (k < n) ⊎ (k ≡ n)
+      below_or_at k n lower = grind arith
+
+  -- all places of a step's were tried
+  pub all-tried : (slots : List (Option Place)) (table : Place) (some : List Place) (i : ℕ) (found : List (List Place)) → table < length sets → length some ≤ i → ReachesFrom choices query sets slots table some
+      → ((places : List Place) → Fits slots places → stands choices query sets places ≡ true → (k : ℕ) → k < i → slice_get places table ≡ Some (get_or some k 0) → has_places places found ≡ true)
+      → (places : List Place) → Fits slots places → stands choices query sets places ≡ true → has_places places found ≡ true
+  all-tried slots table some i found within past reaches so_far places fits counts =
+      let long = long-enough choices query sets places counts in
+      let at = slice_get-get_or places table 0 (omega (arith, long)) in
+      let has = reaches places fits counts (get_or places table 0) at in
+      so_far places fits counts has.0 (omega (arith, has.1)) (at ∙ ap Some (sym (get_or_default some has.0 (get_or places table 0) 0 has.1 ∙ has.2)))
+    where
+      get_or_default : (xs : List ℕ) (k d e : ℕ) → k < length xs → get_or xs k e ≡ get_or xs k d
+      get_or_default [] k d e within = absurd (omega arith)
+      get_or_default (x ∷ xs) zero d e within = refl
+      get_or_default (x ∷ xs) (suc k) d e within = get_or_default xs k d e (omega arith)
+
+  -- where nothing that counts has the rows that are chosen
+  pub nothing-fits : (slots : List (Option Place)) (limit : ℕ) (found : List (List Place)) (may : Bool) → may ≡ false → ((places : List Place) → Fits slots places → stands choices query sets places ≡ true → may ≡ true) → IsFound choices query sets slots limit found (Ok tt)
+  nothing-fits slots limit found may not_may all = λ places fits counts. absurd (false≢true (sym not_may ∙ all places fits counts))

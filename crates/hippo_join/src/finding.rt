@@ -117,11 +117,33 @@ impl<'a, C: ChoiceView> Side<'a, C> {
             (slice_set slots.old step.now.table (Some place)) ANSWER_LIMIT found.new.keys result }
     {
         slots[step.table] = Some(place);
-        if self.may_count(alloc, &step.tests, slots)? {
-            self.find(alloc, rest, slots, found)?;
-        }
+        self.find_behind(alloc, &step.tests, rest, slots, found)?;
         slots[step.table] = None;
         Ok(())
+    }
+
+    // Finds all combinations that count and have the rows that are chosen, if some parts of the condition allow it.
+    #[cycle(find)]
+    fn find_behind(
+        &self,
+        alloc: Global,
+        tests: &[usize],
+        rest: &[Step],
+        slots: &mut [Option<usize>],
+        found: &mut BTreeSet<Places>,
+    ) -> Result<(), Stop>
+        requires long { length slots.old ≡ length self.now.sets.now }
+        requires steps { All (IsStep (C.choices self.now.choices.now) self.now.query.now self.now.sets.now) rest.now }
+        requires covers { Covers rest.now slots.old }
+        ensures slots { OnOk result (slots.new ≡ slots.old) }
+        ensures grows { Grows (C.choices self.now.choices.now) self.now.query.now self.now.sets.now found.old.keys found.new.keys }
+        ensures found { IsFound (C.choices self.now.choices.now) self.now.query.now self.now.sets.now slots.old ANSWER_LIMIT found.new.keys result }
+    {
+        if self.may_count(alloc, tests, slots)? {
+            self.find(alloc, rest, slots, found)
+        } else {
+            Ok(())
+        }
     }
 
     // Finds all combinations that count and have the rows that are chosen.
