@@ -1,7 +1,7 @@
 -- What is found while a join goes on.
 use Rattle.std.proofs.Common.{◌≡◌, ℕ, zero, suc, ◌+◌, ◌<◌, ◌≤◌, Bool, true, false, ◌&&◌, ◌||◌, cond, List, [], ◌∷◌, map, length, drop, nat_lt, refl, sym, ap, subst, ◌∙◌, Option, Some, None, unwrap_or, inl, inr, ◌⊎◌, arith, add-one, get_or, length-set}
 use Rattle.std.specs.Prelude.{slice_get, slice_set, is_some, Result, Ok, Err}
-use Rattle.std.specs.List.{list_any, Contains}
+use Rattle.std.specs.List.{list_any, Contains, All}
 use Rattle.std.specs.Ordering.{is_eq, nat_cmp}
 use Rattle.std.specs.Cmp.Lexicographic.{slice_cmp}
 use Rattle.std.specs.Cmp.{eq_by_cmp_equiv}
@@ -216,3 +216,22 @@ module _ (choices : Choices) (query : Masked) (sets : List KeyedRows) where
   -- where nothing that counts has the rows that are chosen
   pub nothing-fits : (slots : List (Option Place)) (limit : ℕ) (found : List (List Place)) (may : Bool) → may ≡ false → ((places : List Place) → Fits slots places → stands choices query sets places ≡ true → may ≡ true) → IsFound choices query sets slots limit found (Ok tt)
   nothing-fits slots limit found may not_may all = λ places fits counts. absurd (false≢true (sym not_may ∙ all places fits counts))
+
+-- the first of some steps, and the others
+pub all-first : {X : Type 0} (P : X → Type 0) (xs : List X) (x : X) (rest : List X) → All P xs → xs ≡ x ∷ rest → P x
+all-first P xs x rest all is = let each : All P (x ∷ rest) = subst (λ l. All P l) is all in each 0 x (omega arith)
+
+pub all-rest : {X : Type 0} (P : X → Type 0) (xs : List X) (x : X) (rest : List X) → All P xs → xs ≡ x ∷ rest → All P rest
+all-rest P xs x rest all is = let each : All P (x ∷ rest) = subst (λ l. All P l) is all in λ k d within. each (suc k) d (omega arith)
+
+pub covers-first : (steps : List Step) (step : Step) (rest : List Step) (slots : List (Option Place)) → Covers steps slots → steps ≡ step ∷ rest → Covers (step ∷ rest) slots
+covers-first steps step rest slots covers is = let P : List Step → Type 0 = λ l. Covers l slots in subst P is covers
+
+pub covers-past : (step : Step) (rest : List Step) (slots : List (Option Place)) → Covers (step ∷ rest) slots → length slots ≤ step.table → Covers rest slots
+covers-past step rest slots covers past table within = elim (covers table within) as (λ _. (is_chosen slots table ≡ true) ⊎ Contains (map (λ s. s.table) rest) table) [
+  | inl before ↦ inl before
+  | inr left ↦ elim (first_or_later step.table (map (λ s. s.table) rest) table left) as (λ _. (is_chosen slots table ≡ true) ⊎ Contains (map (λ s. s.table) rest) table) [
+    | inl here ↦ absurd (omega arith)
+    | inr later ↦ inr later
+  ]
+]

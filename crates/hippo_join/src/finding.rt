@@ -165,7 +165,10 @@ impl<'a, C: ChoiceView> Side<'a, C> {
         let Some((step, rest)) = steps.split_first() else {
             return self.add_chosen(alloc, slots, found);
         };
-        if step.table >= slots.len() || is_chosen(slots, step.table) {
+        if step.table >= slots.len() {
+            return self.find(alloc, rest, slots, found);
+        }
+        if is_chosen(slots, step.table) {
             return self.find(alloc, rest, slots, found);
         }
         for place in self.places_of(step, slots) {
