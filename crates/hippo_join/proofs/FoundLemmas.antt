@@ -20,9 +20,9 @@ use Rattle.hippo_model.specs.RowSets.{KeyedRows}
 use Rattle.hippo_model.specs.Answers.{product}
 use Rattle.hippo_model.specs.Masking.{Choices, masked_items, masked_answer}
 use Rattle.hippo_eval.specs.Walks.{rows_of}
-use Rattle.hippo_join.specs.Finding.{has_places}
+use Rattle.hippo_join.specs.Finding.{has_places, IsRising}
 use Rattle.hippo_join.specs.Places.{chosen, in_range, places_of, stays, stands}
-use Rattle.hippo_join.proofs.ProductLemmas.{IsRising, Below, product-rows, has-places_of, rising-places_of, filter-map, map-map}
+use Rattle.hippo_join.proofs.ProductLemmas.{Below, product-rows, has-places_of, rising-places_of, filter-map, map-map}
 
 total : IsTotalOrder (slice_cmp nat_cmp)
 total = nat_list_cmp_total

@@ -16,7 +16,7 @@ use Rattle.hippo_model.specs.Terms.{Combination, Place}
 use Rattle.hippo_model.specs.RowSets.{KeyedRows}
 use Rattle.hippo_model.specs.Answers.{product}
 use Rattle.hippo_eval.specs.Walks.{rows_of}
-use Rattle.hippo_join.specs.Finding.{has_places}
+use Rattle.hippo_join.specs.Finding.{has_places, IsRising}
 use Rattle.hippo_join.specs.Places.{blank, row_at, rows_at, chosen, in_range, places_of}
 
 module _ {A B : Type 0} where
@@ -126,9 +126,6 @@ has-places_of (set ∷ sets) (place ∷ places) =
 -- ---- the order of the product
 abbrev pub Below : List Place → List (List Place) → Type 0
 Below first rest = AllByRecursion (λ other. slice_cmp nat_cmp first other ≡ Less) rest
-
-abbrev pub IsRising : List (List Place) → Type 0
-IsRising some = IsStrictlySortedBy (slice_cmp nat_cmp) some
 
 All-append : {X : Type 0} (P : X → Type 0) (xs ys : List X) → AllByRecursion P xs → AllByRecursion P ys → AllByRecursion P (xs ++ ys)
 All-append P [] ys a b = b

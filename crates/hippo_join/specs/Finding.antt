@@ -1,6 +1,7 @@
 -- What a join finds: the places of all combinations that count.
 use Rattle.std.specs.Prelude.{◌≡◌, ℕ, ◌<◌, Bool, true, ◌||◌, List, length, map, Option, Result, Ok, Err, ◌⊎◌}
 use Rattle.std.specs.List.{list_any, Contains}
+use Rattle.std.specs.List.Sorted.{IsStrictlySortedBy}
 use Rattle.std.specs.Ordering.{is_eq, nat_cmp}
 use Rattle.std.specs.Cmp.Lexicographic.{slice_cmp}
 use Rattle.hippo_model.specs.declared.query.Masked.{Masked}
@@ -16,6 +17,10 @@ use Rattle.hippo_join.specs.Known.{is_chosen}
 -- whether places stand in a list
 abbrev pub has_places : List Place → List (List Place) → Bool
 has_places places some = list_any (λ other. is_eq (slice_cmp nat_cmp places other)) some
+
+-- combinations that stand in the order of the product
+abbrev pub IsRising : List (List Place) → Type 0
+IsRising some = IsStrictlySortedBy (slice_cmp nat_cmp) some
 
 -- each table's row is chosen, or is to be chosen by a step
 abbrev pub Covers : List Step → List (Option Place) → Type 0

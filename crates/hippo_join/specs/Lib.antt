@@ -4,3 +4,4 @@ pub mod Lookups
 pub mod Ties
 pub mod Steps
 pub mod Finding
+pub mod Plans

@@ -1,6 +1,6 @@
 -- The steps of a join: a table at a time, and which of its rows may follow those that are chosen.
-use Rattle.std.specs.Prelude.{◌≡◌, true, List, slice_get, Option, Some, IfSome}
-use Rattle.std.specs.List.{Contains}
+use Rattle.std.specs.Prelude.{◌≡◌, true, List, map, slice_get, Option, Some, IfSome}
+use Rattle.std.specs.List.{All, Contains}
 use Rattle.hippo_model.specs.declared.query.Masked.{Masked}
 use Rattle.hippo_model.specs.Terms.{Place}
 use Rattle.hippo_model.specs.RowSets.{KeyedRows}
@@ -30,3 +30,8 @@ pub record IsStep (choices : Choices) (query : Masked) (sets : List KeyedRows) (
       → AreEqual (chosen sets places) (record { table = step.table; column = tie.column }) tie.other)
   pub ordered : IfSome step.tie (λ tie. (set : KeyedRows) → slice_get sets step.table ≡ Some set
       → IsByColumn set tie.column step.places.items)
+
+-- the steps of tables in an order
+pub record AreSteps (choices : Choices) (query : Masked) (sets : List KeyedRows) (order : List Place) (steps : List Step) : Type 0 where
+  pub each : All (IsStep choices query sets) steps
+  pub tables : map (λ step. step.table) steps ≡ order

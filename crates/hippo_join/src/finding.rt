@@ -33,7 +33,7 @@ fn insert(found: &mut BTreeSet<Places>, places: Places) -> Result<(), Memory>
     Ok(())
 }
 
-fn check_limit(found: &BTreeSet<Places>) -> Result<(), Stop>
+pub(crate) fn check_limit(found: &BTreeSet<Places>) -> Result<(), Stop>
     ensures { MatchResult result (λ _. length found.now.keys ≤ ANSWER_LIMIT) (λ fault. (fault ≡ TooManyRows) × (ANSWER_LIMIT < length found.now.keys)) }
 {
     if found.len() > ANSWER_LIMIT {

@@ -5,6 +5,7 @@ mod finding;
 mod known;
 mod lookups;
 mod reaching;
+mod run;
 mod sides;
 mod steps;
 mod stops;

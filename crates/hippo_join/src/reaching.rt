@@ -1,12 +1,12 @@
 //! Which rows of a table may follow those that are chosen.
 ghost use Rattle.std.specs.Prelude.{◌≡◌, ◌<◌, ℕ, true, None, Some, List, [], ◌∷◌, ◌++◌, if◌then◌else◌, OnOk, IfOk, length, replicate, slice_get};
-ghost use Rattle.std.specs.List.{Contains};
+ghost use Rattle.std.specs.List.{All, Contains};
 ghost use Rattle.std.specs.List.Sorted.{IsPermutation};
 ghost use Rattle.hippo_model.specs.Terms.{Place};
 ghost use Rattle.hippo_join.specs.Places.{chosen, Fits, stands};
 ghost use Rattle.hippo_join.specs.Lookups.{IsByColumn};
 ghost use Rattle.hippo_join.specs.Ties.{AreEqual};
-ghost use Rattle.hippo_join.specs.Steps.{Reaches, ReachesFrom, IsStep};
+ghost use Rattle.hippo_join.specs.Steps.{Reaches, ReachesFrom, IsStep, AreSteps};
 
 use crate::known::{knows, knows_expr, slot_at};
 use crate::lookups::{known_value, sort_by_column, with_value};
@@ -167,5 +167,57 @@ impl<'a, C: ChoiceView> Side<'a, C> {
             None => step.places.as_slice(),
             Some(tie) => self.tied_places(step, tie, slots),
         }
+    }
+
+    // The parts of the condition that can be tested once a row more is chosen, and not with that row alone.
+    fn tests_after(
+        &self,
+        alloc: Global,
+        before: &[Option<usize>],
+        after: &[Option<usize>],
+        alone: &[Option<usize>],
+    ) -> Result<Vec<usize>, Memory> {
+        let mut tests = Vec::new(alloc);
+        for (place, part) in outer_parts(&self.query.cond).iter().enumerate() {
+            if knows(part, after) && !knows(part, before) && !knows(part, alone) {
+                tests.push(place)?;
+            }
+        }
+        Ok(tests)
+    }
+
+    // The parts of the condition that are tested where a table's row is chosen: none where it is the last, since the whole
+    // condition is tested then.
+    fn tests_at(
+        &self,
+        alloc: Global,
+        table: usize,
+        slots: &[Option<usize>],
+    ) -> Result<Vec<usize>, Memory>
+        requires { table < length slots.now }
+    {
+        let mut after = Vec::from_slice(alloc, slots)?;
+        after[table] = Some(0);
+        if after.iter().all(|slot| slot.is_some()) {
+            return Ok(Vec::new(alloc));
+        }
+        let mut alone = open_slots(alloc, slots.len())?;
+        alone[table] = Some(0);
+        self.tests_after(alloc, slots, &after, &alone)
+    }
+
+    // The steps of a join, in an order of tables.
+    pub(crate) fn steps(&self, alloc: Global, order: &[usize]) -> Result<Vec<Step>, Memory>
+        requires { All (λ table. table < length self.now.sets.now) order.now }
+        ensures { IfOk result (λ steps. AreSteps (C.choices self.now.choices.now) self.now.query.now self.now.sets.now order.now steps.items) }
+    {
+        let mut slots = open_slots(alloc, self.sets.len())?;
+        let mut steps = Vec::new(alloc);
+        for table in order {
+            let tests = self.tests_at(alloc, *table, &slots)?;
+            steps.push(self.step(alloc, *table, &slots, tests)?)?;
+            slots[*table] = Some(0);
+        }
+        Ok(steps)
     }
 }
