@@ -1,7 +1,12 @@
 -- What is found while a join goes on.
-use Rattle.std.proofs.Common.{◌≡◌, ℕ, zero, suc, ◌+◌, ◌<◌, ◌≤◌, Bool, true, false, ◌&&◌, ◌||◌, cond, List, [], ◌∷◌, map, length, drop, nat_lt, refl, sym, ap, subst, ◌∙◌, Option, Some, None, unwrap_or, inl, inr, ◌⊎◌, arith, add-one, get_or, length-set}
-use Rattle.std.specs.Prelude.{slice_get, slice_set, is_some, Result, Ok, Err}
-use Rattle.std.specs.List.{list_any, Contains, All}
+use Rattle.std.proofs.Common.{◌≡◌, ℕ, zero, suc, ◌+◌, ◌<◌, ◌≤◌, Bool, true, false, ◌&&◌, ◌||◌, cond, List, [], ◌∷◌, map, length, drop, nat_lt, refl, sym, ap, subst, ◌∙◌, Option, Some, None, unwrap_or, inl, inr, ◌⊎◌, arith, add-one, get_or, length-set, take, ◌++◌, replicate, zero-add}
+use Rattle.std.specs.Prelude.{slice_get, slice_set, Result, Ok, Err, OnOk}
+use Rattle.std.specs.List.{list_any, Contains, All, range_with_len}
+use Rattle.std.specs.List.Sorted.{IsPermutation}
+use Rattle.std.proofs.lemmas.List.{take_more}
+use Rattle.std.proofs.lemmas.List.Elements.{All-push}
+use Rattle.std.proofs.lemmas.List.FromFn.{get_or-range_with_len, length-range_with_len}
+use Rattle.std.proofs.lemmas.List.Sorted.{All-permutation, Contains-permutation}
 use Rattle.std.specs.Ordering.{is_eq, nat_cmp}
 use Rattle.std.specs.Cmp.Lexicographic.{slice_cmp}
 use Rattle.std.specs.Cmp.{eq_by_cmp_equiv}
@@ -20,9 +25,9 @@ use Rattle.hippo_join.specs.declared.stops.Stop.TheVariants.{TooManyRows, Memory
 use Rattle.hippo_join.specs.declared.steps.Step.{Step}
 use Rattle.hippo_join.specs.Places.{Fits, chosen, in_range, stays, stands}
 use Rattle.hippo_join.specs.Known.{is_chosen}
-use Rattle.hippo_join.specs.Steps.{ReachesFrom}
+use Rattle.hippo_join.specs.Steps.{ReachesFrom, IsStep, AreSteps}
 use Rattle.hippo_join.specs.Finding.{has_places, Covers, AllCount, Grows, IsFound, HasOneMore, IsAdded}
-use Rattle.hippo_join.proofs.SlotLemmas.{Fits-set, Fits-whole}
+use Rattle.hippo_join.proofs.SlotLemmas.{Fits-open, Fits-set, Fits-whole}
 use Rattle.hippo_join.proofs.PruneLemmas.{long-enough}
 
 -- a test of places, one table after the other
@@ -235,3 +240,45 @@ covers-past step rest slots covers past table within = elim (covers table within
     | inr later ↦ inr later
   ]
 ]
+
+map_push : {A B : Type 0} (f : A → B) (xs : List A) (x : A) → map f (xs ++ x ∷ []) ≡ map f xs ++ f x ∷ []
+map_push f [] x = refl
+map_push f (y ∷ xs) x = ap (λ l. f y ∷ l) (map_push f xs x)
+
+same_tests : (a b : Bool) → (a ≡ true → b ≡ true) → (b ≡ true → a ≡ true) → a ≡ b
+same_tests true b there back = sym (there refl)
+same_tests false true there back = back refl
+same_tests false false there back = refl
+
+module _ (choices : Choices) (query : Masked) (sets : List KeyedRows) where
+  -- one step more
+  pub steps-more : (order : List Place) (i : ℕ) (steps more : List Step) (step : Step) → AreSteps choices query sets (take i order) steps → IsStep choices query sets step → step.table ≡ get_or order i 0 → i < length order → more ≡ steps ++ step ∷ [] → AreSteps choices query sets (take (i + 1) order) more
+  steps-more order i steps more step so_far is_step at within pushed = record {
+    each = subst (λ l. All (IsStep choices query sets) l) (sym pushed) (All-push (IsStep choices query sets) steps step so_far.each is_step);
+    tables =
+    ap (λ (l : List Step). map (λ s. s.table) l) pushed ∙ map_push (λ (s : Step). s.table) steps step ∙ (λ j. so_far.tables j ++ at j ∷ []) ∙ sym (take_more order i 0 within)
+  }
+
+  -- at the beginning the steps cover all tables
+  pub covers-all : (order : List Place) (steps here : List Step) (slots : List (Option Place)) → AreSteps choices query sets order steps → here ≡ steps → length slots ≡ length sets → ((table : Place) → table < length sets → Contains order table) → Covers here slots
+  covers-all order steps here slots are same long whole table within =
+      let tables : map (λ (s : Step). s.table) here ≡ order = ap (λ (l : List Step). map (λ s. s.table) l) same ∙ are.tables in
+      inr (subst (λ (l : List Place). Contains l table) (sym tables) (whole table (omega arith)))
+
+  pub none-count : (some : List (List Place)) → some ≡ [] → AllCount choices query sets some
+  none-count some none places has = absurd (false≢true (sym (ap (has_places places) none) ∙ has))
+
+  -- at the end exactly what counts was found
+  pub found-exact : (slots : List (Option Place)) (limit : ℕ) (found : List (List Place)) (result : Result (Unit {0}) Stop) → slots ≡ replicate (length sets) None → AllCount choices query sets found → IsFound choices query sets slots limit found result
+      → OnOk result ((places : List Place) → has_places places found ≡ stands choices query sets places)
+  found-exact slots limit found (Ok done) unchosen sound all = λ places.
+      same_tests (has_places places found) (stands choices query sets places) (sound places) (λ counts.
+        all places (subst (λ (s : List (Option Place)). Fits s places) (sym unchosen) (Fits-open places (length sets) (long-enough choices query sets places counts))) counts)
+  found-exact slots limit found (Err stop) unchosen sound all = tt
+
+-- an order that has each table once
+pub below-order : (n : ℕ) (order : List Place) → IsPermutation (range_with_len 0 n) order → All (λ table. table < n) order
+below-order n order moved = All-permutation (λ table. table < n) (range_with_len 0 n) order moved (λ k d within. let l : k < n = simp length-range_with_len at within in rw (get_or-range_with_len 0 n k d l) (omega arith))
+
+pub whole-order : (n : ℕ) (order : List Place) → IsPermutation (range_with_len 0 n) order → (table : Place) → table < n → Contains order table
+whole-order n order moved table within = Contains-permutation (range_with_len 0 n) order table moved (table, simp length-range_with_len within, get_or-range_with_len 0 n table table within ∙ zero-add table)
