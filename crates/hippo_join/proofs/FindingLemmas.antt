@@ -282,3 +282,8 @@ below-order n order moved = All-permutation (λ table. table < n) (range_with_le
 
 pub whole-order : (n : ℕ) (order : List Place) → IsPermutation (range_with_len 0 n) order → (table : Place) → table < n → Contains order table
 whole-order n order moved table within = Contains-permutation (range_with_len 0 n) order table moved (table, simp length-range_with_len within, get_or-range_with_len 0 n table table within ∙ zero-add table)
+
+-- one row more of an answer
+pub map-more : {A B : Type 0} (f : A → B) (xs : List A) (i : ℕ) (made more : List B) (x here : A) (y : B) → made ≡ map f (take i xs) → i < length xs → x ≡ get_or xs i x → here ≡ x → y ≡ f here → more ≡ made ++ y ∷ [] → more ≡ map f (take (i + 1) xs)
+map-more f xs i made more x here y so_far within at same is pushed =
+    pushed ∙ (λ j. so_far j ++ is j ∷ []) ∙ sym (map_push f (take i xs) here) ∙ ap (map f) (ap (λ z. take i xs ++ z ∷ []) (same ∙ at) ∙ sym (take_more xs i x within))

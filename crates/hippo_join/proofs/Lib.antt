@@ -7,3 +7,4 @@ pub mod PartLemmas
 pub mod PruneLemmas
 pub mod ReachLemmas
 pub mod FindingLemmas
+pub mod AnswerLemmas

@@ -5,3 +5,4 @@ pub mod Ties
 pub mod Steps
 pub mod Finding
 pub mod Plans
+pub mod Joining

@@ -2,11 +2,13 @@
 #![tactic(auto)]
 
 mod finding;
+mod joins;
 mod known;
 mod lookups;
 mod reaching;
-mod run;
 mod sides;
 mod steps;
 mod stops;
 mod ties;
+
+pub use joins::run;

@@ -8,6 +8,7 @@ ghost use Rattle.hippo_eval.specs.Walks.{rows_of};
 ghost use Rattle.hippo_join.specs.declared.stops.Stop.TheVariants.{TooManyRows};
 ghost use Rattle.hippo_join.specs.Places.{blank, chosen, stands};
 ghost use Rattle.hippo_join.specs.Finding.{AllCount, IsRising, has_places};
+ghost use Rattle.hippo_join.specs.Joining.{IsJoined};
 ghost use Rattle.hippo_join.specs.Plans.{IsPlanOf};
 
 use crate::finding::check_limit;
@@ -87,5 +88,78 @@ impl<'a, C: ChoiceView> Side<'a, C> {
             answer.push(self.answer_row(alloc, places.as_slice())?)?;
         }
         Ok(Sequence::from_vec(answer))
+    }
+
+    // The answer, where all combinations that count are found.
+    fn answer_found(&self, alloc: Global, found: BTreeSet<Places>) -> Result<Answer, Stop>
+        requires order { IsRising found.keys }
+        requires exact { (places : List Place) → has_places places found.keys ≡ stands (C.choices self.now.choices.now) self.now.query.now self.now.sets.now places }
+        ensures { IsJoined ANSWER_LIMIT (masked_answer (C.choices self.now.choices.now) self.now.query.now (rows_of self.now.sets.now)) result }
+    {
+        check_limit(&found)?;
+        let found = in_order(alloc, found)?;
+        Ok(self.answer_rows(alloc, &found)?)
+    }
+
+    // The answer, by joins of the tables in an order.
+    fn answer(&self, alloc: Global, order: &[usize]) -> Result<Answer, Stop>
+        requires below { All (λ table. table < length self.now.sets.now) order.now }
+        requires whole { (table : Place) → table < length self.now.sets.now → Contains order.now table }
+        ensures { IsJoined ANSWER_LIMIT (masked_answer (C.choices self.now.choices.now) self.now.query.now (rows_of self.now.sets.now)) result }
+    {
+        let mut found = BTreeSet::new(alloc);
+        self.find_all(alloc, order, &mut found)?;
+        self.answer_found(alloc, found)
+    }
+}
+
+fn run_within<C: ChoiceView>(
+    alloc: Global,
+    plan: &Plan,
+    query: &Masked,
+    sets: &Sets<'_>,
+    choices: &C,
+) -> Result<Answer, Stop>
+    requires sets { length sets.now ≡ length query.now.tables }
+    requires plan { IsPlanOf query.now plan.now }
+    ensures { IsJoined ANSWER_LIMIT (masked_answer (C.choices choices.now) query.now (rows_of sets.now)) result }
+{
+    let blank = blank_row(alloc)?;
+    let side = Side {
+        query,
+        sets,
+        choices,
+        blank: &blank,
+    };
+    let answer = side.answer(alloc, plan.order.as_slice());
+    let Side {
+        query: _,
+        sets: _,
+        choices: _,
+        blank: _,
+    } = side;
+    answer
+}
+
+/// The answer of a query with the policy written into it, by joins of its tables in a plan's order: the same as that of
+/// `evaluate`, whatever the plan. Wants a plan of the query, and the rows of each of its tables. TooManyRows exactly where
+/// the answer has more than 100,000 rows. Where the query's outermost AND has an equality of columns of two tables, only
+/// rows whose values are equal are looked at, so that the time is in proportion to the tables and what matches; memory is
+/// in proportion to the tables and the answer.
+pub fn run<C: ChoiceView>(
+    alloc: Global,
+    plan: &Plan,
+    query: &Masked,
+    sets: &Sets<'_>,
+    choices: &C,
+) -> Result<Answer, EvalFault>
+    requires sets { length sets.now ≡ length query.now.tables }
+    requires plan { IsPlanOf query.now plan.now }
+    ensures { IsAnswered ANSWER_LIMIT (masked_answer (C.choices choices.now) query.now (rows_of sets.now)) result }
+{
+    match run_within(alloc, plan, query, sets, choices) {
+        Ok(answer) => Ok(answer),
+        Err(Stop::TooManyRows) => Err(EvalFault::TooManyRows),
+        Err(Stop::Memory) => Err(EvalFault::Memory),
     }
 }
