@@ -1,6 +1,6 @@
 -- What a join comes to, by what it found.
 use Rattle.std.proofs.Common.{◌≡◌, ℕ, ◌<◌, ◌≤◌, suc, true, List, [], ◌∷◌, length, map, refl, sym, ap, ◌∙◌, arith}
-use Rattle.std.specs.Prelude.{Result, Ok, Err}
+use Rattle.std.specs.Prelude.{Result, Ok, Err, MatchResult}
 use Rattle.hippo_model.specs.declared.query.Masked.{Masked}
 use Rattle.hippo_model.specs.Terms.{Place, ShownRow}
 use Rattle.hippo_model.specs.RowSets.{KeyedRows}
@@ -29,3 +29,9 @@ module _ (choices : Choices) (query : Masked) (sets : List KeyedRows) (found : L
   joined-answer limit answer exact within is =
       let same = answer-found choices query sets found rising exact in
       (is ∙ same, omega (arith, sym (ap length same) ∙ length_map (λ places. masked_items choices query (chosen sets places)) found))
+
+  pub joined-listed : (limit : ℕ) (result : Result (List ShownRow) Stop) → ((places : List Place) → has_places places found ≡ stands choices query sets places) → length found ≤ limit
+      → MatchResult result (λ answer. answer ≡ map (λ places. masked_items choices query (chosen sets places)) found) (λ stop. stop ≡ Memory) → IsJoined limit whole result
+  joined-listed limit (Ok answer) exact within is = joined-answer limit answer exact within is
+  joined-listed limit (Err TooManyRows) exact within is = absurd cc
+  joined-listed limit (Err Memory) exact within is = tt

@@ -1,11 +1,11 @@
 //! The answer of a query by a planned join.
-ghost use Rattle.std.specs.Prelude.{◌≡◌, ◌<◌, ◌≤◌, [], Err, Some, List, IfOk, OnOk, length, map};
+ghost use Rattle.std.specs.Prelude.{◌≡◌, ◌<◌, ◌≤◌, [], Err, Some, List, IfOk, OnOk, MatchResult, length, map};
 ghost use Rattle.std.specs.List.{All, Contains};
 ghost use Rattle.hippo_model.specs.Terms.{Place};
 ghost use Rattle.hippo_model.specs.Masking.{masked_items, masked_answer};
 ghost use Rattle.hippo_eval.specs.Answering.{IsAnswered};
 ghost use Rattle.hippo_eval.specs.Walks.{rows_of};
-ghost use Rattle.hippo_join.specs.declared.stops.Stop.TheVariants.{TooManyRows};
+ghost use Rattle.hippo_join.specs.declared.stops.Stop.TheVariants.{TooManyRows, Memory as OfMemory};
 ghost use Rattle.hippo_join.specs.Places.{blank, chosen, stands};
 ghost use Rattle.hippo_join.specs.Finding.{AllCount, IsRising, has_places};
 ghost use Rattle.hippo_join.specs.Joining.{IsJoined};
@@ -90,15 +90,25 @@ impl<'a, C: ChoiceView> Side<'a, C> {
         Ok(Sequence::from_vec(answer))
     }
 
+    fn answer_listed(&self, alloc: Global, found: BTreeSet<Places>) -> Result<Answer, Stop>
+        ensures { MatchResult result
+            (λ answer. answer ≡ map (λ places. masked_items (C.choices self.now.choices.now) self.now.query.now (chosen self.now.sets.now places)) found.keys)
+            (λ stop. stop ≡ OfMemory) }
+    {
+        let found = in_order(alloc, found)?;
+        Ok(self.answer_rows(alloc, &found)?)
+    }
+
     // The answer, where all combinations that count are found.
     fn answer_found(&self, alloc: Global, found: BTreeSet<Places>) -> Result<Answer, Stop>
         requires order { IsRising found.keys }
         requires exact { (places : List Place) → has_places places found.keys ≡ stands (C.choices self.now.choices.now) self.now.query.now self.now.sets.now places }
         ensures { IsJoined ANSWER_LIMIT (masked_answer (C.choices self.now.choices.now) self.now.query.now (rows_of self.now.sets.now)) result }
     {
-        check_limit(&found)?;
-        let found = in_order(alloc, found)?;
-        Ok(self.answer_rows(alloc, &found)?)
+        match check_limit(&found) {
+            Ok(()) => self.answer_listed(alloc, found),
+            Err(stop) => Err(stop),
+        }
     }
 
     // The answer, by joins of the tables in an order.
@@ -108,8 +118,10 @@ impl<'a, C: ChoiceView> Side<'a, C> {
         ensures { IsJoined ANSWER_LIMIT (masked_answer (C.choices self.now.choices.now) self.now.query.now (rows_of self.now.sets.now)) result }
     {
         let mut found = BTreeSet::new(alloc);
-        self.find_all(alloc, order, &mut found)?;
-        self.answer_found(alloc, found)
+        match self.find_all(alloc, order, &mut found) {
+            Ok(()) => self.answer_found(alloc, found),
+            Err(stop) => Err(stop),
+        }
     }
 }
 
