@@ -8,3 +8,4 @@ pub mod PruneLemmas
 pub mod ReachLemmas
 pub mod FindingLemmas
 pub mod AnswerLemmas
+pub mod OrderLemmas

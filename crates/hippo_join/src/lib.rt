@@ -5,6 +5,7 @@ mod finding;
 mod joins;
 mod known;
 mod lookups;
+mod orders;
 mod reaching;
 mod sides;
 mod steps;
@@ -12,3 +13,4 @@ mod stops;
 mod ties;
 
 pub use joins::run;
+pub use orders::plan;
