@@ -1,7 +1,7 @@
 -- What is found while a join goes on.
 use Rattle.std.proofs.Common.{◌≡◌, ℕ, zero, suc, ◌+◌, ◌<◌, ◌≤◌, Bool, true, false, ◌&&◌, ◌||◌, cond, List, [], ◌∷◌, map, length, drop, nat_lt, refl, sym, ap, subst, ◌∙◌, Option, Some, None, unwrap_or, inl, inr, ◌⊎◌, arith, add-one, get_or, length-set, take, ◌++◌, replicate, zero-add}
 use Rattle.std.specs.Prelude.{slice_get, slice_set, Result, Ok, Err, OnOk}
-use Rattle.std.specs.List.{list_any, Contains, All, range_with_len}
+use Rattle.std.specs.List.{Contains, All, range_with_len}
 use Rattle.std.specs.List.Sorted.{IsPermutation}
 use Rattle.std.proofs.lemmas.List.{take_more}
 use Rattle.std.proofs.lemmas.List.Elements.{All-push}
@@ -36,6 +36,7 @@ in_range-drop sets places i set place at here = rw (add-one i) (step sets places
   where
     some_is : {A : Type 0} {a b : A} → Some a ≡ Some b → a ≡ b
     some_is e = cc
+
     step : (sets : List KeyedRows) (places : List Place) (i : ℕ) (set : KeyedRows) (place : Place) → slice_get sets i ≡ Some set → slice_get places i ≡ Some place → in_range (drop i sets) (drop i places) ≡ (nat_lt place (length set.rows) && in_range (drop (suc i) sets) (drop (suc i) places))
     step [] places i set place at here = absurd cc
     step (first ∷ sets) [] i set place at here = absurd cc
@@ -91,7 +92,7 @@ module _ (choices : Choices) (query : Masked) (sets : List KeyedRows) where
     sound = λ all other has. elim (or_cases (is_eq (slice_cmp nat_cmp other places)) (has_places other before) (sym (added other) ∙ has)) as (λ _. stands choices query sets other ≡ true) [
       | inl same ↦ ap (stands choices query sets) (same_places other places same) ∙ counts
       | inr had ↦ all other had
-    ]
+    ];
   }
 
   pub Grows-refl : (some : List (List Place)) → Grows choices query sets some some
@@ -196,8 +197,8 @@ module _ (choices : Choices) (query : Masked) (sets : List KeyedRows) where
       elim (below_or_at k i lower) as (λ _. has_places places after ≡ true) [
         | inl earlier ↦ grows.keeps places (so_far places fits counts k earlier at)
         | inr here ↦
-          let at_i : slice_get places table ≡ Some (get_or some i 0) = at ∙ ap (λ j. Some (get_or some j 0)) here in
-          found places (Fits-set slots places table (get_or some i 0) fits at_i) counts
+            let at_i : slice_get places table ≡ Some (get_or some i 0) = at ∙ ap (λ j. Some (get_or some j 0)) here in
+            found places (Fits-set slots places table (get_or some i 0) fits at_i) counts
       ]
     where
       below_or_at : (k n : ℕ) → k < n + 1 → (k < n) ⊎ (k ≡ n)
@@ -256,7 +257,7 @@ module _ (choices : Choices) (query : Masked) (sets : List KeyedRows) where
   steps-more order i steps more step so_far is_step at within pushed = record {
     each = subst (λ l. All (IsStep choices query sets) l) (sym pushed) (All-push (IsStep choices query sets) steps step so_far.each is_step);
     tables =
-    ap (λ (l : List Step). map (λ s. s.table) l) pushed ∙ map_push (λ (s : Step). s.table) steps step ∙ (λ j. so_far.tables j ++ at j ∷ []) ∙ sym (take_more order i 0 within)
+        ap (λ (l : List Step). map (λ s. s.table) l) pushed ∙ map_push (λ (s : Step). s.table) steps step ∙ (λ j. so_far.tables j ++ at j ∷ []) ∙ sym (take_more order i 0 within);
   }
 
   -- at the beginning the steps cover all tables
@@ -273,7 +274,7 @@ module _ (choices : Choices) (query : Masked) (sets : List KeyedRows) where
       → OnOk result ((places : List Place) → has_places places found ≡ stands choices query sets places)
   found-exact slots limit found (Ok done) unchosen sound all = λ places.
       same_tests (has_places places found) (stands choices query sets places) (sound places) (λ counts.
-        all places (subst (λ (s : List (Option Place)). Fits s places) (sym unchosen) (Fits-open places (length sets) (long-enough choices query sets places counts))) counts)
+      all places (subst (λ (s : List (Option Place)). Fits s places) (sym unchosen) (Fits-open places (length sets) (long-enough choices query sets places counts))) counts)
   found-exact slots limit found (Err stop) unchosen sound all = tt
 
 -- an order that has each table once

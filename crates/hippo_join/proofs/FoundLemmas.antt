@@ -1,27 +1,25 @@
 -- What is found in ascending order is what counts of the product.
-use Rattle.std.proofs.Common.{◌≡◌, ℕ, ◌≤◌, suc, Bool, true, false, ◌&&◌, ◌||◌, cond, List, [], ◌∷◌, map, length, refl, sym, ap, ◌∙◌, subst}
+use Rattle.std.proofs.Common.{◌≡◌, ◌≤◌, suc, Bool, true, false, ◌&&◌, ◌||◌, cond, List, [], ◌∷◌, map, length, refl, sym, ap, ◌∙◌}
 use Rattle.std.specs.Prelude.{filter}
-use Rattle.std.specs.List.{list_any, AllByRecursion}
 use Rattle.std.specs.List.Sorted.{IsStrictlySortedBy}
 use Rattle.std.specs.Ordering.{is_eq, nat_cmp, ordering_reverse}
 use Rattle.std.specs.declared.cmp.Ordering.{Ordering}
 use Rattle.std.specs.declared.cmp.Ordering.TheVariants.{Less, Equal, Greater}
 use Rattle.std.specs.Cmp.Lexicographic.{slice_cmp}
 use Rattle.std.specs.Cmp.{IsTotalOrder, eq_by_cmp_equiv}
-use Rattle.std.proofs.lemmas.Bool.{false≢true, and_from, and_parts}
+use Rattle.std.proofs.lemmas.Bool.{false≢true}
 use Rattle.std.proofs.lemmas.Cmp.{nat_list_cmp_total}
 use Rattle.std.proofs.lemmas.List.Kept.{IsStrictlySortedBy-filter}
 use Rattle.std.proofs.lemmas.Map.Lookups.{exact_bytes}
 use Rattle.std.proofs.lemmas.Map.Keys.{IsDistinct-from_sorted}
 use Rattle.std.proofs.lemmas.Map.Made.{length-le_from_is_member}
 use Rattle.hippo_model.specs.declared.query.Masked.{Masked}
-use Rattle.hippo_model.specs.Terms.{Place, ShownRow}
+use Rattle.hippo_model.specs.Terms.{Place}
 use Rattle.hippo_model.specs.RowSets.{KeyedRows}
-use Rattle.hippo_model.specs.Answers.{product}
 use Rattle.hippo_model.specs.Masking.{Choices, masked_items, masked_answer}
 use Rattle.hippo_eval.specs.Walks.{rows_of}
 use Rattle.hippo_join.specs.Finding.{has_places, IsRising}
-use Rattle.hippo_join.specs.Places.{chosen, in_range, places_of, stays, stands}
+use Rattle.hippo_join.specs.Places.{chosen, places_of, stays, stands}
 use Rattle.hippo_join.proofs.ProductLemmas.{Below, product-rows, has-places_of, rising-places_of, filter-map, map-map}
 
 total : IsTotalOrder (slice_cmp nat_cmp)
@@ -73,12 +71,12 @@ same_rising (c ∷ some) (d ∷ others) a b same =
     by_order (slice_cmp nat_cmp c d)
     (λ less. absurd (false≢true (sym (not_here c d others less b.0) ∙ sym (same c) ∙ here c some)))
     (λ equal. let one : c ≡ d = exact_bytes c d equal in
-      let behind : (q : List Place) → has_places q some ≡ has_places q others = λ q.
-        behind_both (is_eq (slice_cmp nat_cmp q c)) (has_places q some) (has_places q others)
-        (λ e. ap (λ (k : List Place). has_places k some) (same_places q c e) ∙ absent c some a.0)
-        (λ e. ap (λ (k : List Place). has_places k others) (same_places q c e ∙ one) ∙ absent d others b.0)
-        (same q ∙ ap (λ (k : List Place). is_eq (slice_cmp nat_cmp q k) || has_places q others) (sym one)) in
-      λ i. one i ∷ same_rising some others a.1 b.1 behind i)
+    let behind : (q : List Place) → has_places q some ≡ has_places q others = λ q.
+    behind_both (is_eq (slice_cmp nat_cmp q c)) (has_places q some) (has_places q others)
+    (λ e. ap (λ (k : List Place). has_places k some) (same_places q c e) ∙ absent c some a.0)
+    (λ e. ap (λ (k : List Place). has_places k others) (same_places q c e ∙ one) ∙ absent d others b.0)
+    (same q ∙ ap (λ (k : List Place). is_eq (slice_cmp nat_cmp q k) || has_places q others) (sym one)) in
+    λ i. one i ∷ same_rising some others a.1 b.1 behind i)
     (λ greater. absurd (false≢true (sym (not_here d c some (other_way c d greater) a.0) ∙ same d ∙ here d others)))
 
 -- what rises within other combinations is no longer than these

@@ -1,5 +1,5 @@
 -- A condition whose columns are known has the truth that it has of each combination with the rows that are chosen.
-use Rattle.std.proofs.Common.{◌≡◌, Bool, true, false, ◌&&◌, List, [], ◌∷◌, map, refl, sym, ap, subst, ◌∙◌, Option}
+use Rattle.std.proofs.Common.{◌≡◌, Bool, true, ◌&&◌, List, [], ◌∷◌, map, refl, sym, ap, subst, ◌∙◌, Option}
 use Rattle.std.specs.List.{list_all}
 use Rattle.std.proofs.lemmas.Bool.{and_parts}
 use Rattle.hippo_values.specs.declared.values.Value.{Value}
@@ -9,7 +9,6 @@ use Rattle.hippo_values.specs.declared.truths.CompareOp.TheVariants.{Eq, Ge, Le}
 use Rattle.hippo_values.specs.Truths.{truth_and, truth_or, truth_not, truth_of, comparison}
 use Rattle.hippo_model.specs.declared.query.Expr.{Expr}
 use Rattle.hippo_model.specs.declared.query.CondOf.{CondOf, CondOf-F, fold-roll-CondOf, roll-CondOf, map-CondOf, ind-CondOf}
-use Rattle.hippo_model.specs.declared.query.CondOf.TheOpen as open_
 use Rattle.hippo_model.specs.declared.query.CondOf.TheOpen.{All, Any, Not, Compare, Between, Among, Missing}
 use Rattle.hippo_model.specs.declared.query.CondOf.TheVariants as conditions
 use Rattle.hippo_model.specs.declared.query.CondOf.TheVariants.{rolls-All, rolls-Any, rolls-Not, rolls-Compare, rolls-Between, rolls-Among, rolls-Missing}

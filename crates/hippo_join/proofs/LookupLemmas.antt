@@ -1,10 +1,10 @@
 -- What a search by halves finds among values in order.
-use Rattle.std.proofs.Common.{◌≡◌, ℕ, ◌+◌, ◌-◌, ◌<◌, ◌≤◌, Bool, true, false, List, length, take, drop, refl, sym, ap, ◌∙◌, arith, get_or, length-take, length-drop, subst, inl, inr, ◌⊎◌}
+use Rattle.std.proofs.Common.{◌≡◌, ℕ, ◌+◌, ◌-◌, ◌<◌, ◌≤◌, true, false, List, length, take, drop, refl, sym, ap, ◌∙◌, arith, get_or, length-take, length-drop, subst, inl, inr, ◌⊎◌}
 use Rattle.std.proofs.lemmas.List.{get_or-drop, get_or-take}
 use Rattle.std.specs.Prelude.{slice_index_or}
 use Rattle.std.specs.List.{Contains}
 use Rattle.std.specs.List.Sorted.{IsPartitionedBy, IsPartitionPoint, IsNonDecreasingBy}
-use Rattle.std.specs.Ordering.{is_eq, is_lt, is_le, ordering_index}
+use Rattle.std.specs.Ordering.{is_lt, is_le, ordering_index}
 use Rattle.std.specs.declared.cmp.Ordering.{Ordering}
 use Rattle.std.specs.declared.cmp.Ordering.TheVariants.{Less, Equal, Greater}
 use Rattle.std.proofs.lemmas.Bool.{false≢true}
@@ -63,9 +63,11 @@ module _ (set : KeyedRows) (column : Place) (places : List Place) (value : Value
         | inr above ↦ above
       ] in
       let below : k - start < length places - start = omega (arith, at.1) in
-      let there : start + (k - start) ≡ k = omega arith in
-      (k - start, simp (length-take, length-drop) (omega (arith, at.1)),
-        get_or-take (length places - start) (drop start places) (k - start) place below ∙ get_or-drop start places (k - start) place ∙ ap (λ j. get_or places j place) there ∙ at.2)
+      let there : start + (k - start) ≡ k = omega arith in (
+        k - start,
+        simp (length-take, length-drop) (omega (arith, at.1)),
+        get_or-take (length places - start) (drop start places) (k - start) place below ∙ get_or-drop start places (k - start) place ∙ ap (λ j. get_or places j place) there ∙ at.2,
+      )
 
   -- nor among those above it
   pub Contains-up_to : (end : ℕ) → end ≤ length places → IsPartitionPoint (λ place. is_le (order_of place) ≡ true) (λ place. is_le (order_of place) ≡ false) places end → (place : Place) → Contains places place → order_of place ≡ Equal → Contains (take end places) place

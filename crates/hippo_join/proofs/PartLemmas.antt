@@ -1,5 +1,5 @@
 -- A condition is true exactly where the parts of its outermost All are.
-use Rattle.std.proofs.Common.{◌≡◌, ℕ, ◌<◌, Bool, true, false, ◌&&◌, List, [], ◌∷◌, map, length, refl, sym, ap, subst, ◌∙◌, get_or, Option, Some, None, zero, suc, arith}
+use Rattle.std.proofs.Common.{◌≡◌, ℕ, ◌<◌, Bool, true, false, ◌&&◌, List, [], ◌∷◌, map, length, refl, sym, ap, subst, ◌∙◌, get_or, Some, zero, suc, arith}
 use Rattle.std.specs.List.{list_all}
 use Rattle.std.specs.Ordering.{is_eq, int_cmp, nat_cmp}
 use Rattle.std.specs.declared.cmp.Ordering.{Ordering}
@@ -9,13 +9,11 @@ use Rattle.std.specs.FinMap.{slice_cmp-IsAntisymmetric, int_cmp-IsAntisymmetric,
 use Rattle.std.proofs.lemmas.Bool.{and_parts, and_from, false≢true}
 use Rattle.hippo_values.specs.declared.values.Value.{Value}
 use Rattle.hippo_values.specs.declared.values.Value.TheVariants.{Int, Text, Day}
-use Rattle.hippo_values.specs.declared.values.Value.TheVariants as values
 use Rattle.hippo_values.specs.declared.truths.Truth.{Truth}
 use Rattle.hippo_values.specs.declared.truths.Truth.TheVariants.{False, Unknown, True}
-use Rattle.hippo_values.specs.declared.truths.CompareOp.{CompareOp}
 use Rattle.hippo_values.specs.declared.truths.CompareOp.TheVariants.{Eq}
 use Rattle.hippo_values.specs.Truths.{truth_and, truth_of, comparison}
-use Rattle.hippo_model.specs.declared.query.CondOf.{CondOf, CondOf-F, roll-CondOf, map-CondOf, ind-CondOf, out-CondOf, out-roll-CondOf}
+use Rattle.hippo_model.specs.declared.query.CondOf.{CondOf, CondOf-F, roll-CondOf, ind-CondOf, out-roll-CondOf}
 use Rattle.hippo_model.specs.declared.query.CondOf.TheOpen.{All, Any, Not, Compare, Between, Among, Missing}
 use Rattle.hippo_model.specs.declared.query.CondOf.TheVariants as conditions
 use Rattle.hippo_model.specs.declared.query.CondOf.TheVariants.{rolls-All}
@@ -24,11 +22,11 @@ use Rattle.hippo_model.specs.declared.query.Expr.TheVariants.{Keep, Null, Aged, 
 use Rattle.hippo_model.specs.declared.query.Ref.{Ref}
 use Rattle.hippo_model.specs.Terms.{Combination, Place}
 use Rattle.hippo_model.specs.Conditions.{least, truth, is_true, is_null, outer_parts}
-use Rattle.hippo_model.specs.Masking.{Choices, raw_value, masked_cell, shown_if}
+use Rattle.hippo_model.specs.Masking.{Choices, raw_value, shown_if}
 use Rattle.hippo_model.specs.Forms.{value_in}
 use Rattle.hippo_model.proofs.Truths.{truth-All, truth-Compare}
 use Rattle.hippo_eval.specs.MaskedTruth.{masked_value}
-use Rattle.hippo_join.specs.Ties.{column_of, holds, AreEqual, IsTieOf}
+use Rattle.hippo_join.specs.Ties.{column_of, holds, AreEqual}
 
 module _ {O : Type 0} (value : O → Value) where
   abbrev is_held : CondOf O → Bool

@@ -1,14 +1,12 @@
 -- The product of tables by places: each combination once, in ascending order.
-use Rattle.std.proofs.Common.{◌≡◌, ℕ, zero, suc, ◌+◌, ◌<◌, ◌≤◌, Bool, true, false, ◌&&◌, ◌||◌, cond, List, [], ◌∷◌, ◌++◌, map, length, nat_eq, nat_lt, not, refl, sym, ap, ◌∙◌, arith, add-one, Option, Some, None, unwrap_or}
-use Rattle.std.specs.Prelude.{filter, slice_get}
+use Rattle.std.proofs.Common.{◌≡◌, ℕ, zero, suc, ◌+◌, ◌<◌, Bool, true, false, ◌&&◌, ◌||◌, cond, List, [], ◌∷◌, ◌++◌, map, length, nat_eq, nat_lt, not, refl, sym, ap, ◌∙◌, arith, add-one}
+use Rattle.std.specs.Prelude.{filter}
 use Rattle.std.specs.List.{list_any, flat_map, range_with_len, AllByRecursion}
 use Rattle.std.specs.List.Sorted.{IsStrictlySortedBy}
 use Rattle.std.specs.Ordering.{is_eq, nat_cmp, ordering_then}
 use Rattle.std.specs.declared.cmp.Ordering.{Ordering}
-use Rattle.std.specs.declared.cmp.Ordering.TheVariants.{Less, Equal, Greater}
+use Rattle.std.specs.declared.cmp.Ordering.TheVariants.{Less, Equal}
 use Rattle.std.specs.Cmp.Lexicographic.{slice_cmp}
-use Rattle.std.specs.Cmp.{IsTotalOrder}
-use Rattle.std.proofs.lemmas.Cmp.{nat_list_cmp_total}
 use Rattle.std.proofs.lemmas.Bool.Decides.{nat_tests}
 use Rattle.std.proofs.lemmas.List.Folds.{list_any-append, flat_map-map}
 use Rattle.hippo_model.specs.declared.born_row.BornRow.{BornRow}
@@ -17,7 +15,7 @@ use Rattle.hippo_model.specs.RowSets.{KeyedRows}
 use Rattle.hippo_model.specs.Answers.{product}
 use Rattle.hippo_eval.specs.Walks.{rows_of}
 use Rattle.hippo_join.specs.Finding.{has_places, IsRising}
-use Rattle.hippo_join.specs.Places.{blank, row_at, rows_at, chosen, in_range, places_of}
+use Rattle.hippo_join.specs.Places.{row_at, chosen, in_range, places_of}
 
 module _ {A B : Type 0} where
   pub map-flat_map : {X : Type 0} (f : A → B) (g : X → List A) (xs : List X) → map f (flat_map g xs) ≡ flat_map (λ x. map f (g x)) xs
@@ -66,7 +64,7 @@ product-rows (set ∷ sets) =
     let later : Place → List Combination = λ place. map (λ others. row_at set.rows place ∷ others) (map (chosen sets) (places_of sets)) in
     ap (flat_map after) (sym (each_row set.rows)) ∙ flat_map-map after (row_at set.rows) (range_with_len 0 (length set.rows))
     ∙ flat_map_same (λ place. after (row_at set.rows place)) (λ place. map (chosen (set ∷ sets)) (map (λ others. place ∷ others) (places_of sets)))
-      (λ place. ap (map (λ others. row_at set.rows place ∷ others)) (product-rows sets) ∙ sym (one_more set sets place (places_of sets))) (range_with_len 0 (length set.rows))
+    (λ place. ap (map (λ others. row_at set.rows place ∷ others)) (product-rows sets) ∙ sym (one_more set sets place (places_of sets))) (range_with_len 0 (length set.rows))
     ∙ sym (map-flat_map (chosen (set ∷ sets)) (λ place. map (λ others. place ∷ others) (places_of sets)) (range_with_len 0 (length set.rows)))
 
 -- whether places stand behind a first one
@@ -80,6 +78,7 @@ behind a p rest (others ∷ some) = rw (behind a p rest some, first_same a p (sl
   where
     first_same : (a p : Place) (o : Ordering) → is_eq (ordering_then (nat_cmp a p) o) ≡ (nat_eq a p && is_eq o)
     first_same a p o = grind (arith, nat_tests)
+
     spread : (b x y : Bool) → ((b && x) || (b && y)) ≡ (b && (x || y))
     spread true x y = refl
     spread false x y = refl

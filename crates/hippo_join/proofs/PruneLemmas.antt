@@ -1,24 +1,21 @@
 -- What is known of the rows that are chosen holds of each combination that counts.
-use Rattle.std.proofs.Common.{◌≡◌, ℕ, zero, suc, ◌<◌, Bool, true, false, ◌&&◌, ◌||◌, not, List, [], ◌∷◌, map, length, refl, sym, ap, subst, ◌∙◌, get_or, Option, Some, None, arith, nat_lt, ltb, ltb-true}
+use Rattle.std.proofs.Common.{◌≡◌, ℕ, zero, suc, ◌<◌, Bool, true, false, ◌||◌, not, List, [], ◌∷◌, length, refl, sym, ap, subst, ◌∙◌, get_or, Option, Some, nat_lt, ltb, ltb-true}
 use Rattle.std.specs.Prelude.{slice_get}
 use Rattle.std.specs.List.{list_all}
-use Rattle.std.proofs.lemmas.Bool.{and_parts, false≢true}
+use Rattle.std.proofs.lemmas.Bool.{and_parts}
 use Rattle.std.proofs.lemmas.Option.{slice_get_read}
-use Rattle.hippo_values.specs.declared.values.Value.{Value}
-use Rattle.hippo_values.specs.Order.{value_cmp}
-use Rattle.hippo_values.specs.OrderLaws.{value_total}
 use Rattle.hippo_model.specs.declared.query.CondOf.{CondOf}
 use Rattle.hippo_model.specs.declared.query.Expr.{Expr}
 use Rattle.hippo_model.specs.declared.query.Guard.{Guard}
 use Rattle.hippo_model.specs.declared.query.Masked.{Masked}
 use Rattle.hippo_model.specs.declared.query.Ref.{Ref}
-use Rattle.hippo_model.specs.Terms.{Combination, Place}
+use Rattle.hippo_model.specs.Terms.{Place}
 use Rattle.hippo_model.specs.RowSets.{KeyedRows}
 use Rattle.hippo_model.specs.Conditions.{is_true, outer_parts, is_null}
 use Rattle.hippo_model.specs.Masking.{Choices, masked_cell, is_shown_cell, is_guarded, masked_passes}
 use Rattle.hippo_model.specs.Forms.{value_in}
-use Rattle.hippo_eval.specs.MaskedTruth.{masked_value, masked_truth}
-use Rattle.hippo_join.specs.Places.{rows_at, chosen, Fits, slot_at, in_range, row_at, stays, stands}
+use Rattle.hippo_eval.specs.MaskedTruth.{masked_value}
+use Rattle.hippo_join.specs.Places.{rows_at, chosen, Fits, slot_at, in_range, stays, stands}
 use Rattle.hippo_join.specs.Known.{knows, knows_expr}
 use Rattle.hippo_join.specs.Lookups.{value_at}
 use Rattle.hippo_join.specs.Ties.{holds, AreEqual}

@@ -1,10 +1,9 @@
 -- Lists of places that have each place that counts.
-use Rattle.std.proofs.Common.{◌≡◌, ℕ, zero, suc, ◌+◌, ◌<◌, ◌≤◌, Bool, true, false, cond, List, [], ◌∷◌, ◌++◌, length, refl, sym, ap, subst, ◌∙◌, Option, Some, None, inl, inr, ◌⊎◌, arith}
+use Rattle.std.proofs.Common.{◌≡◌, ℕ, zero, suc, ◌+◌, ◌<◌, Bool, true, false, List, [], ◌∷◌, ◌++◌, length, refl, sym, ap, subst, ◌∙◌, Option, Some, None, inl, inr, ◌⊎◌, arith}
 use Rattle.std.specs.Prelude.{slice_get, slice_set, replicate, if◌then◌else◌}
 use Rattle.std.specs.List.{Contains, list_all}
 use Rattle.hippo_model.specs.declared.query.CondOf.{CondOf}
 use Rattle.hippo_model.specs.declared.query.Expr.{Expr}
-use Rattle.std.proofs.lemmas.List.{set-set}
 use Rattle.std.proofs.lemmas.List.Elements.{Contains-append_left, Contains-push}
 use Rattle.std.specs.Option.{IfSome}
 use Rattle.std.specs.Prelude.{Result, Ok, Err, IfOk}
@@ -60,8 +59,8 @@ module _ (Counts : List Place → Type 0) (table : Place) where
       (elim (below_or_at place n lower) as (λ _. Contains (if test then xs ++ n ∷ [] else xs) place) [
         | inl before ↦ kept test xs n place (so_far places counts place at before)
         | inr here ↦
-          let at_n : slice_get places table ≡ Some n = at ∙ ap Some here in
-          subst (λ (j : Place). Contains (if test then xs ++ n ∷ [] else xs) j) (sym here) (taken test xs n (may places (fit places counts at_n) counts))
+            let at_n : slice_get places table ≡ Some n = at ∙ ap Some here in
+            subst (λ (j : Place). Contains (if test then xs ++ n ∷ [] else xs) j) (sym here) (taken test xs n (may places (fit places counts at_n) counts))
       ])
 
 module _ (choices : Choices) (query : Masked) (sets : List KeyedRows) where

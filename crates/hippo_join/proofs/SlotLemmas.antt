@@ -1,6 +1,6 @@
 -- Rows that are chosen, and combinations that agree with them.
-use Rattle.std.proofs.Common.{◌≡◌, ℕ, zero, suc, ◌+◌, ◌<◌, ◌≤◌, Bool, true, false, ◌&&◌, List, [], ◌∷◌, ◌++◌, map, length, drop, refl, sym, ap, ◌∙◌, arith, Option, Some, None, unwrap_or, add-one, append_assoc, subst, not, nat_lt, ℤ, int_le}
-use Rattle.std.specs.Prelude.{slice_get, option_map, is_some}
+use Rattle.std.proofs.Common.{◌≡◌, ℕ, zero, suc, ◌+◌, ◌≤◌, true, false, ◌&&◌, List, [], ◌∷◌, ◌++◌, map, length, drop, refl, sym, ap, ◌∙◌, arith, Option, Some, None, unwrap_or, add-one, append_assoc, subst, not, nat_lt, ℤ, int_le}
+use Rattle.std.specs.Prelude.{slice_get, option_map}
 use Rattle.std.specs.Prelude.{replicate, slice_set}
 use Rattle.std.specs.Option.{option_map_or}
 use Rattle.std.proofs.lemmas.Bool.{and_parts, false≢true}

@@ -1,5 +1,5 @@
 -- Rows of a table in the order of one of its columns.
-use Rattle.std.specs.Prelude.{Bool, false, true, List}
+use Rattle.std.specs.Prelude.{List}
 use Rattle.std.specs.List.Sorted.{IsSortedByKey}
 use Rattle.hippo_values.specs.declared.values.Value.{Value}
 use Rattle.hippo_values.specs.Order.{value_cmp}

@@ -31,7 +31,9 @@ pub(crate) fn knows_expr(expr: &Expr, slots: &[Option<usize>]) -> bool
         Expr::Keep(column) => is_chosen(slots, column.table),
         Expr::Aged { column, .. } => is_chosen(slots, column.table),
         Expr::Case {
-            column, subject, ..
+            column,
+            subject,
+            ..
         } => is_chosen(slots, column.table) && is_chosen(slots, subject.table),
         Expr::Null(_) => true,
         Expr::Literal(_) => true,

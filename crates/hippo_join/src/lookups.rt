@@ -42,14 +42,21 @@ pub(crate) fn known_value<'a>(set: &'a RowSet, column: usize, place: usize) -> O
 fn value_order(set: &RowSet, column: usize, place: usize, value: &Value) -> Ordering
     ensures { result ≡ value_cmp (value_at set.now column place) value.now }
 {
-    value_at(set, column, place).unwrap_or(&Value::Null).cmp(value)
+    value_at(set, column, place)
+        .unwrap_or(&Value::Null)
+        .cmp(value)
 }
 
 // Two rows by their values in a column.
 fn row_order(set: &RowSet, column: usize, place: usize, other: usize) -> Ordering
     ensures { result ≡ value_cmp (value_at set.now column place) (value_at set.now column other) }
 {
-    value_order(set, column, place, value_at(set, column, other).unwrap_or(&Value::Null))
+    value_order(
+        set,
+        column,
+        place,
+        value_at(set, column, other).unwrap_or(&Value::Null),
+    )
 }
 
 fn is_below(set: &RowSet, column: usize, place: usize, value: &Value) -> bool
@@ -73,12 +80,7 @@ pub(crate) fn sort_by_column(set: &RowSet, column: usize, places: &mut [usize])
 }
 
 // The places from the first whose row's value is not below this one.
-fn from_value<'a>(
-    set: &RowSet,
-    column: usize,
-    places: &'a [usize],
-    value: &Value,
-) -> &'a [usize]
+fn from_value<'a>(set: &RowSet, column: usize, places: &'a [usize], value: &Value) -> &'a [usize]
     requires { IsByColumn set.now column places.now }
     ensures order { IsByColumn set.now column result.now }
     ensures all { (place : Place) → Contains places.now place → value_cmp (value_at set.now column place) value.now ≡ Equal → Contains result.now place }
@@ -88,12 +90,7 @@ fn from_value<'a>(
 }
 
 // The places to the last whose row's value is not above this one.
-fn up_to_value<'a>(
-    set: &RowSet,
-    column: usize,
-    places: &'a [usize],
-    value: &Value,
-) -> &'a [usize]
+fn up_to_value<'a>(set: &RowSet, column: usize, places: &'a [usize], value: &Value) -> &'a [usize]
     requires { IsByColumn set.now column places.now }
     ensures { (place : Place) → Contains places.now place → value_cmp (value_at set.now column place) value.now ≡ Equal → Contains result.now place }
 {

@@ -72,7 +72,12 @@ impl<'a, C: ChoiceView> Side<'a, C> {
 
     // The places of a table's rows, without those of which the guards and the parts on this table alone say that they do
     // not count.
-    fn tested_places(&self, alloc: Global, table: usize, tests: &[usize]) -> Result<Vec<usize>, Memory>
+    fn tested_places(
+        &self,
+        alloc: Global,
+        table: usize,
+        tests: &[usize],
+    ) -> Result<Vec<usize>, Memory>
         requires { table < length self.now.sets.now }
         ensures { IfOk result (λ places. Reaches (C.choices self.now.choices.now) self.now.query.now self.now.sets.now table places.items) }
     {

@@ -40,12 +40,7 @@ fn column_of(expr: &Expr) -> Option<Ref>
 }
 
 // The tie of a table to a row that is chosen, of two columns that are equal.
-fn tie_to_chosen(
-    left: Ref,
-    right: Ref,
-    table: usize,
-    slots: &[Option<usize>],
-) -> Option<Tie>
+fn tie_to_chosen(left: Ref, right: Ref, table: usize, slots: &[Option<usize>]) -> Option<Tie>
     ensures { IfSome result (λ tie. (rows : Combination) → AreEqual rows left right
         → AreEqual rows (record { table = table; column = tie.column }) tie.other) }
 {
@@ -64,12 +59,7 @@ fn tie_to_chosen(
     }
 }
 
-fn tie_of_equal(
-    left: &Expr,
-    right: &Expr,
-    table: usize,
-    slots: &[Option<usize>],
-) -> Option<Tie>
+fn tie_of_equal(left: &Expr, right: &Expr, table: usize, slots: &[Option<usize>]) -> Option<Tie>
     ensures { IfSome result (λ tie. IsTieOf (Compare Eq left.now right.now ∷ []) table tie) }
 {
     let (Some(left), Some(right)) = (column_of(left), column_of(right)) else {
@@ -92,11 +82,7 @@ fn tie_of(part: &CondOf<Expr>, table: usize, slots: &[Option<usize>]) -> Option<
 }
 
 // A tie of a table to a row that is chosen, where the parts of a condition say one.
-pub(crate) fn find_tie(
-    parts: &[CondOf<Expr>],
-    table: usize,
-    slots: &[Option<usize>],
-) -> Option<Tie>
+pub(crate) fn find_tie(parts: &[CondOf<Expr>], table: usize, slots: &[Option<usize>]) -> Option<Tie>
     ensures { IfSome result (λ tie. IsTieOf parts.now table tie) }
 {
     for part in parts {

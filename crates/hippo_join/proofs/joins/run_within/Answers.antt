@@ -1,5 +1,5 @@
 -- A plan has each table once.
-use Rattle.std.proofs.Common.{◌≡◌, ℕ, ◌<◌, List, length, subst, sym, ◌∙◌, arith}
+use Rattle.std.proofs.Common.{ℕ, ◌<◌, List, length, subst, sym, arith}
 use Rattle.std.specs.List.{All, Contains}
 use Rattle.hippo_model.specs.Terms.{Place}
 use Rattle.hippo_join.proofs.FindingLemmas.{below-order, whole-order}

@@ -1,6 +1,4 @@
 -- Where a condition is a list of parts, it is known where each part is.
-use Rattle.std.proofs.Common.{◌∙◌, sym, ap}
-use Rattle.hippo_join.specs.Known.{knows}
 use Rattle.hippo_join.proofs.KnownLemmas.{knows-All, knows-Any}
 use Rattle.hippo_join.proofs.known.+knows.Goals as goal
 

@@ -1,5 +1,4 @@
 -- One number more.
-use Rattle.std.proofs.Common.{arith}
 use Rattle.hippo_join.proofs.ReachLemmas.{contains-more}
 use Rattle.hippo_join.proofs.reaching.numbers_below.Goals as goal
 

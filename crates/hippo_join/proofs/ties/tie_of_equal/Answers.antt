@@ -1,5 +1,5 @@
 -- An equality that holds says that its columns are equal.
-use Rattle.std.proofs.Common.{sym, ◌∙◌}
+use Rattle.std.proofs.Common.{sym}
 use Rattle.std.proofs.lemmas.Option.{IfSome_then}
 use Rattle.hippo_join.proofs.PartLemmas.{tie-left}
 use Rattle.hippo_join.proofs.ties.tie_of_equal.Goals as goal

@@ -20,5 +20,5 @@ invariant-find-loop-place g l = record {
   same : l.slots ≡ l.initial.slots;
   grows : Grows (g.C.ChoiceView.choices l.self.choices.now) l.self.query.now l.self.sets.now l.initial.found.keys l.found.keys;
   so_far : (places : List Place) → Fits l.initial.slots places → stands (g.C.ChoiceView.choices l.self.choices.now) l.self.query.now l.self.sets.now places ≡ true
-      → (k : ℕ) → k < l.place-index → slice_get places l.step.table ≡ Some (get_or l.place-items k 0) → has_places places l.found.keys ≡ true
+      → (k : ℕ) → k < l.place-index → slice_get places l.step.table ≡ Some (get_or l.place-items k 0) → has_places places l.found.keys ≡ true;
 }

@@ -1,5 +1,5 @@
 -- Only one combination has all of these rows.
-use Rattle.std.proofs.Common.{◌≡◌, true, List, [], unwrap_or, map, Option, Some, sym, ap, ◌∙◌}
+use Rattle.std.proofs.Common.{◌≡◌, List, [], unwrap_or, map, Option, Some, sym, ap, ◌∙◌}
 use Rattle.hippo_model.specs.Terms.{Place}
 use Rattle.hippo_join.specs.Places.{rows_at, stands}
 use Rattle.hippo_join.specs.Finding.{Covers}

@@ -1,5 +1,5 @@
 -- What was found is the answer, if it is within the limit.
-use Rattle.std.proofs.Common.{true, sym, ◌∙◌}
+use Rattle.std.proofs.Common.{sym, ◌∙◌}
 use Rattle.hippo_eval.specs.declared.answers.TheConstants.{ANSWER_LIMIT}
 use Rattle.hippo_join.proofs.AnswerLemmas.{joined-many, joined-listed}
 use Rattle.hippo_join.proofs.sides.Side.answer_found.Goals as goal

@@ -1,5 +1,5 @@
 -- One table's place more.
-use Rattle.std.proofs.Common.{◌≡◌, sym, ◌∙◌, arith}
+use Rattle.std.proofs.Common.{sym, ◌∙◌, arith}
 use Rattle.hippo_join.proofs.FindingLemmas.{out-of-range, in-range-more}
 use Rattle.hippo_join.proofs.sides.Side.in_range.Goals as goal
 

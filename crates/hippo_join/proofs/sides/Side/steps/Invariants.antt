@@ -6,5 +6,5 @@ use Rattle.hippo_join.proofs.sides.Side.steps.Given as goal
 abbrev pub invariant-loop-table : goal.invariant-loop-table
 invariant-loop-table g l = record {
   long : length l.slots.items ≡ length l.self.sets.now;
-  so_far : AreSteps (g.C.ChoiceView.choices l.self.choices.now) l.self.query.now l.self.sets.now (take l.table-index l.order) l.steps.items
+  so_far : AreSteps (g.C.ChoiceView.choices l.self.choices.now) l.self.query.now l.self.sets.now (take l.table-index l.order) l.steps.items;
 }

@@ -11,5 +11,5 @@ invariant-loop-place g l = record {
   long : length l.slots.items ≡ length l.self.sets.now;
   fit : (places : List Place) → length places ≡ length l.self.sets.now → (place : Place) → slice_get places l.table ≡ Some place → Fits (slice_set l.slots.items l.table (Some place)) places;
   so_far : (places : List Place) → stands (g.C.ChoiceView.choices l.self.choices.now) l.self.query.now l.self.sets.now places ≡ true
-      → (place : Place) → slice_get places l.table ≡ Some place → place < l.place → Contains l.places.items place
+      → (place : Place) → slice_get places l.table ≡ Some place → place < l.place → Contains l.places.items place;
 }
