@@ -1,0 +1,11 @@
+pub mod ProductLemmas
+pub mod FoundLemmas
+pub mod KnownLemmas
+pub mod SlotLemmas
+pub mod LookupLemmas
+pub mod PartLemmas
+pub mod PruneLemmas
+pub mod ReachLemmas
+pub mod FindingLemmas
+pub mod AnswerLemmas
+pub mod OrderLemmas

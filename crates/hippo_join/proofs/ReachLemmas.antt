@@ -1,0 +1,107 @@
+-- Lists of places that have each place that counts.
+use Rattle.std.proofs.Common.{◌≡◌, ℕ, zero, suc, ◌+◌, ◌<◌, Bool, true, false, List, [], ◌∷◌, ◌++◌, length, refl, sym, ap, subst, ◌∙◌, Option, Some, None, inl, inr, ◌⊎◌, arith}
+use Rattle.std.specs.Prelude.{slice_get, slice_set, replicate, if◌then◌else◌}
+use Rattle.std.specs.List.{Contains, list_all}
+use Rattle.hippo_model.specs.declared.query.CondOf.{CondOf}
+use Rattle.hippo_model.specs.declared.query.Expr.{Expr}
+use Rattle.std.proofs.lemmas.List.Elements.{Contains-append_left, Contains-push}
+use Rattle.std.specs.Option.{IfSome}
+use Rattle.std.specs.Prelude.{Result, Ok, Err, IfOk}
+use Rattle.std.specs.Cmp.{tied_itself}
+use Rattle.std.specs.declared.cmp.Ordering.TheVariants.{Equal}
+use Rattle.std.proofs.lemmas.Bool.{false≢true}
+use Rattle.hippo_values.specs.declared.values.Value.{Value}
+use Rattle.hippo_values.specs.Order.{value_cmp}
+use Rattle.hippo_values.specs.OrderLaws.{value_total}
+use Rattle.hippo_model.specs.Conditions.{is_null}
+use Rattle.hippo_join.specs.declared.steps.Step.{Step}
+use Rattle.hippo_join.specs.Lookups.{value_at}
+use Rattle.hippo_model.specs.declared.query.Masked.{Masked}
+use Rattle.hippo_model.specs.Terms.{Place}
+use Rattle.hippo_model.specs.RowSets.{KeyedRows}
+use Rattle.hippo_model.specs.Conditions.{outer_parts}
+use Rattle.hippo_model.specs.Masking.{Choices}
+use Rattle.hippo_join.specs.declared.ties.Tie.{Tie}
+use Rattle.hippo_join.specs.Places.{chosen, Fits, slot_at, stands}
+use Rattle.hippo_join.specs.Ties.{holds, AreEqual, IsTieOf}
+use Rattle.hippo_join.specs.Steps.{Reaches, IsStep}
+use Rattle.hippo_join.proofs.PruneLemmas.{below-rows, in-range, all-hold, value-tied}
+use Rattle.hippo_join.proofs.SlotLemmas.{Fits-open, Fits-set}
+
+below_or_at : (k n : ℕ) → k < n + 1 → (k < n) ⊎ (k ≡ n)
+below_or_at k n lower = grind arith
+
+pub contains-more : (xs ys : List ℕ) (n : ℕ) → ys ≡ xs ++ n ∷ [] → ((k : ℕ) → k < n → Contains xs k) → (k : ℕ) → k < n + 1 → Contains ys k
+contains-more xs ys n pushed below k lower =
+    subst (λ (l : List ℕ). Contains l k) (sym pushed)
+    (elim (below_or_at k n lower) as (λ _. Contains (xs ++ n ∷ []) k) [
+      | inl before ↦ Contains-append_left xs (n ∷ []) k (below k before)
+      | inr here ↦ subst (λ (j : ℕ). Contains (xs ++ n ∷ []) j) (sym here) (Contains-push xs n)
+    ])
+
+kept : (test : Bool) (xs : List Place) (n p : Place) → Contains xs p → Contains (if test then xs ++ n ∷ [] else xs) p
+kept true xs n p has = Contains-append_left xs (n ∷ []) p has
+kept false xs n p has = has
+
+taken : (test : Bool) (xs : List Place) (n : Place) → test ≡ true → Contains (if test then xs ++ n ∷ [] else xs) n
+taken true xs n passed = Contains-push xs n
+taken false xs n passed = absurd (false≢true passed)
+
+-- one place more was tested
+module _ (Counts : List Place → Type 0) (table : Place) where
+  pub tested-more : (slots : List (Option Place)) (test : Bool) (xs ys : List Place) (n : Place) → ys ≡ (if test then xs ++ n ∷ [] else xs)
+      → ((places : List Place) → Counts places → slice_get places table ≡ Some n → Fits slots places)
+      → ((places : List Place) → Fits slots places → Counts places → test ≡ true)
+      → ((places : List Place) → Counts places → (place : Place) → slice_get places table ≡ Some place → place < n → Contains xs place)
+      → (places : List Place) → Counts places → (place : Place) → slice_get places table ≡ Some place → place < n + 1 → Contains ys place
+  tested-more slots test xs ys n pushed fit may so_far places counts place at lower =
+      subst (λ (l : List Place). Contains l place) (sym pushed)
+      (elim (below_or_at place n lower) as (λ _. Contains (if test then xs ++ n ∷ [] else xs) place) [
+        | inl before ↦ kept test xs n place (so_far places counts place at before)
+        | inr here ↦
+            let at_n : slice_get places table ≡ Some n = at ∙ ap Some here in
+            subst (λ (j : Place). Contains (if test then xs ++ n ∷ [] else xs) j) (sym here) (taken test xs n (may places (fit places counts at_n) counts))
+      ])
+
+module _ (choices : Choices) (query : Masked) (sets : List KeyedRows) where
+  -- places that have each place below the number of rows
+  pub reaches-below : (table : Place) (set : KeyedRows) (some : List Place) → slice_get sets table ≡ Some set → ((places : List Place) → stands choices query sets places ≡ true → (place : Place) → slice_get places table ≡ Some place → place < length set.rows → Contains some place) → Reaches choices query sets table some
+  reaches-below table set some at below places counts place here = below places counts place here (below-rows sets places table set place (in-range choices query sets places counts) at here)
+
+  pub tie-counts : (table : Place) (tie : Tie) (parts : List (CondOf Expr)) → parts ≡ outer_parts query.cond → IsTieOf parts table tie → (places : List Place) → stands choices query sets places ≡ true → AreEqual (chosen sets places) (record { table = table; column = tie.column }) tie.other
+  tie-counts table tie parts same tied places counts = tied choices (chosen sets places) (subst (λ (l : List (CondOf Expr)). list_all (holds choices (chosen sets places)) l ≡ true) (sym same) (all-hold choices query sets places counts))
+
+pub fits-alone : (slots : List (Option Place)) (n : ℕ) (table : Place) (places : List Place) → slots ≡ replicate n None → length places ≡ n → (place : Place) → slice_get places table ≡ Some place → Fits (slice_set slots table (Some place)) places
+fits-alone slots n table places none long place at = Fits-set slots places table place (subst (λ (s : List (Option Place)). Fits s places) (sym none) (Fits-open places n long)) at
+
+pub of-some : {X : Type 0} (P : X → Type 0) (o : Option X) (x : X) → IfSome o P → o ≡ Some x → P x
+of-some {X} P o x p is = let at : IfSome (Some x) P = subst (λ (q : Option X). IfSome q P) is p in at
+
+-- a place whose row has the value that a tie asks for
+module _ (choices : Choices) (query : Masked) (sets : List KeyedRows) (slots : List (Option Place)) (places : List Place) (fits : Fits slots places) (counts : stands choices query sets places ≡ true) where
+  pub order-tied : (step : Step) (tie : Tie) (set others : KeyedRows) (place fixed : Place) (value : Value) → IsStep choices query sets step → step.tie ≡ Some tie
+      → slice_get sets step.table ≡ Some set → slice_get places step.table ≡ Some place → slice_get sets tie.other.table ≡ Some others → Some fixed ≡ slot_at slots tie.other.table
+      → value ≡ value_at others tie.other.column fixed → value_cmp (value_at set tie.column place) value ≡ Equal
+  order-tied step tie set others place fixed value is_step is at here at_others there is_value =
+      let equal = of-some (λ t. (places : List Place) → stands choices query sets places ≡ true → AreEqual (chosen sets places) (record { table = step.table; column = t.column }) t.other) step.tie tie is_step.tied is places counts in
+      let same = value-tied choices query sets slots places fits counts step.table tie.column tie.other set others place fixed equal at here at_others (sym there) in
+      ap (λ (v : Value). value_cmp v value) (same.0 ∙ sym is_value) ∙ tied_itself value_total value
+
+  pub not-null : (step : Step) (tie : Tie) (set others : KeyedRows) (place fixed : Place) → IsStep choices query sets step → step.tie ≡ Some tie
+      → slice_get sets step.table ≡ Some set → slice_get places step.table ≡ Some place → slice_get sets tie.other.table ≡ Some others → Some fixed ≡ slot_at slots tie.other.table
+      → ¬ (is_null (value_at others tie.other.column fixed) ≡ true)
+  not-null step tie set others place fixed is_step is at here at_others there null =
+      let equal = of-some (λ t. (places : List Place) → stands choices query sets places ≡ true → AreEqual (chosen sets places) (record { table = step.table; column = t.column }) t.other) step.tie tie is_step.tied is places counts in
+      let same = value-tied choices query sets slots places fits counts step.table tie.column tie.other set others place fixed equal at here at_others (sym there) in
+      false≢true (sym same.1 ∙ null)
+
+pub length-unchosen : (slots : List (Option Place)) (n m : ℕ) → slots ≡ replicate n None → n ≡ m → length slots ≡ m
+length-unchosen slots n m none same = ap length none ∙ long n ∙ same
+  where
+    long : (n : ℕ) → length (replicate {A = Option Place} n None) ≡ n
+    long zero = refl
+    long (suc n) = ap suc (long n)
+
+pub ok-then : {T E : Type 0} (P Q : T → Type 0) (r : Result T E) → IfOk r P → ((x : T) → P x → Q x) → IfOk r Q
+ok-then P Q (Ok x) p next = next x p
+ok-then P Q (Err e) p next = tt

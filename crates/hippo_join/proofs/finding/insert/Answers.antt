@@ -1,0 +1,6 @@
+-- The set has the new places, and each that it had.
+use Rattle.hippo_join.proofs.FindingLemmas.{one-more}
+use Rattle.hippo_join.proofs.finding.insert.Goals as goal
+
+pub returns-clause-ok : goal.returns-clause-ok
+returns-clause-ok c = one-more c.args.places c.args.found.now.keys c.insert.new.self.keys c.in_ok-insert.ensures.updates.0

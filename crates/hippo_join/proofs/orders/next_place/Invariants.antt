@@ -1,0 +1,6 @@
+-- The place so far is one of those that are left.
+use Rattle.std.proofs.Common.{◌<◌, length}
+use Rattle.hippo_join.proofs.orders.next_place.Given as goal
+
+abbrev pub invariant-loop-place : goal.invariant-loop-place
+invariant-loop-place l = l.best < length l.left

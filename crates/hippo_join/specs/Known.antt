@@ -1,0 +1,36 @@
+-- Which conditions can be tested once the rows of some tables are chosen.
+use Rattle.std.specs.Prelude.{Bool, true, ◌&&◌, List, Option, is_some}
+use Rattle.std.specs.List.{list_all}
+use Rattle.hippo_model.specs.declared.query.CondOf.{CondOf, CondOf-F, fold-CondOf}
+use Rattle.hippo_model.specs.declared.query.CondOf.TheOpen.{All, Any, Not, Compare, Between, Among, Missing}
+use Rattle.hippo_model.specs.declared.query.Expr.{Expr}
+use Rattle.hippo_model.specs.declared.query.Expr.TheVariants.{Keep, Null, Aged, Case, Literal}
+use Rattle.hippo_model.specs.Terms.{Place}
+use Rattle.hippo_join.specs.Places.{slot_at}
+
+-- whether a table's row is chosen
+abbrev pub is_chosen : List (Option Place) → Place → Bool
+is_chosen slots table = is_some (slot_at slots table)
+
+-- whether an expression's columns are in rows that are chosen
+abbrev pub knows_expr : List (Option Place) → Expr → Bool
+knows_expr slots (Keep column) = is_chosen slots column.table
+knows_expr slots (Null rule) = true
+knows_expr slots (Aged column rule after) = is_chosen slots column.table
+knows_expr slots (Case column subject item rule opt_in after) =
+    is_chosen slots column.table && is_chosen slots subject.table
+knows_expr slots (Literal value) = true
+
+-- the same of a condition, where it is known of its parts
+abbrev pub knows_step : List (Option Place) → CondOf-F Expr Bool → Bool
+knows_step slots (All parts) = list_all (λ part. part) parts
+knows_step slots (Any parts) = list_all (λ part. part) parts
+knows_step slots (Not part) = part
+knows_step slots (Compare op left right) = knows_expr slots left && knows_expr slots right
+knows_step slots (Between value low high) = knows_expr slots value && (knows_expr slots low && knows_expr slots high)
+knows_step slots (Among value list) = knows_expr slots value && list_all (knows_expr slots) list
+knows_step slots (Missing value) = knows_expr slots value
+
+-- whether a condition's columns are in rows that are chosen
+abbrev pub knows : List (Option Place) → CondOf Expr → Bool
+knows slots condition = fold-CondOf Expr Bool (knows_step slots) condition

@@ -1,0 +1,179 @@
+//! All combinations of rows that count, by their places.
+ghost use Rattle.std.specs.Prelude.{◌≡◌, [], ◌∷◌, None, slice_set, ◌<◌, ◌≤◌, true, List, Some, IfOk, OnOk, OnErr, MatchResult, length, map, unwrap_or};
+ghost use Rattle.hippo_model.specs.Terms.{Place};
+ghost use Rattle.hippo_join.specs.Places.{in_range, rows_at, stands};
+ghost use Rattle.hippo_join.specs.Finding.{Covers, Grows, IsFound, HasOneMore, IsAdded};
+ghost use Rattle.hippo_join.specs.Steps.{IsStep};
+ghost use Rattle.std.specs.List.{All};
+ghost use Rattle.hippo_join.specs.declared.stops.Stop.TheVariants.{TooManyRows};
+
+use crate::known::is_chosen;
+use crate::sides::Side;
+use crate::steps::Step;
+use crate::stops::Stop;
+use hippo_eval::{ANSWER_LIMIT, passes};
+use hippo_model::{ChoiceView, Combo, Places};
+use hippo_values::{Memory, Sequence};
+use std::alloc::Global;
+use std::collections::BTreeSet;
+
+// The places that are chosen, in the order of FROM.
+fn chosen_places(alloc: Global, slots: &[Option<usize>]) -> Result<Places, Memory>
+    ensures { IfOk result (λ places. places ≡ map (λ slot. unwrap_or slot 0) slots.now) }
+{
+    let places = slots.iter().map(|slot| slot.unwrap_or(0)).collect(alloc)?;
+    Ok(Sequence::from_vec(places))
+}
+
+fn insert(found: &mut BTreeSet<Places>, places: Places) -> Result<(), Memory>
+    ensures ok { OnOk result (HasOneMore places found.old.keys found.new.keys) }
+    ensures err { OnErr result (found.new.keys ≡ found.old.keys) }
+{
+    found.insert(places)?;
+    Ok(())
+}
+
+pub(crate) fn check_limit(found: &BTreeSet<Places>) -> Result<(), Stop>
+    ensures { MatchResult result (λ _. length found.now.keys ≤ ANSWER_LIMIT) (λ fault. (fault ≡ TooManyRows) × (ANSWER_LIMIT < length found.now.keys)) }
+{
+    if found.len() > ANSWER_LIMIT {
+        Err(Stop::TooManyRows)
+    } else {
+        Ok(())
+    }
+}
+
+// Adds the places of a combination to those that are found.
+fn add(found: &mut BTreeSet<Places>, places: Places) -> Result<(), Stop>
+    ensures { IsAdded places ANSWER_LIMIT found.old.keys found.new.keys result }
+{
+    match insert(found, places) {
+        Ok(()) => check_limit(found),
+        Err(Memory) => Err(Stop::Memory),
+    }
+}
+
+impl<'a, C: ChoiceView> Side<'a, C> {
+    fn in_range(&self, places: &[usize]) -> bool
+        requires { length places.now ≡ length self.now.sets.now }
+        ensures { result ≡ in_range self.now.sets.now places.now }
+    {
+        for (table, place) in places.iter().enumerate() {
+            if *place >= self.sets.get(table).len() {
+                return false;
+            }
+        }
+        true
+    }
+
+    // Whether a combination counts.
+    fn counts(&self, places: &[usize], rows: &Combo<'_>) -> bool
+        requires long { length places.now ≡ length self.now.sets.now }
+        requires rows { rows.now ≡ rows_at self.now.sets.now (map Some places.now) }
+        ensures { result ≡ stands (C.choices self.now.choices.now) self.now.query.now self.now.sets.now places.now }
+    {
+        self.in_range(places) && passes(self.query, rows, self.choices)
+    }
+
+    // Adds the combination whose rows are all chosen, if it counts.
+    fn add_chosen(
+        &self,
+        alloc: Global,
+        slots: &[Option<usize>],
+        found: &mut BTreeSet<Places>,
+    ) -> Result<(), Stop>
+        requires long { length slots.now ≡ length self.now.sets.now }
+        requires whole { Covers [] slots.now }
+        ensures grows { Grows (C.choices self.now.choices.now) self.now.query.now self.now.sets.now found.old.keys found.new.keys }
+        ensures found { IsFound (C.choices self.now.choices.now) self.now.query.now self.now.sets.now slots.now ANSWER_LIMIT found.new.keys result }
+    {
+        let places = chosen_places(alloc, slots)?;
+        let rows = self.rows(alloc, slots)?;
+        if self.counts(places.as_slice(), &rows) {
+            add(found, places)
+        } else {
+            Ok(())
+        }
+    }
+
+    // Finds all combinations that count and have the rows that are chosen, where a place of a step's table is chosen too.
+    #[cycle(find)]
+    fn find_with(
+        &self,
+        alloc: Global,
+        step: &Step,
+        rest: &[Step],
+        place: usize,
+        slots: &mut [Option<usize>],
+        found: &mut BTreeSet<Places>,
+    ) -> Result<(), Stop>
+        requires long { length slots.old ≡ length self.now.sets.now }
+        requires table { step.now.table < length slots.old }
+        requires steps { All (IsStep (C.choices self.now.choices.now) self.now.query.now self.now.sets.now) rest.now }
+        requires covers { Covers (step.now ∷ rest.now) slots.old }
+        ensures slots { OnOk result (slots.new ≡ slice_set slots.old step.now.table None) }
+        ensures grows { Grows (C.choices self.now.choices.now) self.now.query.now self.now.sets.now found.old.keys found.new.keys }
+        ensures found { IsFound (C.choices self.now.choices.now) self.now.query.now self.now.sets.now
+            (slice_set slots.old step.now.table (Some place)) ANSWER_LIMIT found.new.keys result }
+    {
+        slots[step.table] = Some(place);
+        self.find_behind(alloc, &step.tests, rest, slots, found)?;
+        slots[step.table] = None;
+        Ok(())
+    }
+
+    // Finds all combinations that count and have the rows that are chosen, if some parts of the condition allow it.
+    #[cycle(find)]
+    fn find_behind(
+        &self,
+        alloc: Global,
+        tests: &[usize],
+        rest: &[Step],
+        slots: &mut [Option<usize>],
+        found: &mut BTreeSet<Places>,
+    ) -> Result<(), Stop>
+        requires long { length slots.old ≡ length self.now.sets.now }
+        requires steps { All (IsStep (C.choices self.now.choices.now) self.now.query.now self.now.sets.now) rest.now }
+        requires covers { Covers rest.now slots.old }
+        ensures slots { OnOk result (slots.new ≡ slots.old) }
+        ensures grows { Grows (C.choices self.now.choices.now) self.now.query.now self.now.sets.now found.old.keys found.new.keys }
+        ensures found { IsFound (C.choices self.now.choices.now) self.now.query.now self.now.sets.now slots.old ANSWER_LIMIT found.new.keys result }
+    {
+        if self.may_count(alloc, tests, slots)? {
+            self.find(alloc, rest, slots, found)
+        } else {
+            Ok(())
+        }
+    }
+
+    // Finds all combinations that count and have the rows that are chosen.
+    #[cycle(find)]
+    pub(crate) fn find(
+        &self,
+        alloc: Global,
+        steps: &[Step],
+        slots: &mut [Option<usize>],
+        found: &mut BTreeSet<Places>,
+    ) -> Result<(), Stop>
+        requires long { length slots.old ≡ length self.now.sets.now }
+        requires steps { All (IsStep (C.choices self.now.choices.now) self.now.query.now self.now.sets.now) steps.now }
+        requires covers { Covers steps.now slots.old }
+        ensures slots { OnOk result (slots.new ≡ slots.old) }
+        ensures grows { Grows (C.choices self.now.choices.now) self.now.query.now self.now.sets.now found.old.keys found.new.keys }
+        ensures found { IsFound (C.choices self.now.choices.now) self.now.query.now self.now.sets.now slots.old ANSWER_LIMIT found.new.keys result }
+    {
+        let Some((step, rest)) = steps.split_first() else {
+            return self.add_chosen(alloc, slots, found);
+        };
+        if step.table >= slots.len() {
+            return self.find(alloc, rest, slots, found);
+        }
+        if is_chosen(slots, step.table) {
+            return self.find(alloc, rest, slots, found);
+        }
+        for place in self.places_of(step, slots) {
+            self.find_with(alloc, step, rest, *place, slots, found)?;
+        }
+        Ok(())
+    }
+}

@@ -1,0 +1,76 @@
+//! In which order the tables of a query are joined.
+ghost use Rattle.std.specs.Prelude.{◌≡◌, ◌<◌, ℕ, IfOk, length};
+ghost use Rattle.std.specs.List.{range_with_len};
+ghost use Rattle.hippo_join.specs.Plans.{IsPlanOf};
+
+use crate::reaching::open_slots;
+use crate::ties::{find_tie, outer_parts};
+use hippo_model::{Masked, Plan, Sizes};
+use hippo_values::{Memory, Sequence};
+use std::alloc::Global;
+
+fn tables_below(alloc: Global, count: usize) -> Result<Vec<usize>, Memory>
+    ensures { IfOk result (λ tables. tables.items ≡ range_with_len 0 count) }
+{
+    let mut tables = Vec::with_capacity(alloc, count)?;
+    for table in 0..count {
+        tables.push(table)?;
+    }
+    Ok(tables)
+}
+
+fn size_of(sizes: &Sizes, table: usize) -> u64 {
+    match sizes.as_slice().get(table) {
+        Some(size) => *size,
+        None => 0,
+    }
+}
+
+// How late a table is to be joined: those behind a tie come before the others, and then the small ones.
+fn lateness(query: &Masked, sizes: &Sizes, table: usize, slots: &[Option<usize>]) -> (bool, u64) {
+    let tie = find_tie(outer_parts(&query.cond), table, slots);
+    (tie.is_none(), size_of(sizes, table))
+}
+
+// The place of the table that is to be joined next, among those that are left.
+fn next_place(query: &Masked, sizes: &Sizes, left: &[usize], slots: &[Option<usize>]) -> usize
+    requires { 0 < length left.now }
+    ensures { result < length left.now }
+{
+    let mut best = 0;
+    let mut least = lateness(query, sizes, left[0], slots);
+    for place in 1..left.len() {
+        let late = lateness(query, sizes, left[place], slots);
+        if late < least {
+            best = place;
+            least = late;
+        }
+    }
+    best
+}
+
+fn mark(slots: &mut [Option<usize>], table: usize) {
+    if table < slots.len() {
+        slots[table] = Some(0);
+    }
+}
+
+/// An order in which the tables of a query can be joined, each once, for tables of these sizes: next comes a table that an
+/// equality ties to one before it, if there is one, and of several the smallest. `run` gives the same answer for every
+/// order; this one is chosen to be fast.
+pub fn plan(alloc: Global, query: &Masked, sizes: &Sizes) -> Result<Plan, Memory>
+    ensures { IfOk result (λ plan. IsPlanOf query.now plan) }
+{
+    let mut left = tables_below(alloc, query.tables.len())?;
+    let mut slots = open_slots(alloc, query.tables.len())?;
+    let mut order = Vec::with_capacity(alloc, query.tables.len())?;
+    while !left.is_empty() {
+        let place = next_place(query, sizes, &left, &slots);
+        let table = left.remove(place);
+        mark(&mut slots, table);
+        order.push(table)?;
+    }
+    Ok(Plan {
+        order: Sequence::from_vec(order),
+    })
+}

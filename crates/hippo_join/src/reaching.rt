@@ -1,0 +1,228 @@
+//! Which rows of a table may follow those that are chosen.
+ghost use Rattle.std.specs.Prelude.{◌≡◌, ◌<◌, ℕ, true, None, Some, List, [], ◌∷◌, ◌++◌, if◌then◌else◌, OnOk, IfOk, length, replicate, slice_get};
+ghost use Rattle.std.specs.List.{All, Contains};
+ghost use Rattle.std.specs.List.Sorted.{IsPermutation};
+ghost use Rattle.hippo_model.specs.Terms.{Place};
+ghost use Rattle.hippo_join.specs.Places.{chosen, Fits, stands};
+ghost use Rattle.hippo_join.specs.Lookups.{IsByColumn};
+ghost use Rattle.hippo_join.specs.Ties.{AreEqual};
+ghost use Rattle.hippo_join.specs.Steps.{Reaches, ReachesFrom, IsStep, AreSteps};
+
+use crate::known::{knows, knows_expr, slot_at};
+use crate::lookups::{known_value, sort_by_column, with_value};
+use crate::sides::Side;
+use crate::steps::Step;
+use crate::ties::{Tie, find_tie, outer_parts};
+use hippo_model::{ChoiceView, RowSet};
+use hippo_values::Memory;
+use std::alloc::Global;
+
+// No row of any table is chosen.
+pub(crate) fn open_slots(alloc: Global, tables: usize) -> Result<Vec<Option<usize>>, Memory>
+    ensures { IfOk result (λ slots. slots.items ≡ replicate tables None) }
+{
+    Ok(vec![in alloc; None; tables]?)
+}
+
+// The numbers below one.
+fn numbers_below(alloc: Global, count: usize) -> Result<Vec<usize>, Memory>
+    ensures { IfOk result (λ numbers. (number : ℕ) → number < count → Contains numbers.items number) }
+{
+    let mut numbers = Vec::with_capacity(alloc, count)?;
+    for number in 0..count {
+        numbers.push(number)?;
+    }
+    Ok(numbers)
+}
+
+fn push_if(test: bool, places: &mut Vec<usize>, place: usize) -> Result<(), Memory>
+    ensures { OnOk result (places.new.items ≡ if test then places.old.items ++ place ∷ [] else places.old.items) }
+{
+    if test {
+        places.push(place)?;
+    }
+    Ok(())
+}
+
+fn sorted_by_column(set: &RowSet, column: usize, mut places: Vec<usize>) -> Vec<usize>
+    ensures permutation { IsPermutation places.items result.items }
+    ensures order { IsByColumn set.now column result.items }
+{
+    sort_by_column(set, column, &mut places);
+    places
+}
+
+impl<'a, C: ChoiceView> Side<'a, C> {
+    // Whether some guard can be tested where only these rows are chosen.
+    fn knows_guard(&self, slots: &[Option<usize>]) -> bool {
+        let guards = self.query.guards.as_slice();
+        guards.iter().any(|guard| knows_expr(&guard.expr, slots))
+    }
+
+    // The parts of the condition that can be tested where these rows are chosen, by their places.
+    fn known_parts(&self, alloc: Global, slots: &[Option<usize>]) -> Result<Vec<usize>, Memory> {
+        let mut known = Vec::new(alloc);
+        for (place, part) in outer_parts(&self.query.cond).iter().enumerate() {
+            if knows(part, slots) {
+                known.push(place)?;
+            }
+        }
+        Ok(known)
+    }
+
+    // The places of a table's rows, without those of which the guards and the parts on this table alone say that they do
+    // not count.
+    fn tested_places(
+        &self,
+        alloc: Global,
+        table: usize,
+        tests: &[usize],
+    ) -> Result<Vec<usize>, Memory>
+        requires { table < length self.now.sets.now }
+        ensures { IfOk result (λ places. Reaches (C.choices self.now.choices.now) self.now.query.now self.now.sets.now table places.items) }
+    {
+        let mut slots = open_slots(alloc, self.sets.len())?;
+        let mut places = Vec::new(alloc);
+        for place in 0..self.sets.get(table).len() {
+            slots[table] = Some(place);
+            let may_count = self.may_count_alone(alloc, tests, &slots)?;
+            push_if(may_count, &mut places, place)?;
+        }
+        Ok(places)
+    }
+
+    fn all_places(&self, alloc: Global, table: usize) -> Result<Vec<usize>, Memory>
+        requires { table < length self.now.sets.now }
+        ensures { IfOk result (λ places. Reaches (C.choices self.now.choices.now) self.now.query.now self.now.sets.now table places.items) }
+    {
+        numbers_below(alloc, self.sets.get(table).len())
+    }
+
+    // The places of a table's rows that can count.
+    fn reached_places(&self, alloc: Global, table: usize) -> Result<Vec<usize>, Memory>
+        requires { table < length self.now.sets.now }
+        ensures { IfOk result (λ places. Reaches (C.choices self.now.choices.now) self.now.query.now self.now.sets.now table places.items) }
+    {
+        let mut slots = open_slots(alloc, self.sets.len())?;
+        slots[table] = Some(0);
+        let tests = self.known_parts(alloc, &slots)?;
+        if tests.is_empty() && !self.knows_guard(&slots) {
+            self.all_places(alloc, table)
+        } else {
+            self.tested_places(alloc, table, &tests)
+        }
+    }
+
+    // A table's step behind those whose rows are chosen.
+    pub(crate) fn step(
+        &self,
+        alloc: Global,
+        table: usize,
+        slots: &[Option<usize>],
+        tests: Vec<usize>,
+    ) -> Result<Step, Memory>
+        requires { table < length self.now.sets.now }
+        ensures { IfOk result (λ step. IsStep (C.choices self.now.choices.now) self.now.query.now self.now.sets.now step × (step.table ≡ table)) }
+    {
+        let places = self.reached_places(alloc, table)?;
+        let Some(tie) = find_tie(outer_parts(&self.query.cond), table, slots) else {
+            return Ok(Step {
+                table,
+                tie: None,
+                places,
+                tests,
+            });
+        };
+        let places = sorted_by_column(self.sets.get(table), tie.column, places);
+        Ok(Step {
+            table,
+            tie: Some(tie),
+            places,
+            tests,
+        })
+    }
+
+    // The places of a step that may follow the rows that are chosen, by a tie.
+    fn tied_places<'s>(&self, step: &'s Step, tie: &Tie, slots: &[Option<usize>]) -> &'s [usize]
+        requires step { IsStep (C.choices self.now.choices.now) self.now.query.now self.now.sets.now step.now }
+        requires tie { step.now.tie ≡ Some tie.now }
+        ensures { ReachesFrom (C.choices self.now.choices.now) self.now.query.now self.now.sets.now slots.now step.now.table result.now }
+    {
+        let places = step.places.as_slice();
+        let Some(place) = slot_at(slots, tie.other.table) else {
+            return places;
+        };
+        if tie.other.table >= self.sets.len() || step.table >= self.sets.len() {
+            return places;
+        }
+        let set = self.sets.get(step.table);
+        let others = self.sets.get(tie.other.table);
+        match known_value(others, tie.other.column, place) {
+            None => &places[..0],
+            Some(value) => with_value(set, tie.column, places, value),
+        }
+    }
+
+    // The places of a step that may follow the rows that are chosen.
+    pub(crate) fn places_of<'s>(&self, step: &'s Step, slots: &[Option<usize>]) -> &'s [usize]
+        requires { IsStep (C.choices self.now.choices.now) self.now.query.now self.now.sets.now step.now }
+        ensures { ReachesFrom (C.choices self.now.choices.now) self.now.query.now self.now.sets.now slots.now step.now.table result.now }
+    {
+        match &step.tie {
+            None => step.places.as_slice(),
+            Some(tie) => self.tied_places(step, tie, slots),
+        }
+    }
+
+    // The parts of the condition that can be tested once a row more is chosen, and not with that row alone.
+    fn tests_after(
+        &self,
+        alloc: Global,
+        before: &[Option<usize>],
+        after: &[Option<usize>],
+        alone: &[Option<usize>],
+    ) -> Result<Vec<usize>, Memory> {
+        let mut tests = Vec::new(alloc);
+        for (place, part) in outer_parts(&self.query.cond).iter().enumerate() {
+            if knows(part, after) && !knows(part, before) && !knows(part, alone) {
+                tests.push(place)?;
+            }
+        }
+        Ok(tests)
+    }
+
+    // The parts of the condition that are tested where a table's row is chosen: none where it is the last, since the whole
+    // condition is tested then.
+    fn tests_at(
+        &self,
+        alloc: Global,
+        table: usize,
+        slots: &[Option<usize>],
+    ) -> Result<Vec<usize>, Memory>
+        requires { table < length slots.now }
+    {
+        let mut after = Vec::from_slice(alloc, slots)?;
+        after[table] = Some(0);
+        if after.iter().all(|slot| slot.is_some()) {
+            return Ok(Vec::new(alloc));
+        }
+        let mut alone = open_slots(alloc, slots.len())?;
+        alone[table] = Some(0);
+        self.tests_after(alloc, slots, &after, &alone)
+    }
+
+    // The steps of a join, in an order of tables.
+    pub(crate) fn steps(&self, alloc: Global, order: &[usize]) -> Result<Vec<Step>, Memory>
+        requires { All (λ table. table < length self.now.sets.now) order.now }
+        ensures { IfOk result (λ steps. AreSteps (C.choices self.now.choices.now) self.now.query.now self.now.sets.now order.now steps.items) }
+    {
+        let mut slots = open_slots(alloc, self.sets.len())?;
+        let mut steps = Vec::new(alloc);
+        for table in order {
+            let tests = self.tests_at(alloc, *table, &slots)?;
+            steps.push(self.step(alloc, *table, &slots, tests)?)?;
+            slots[*table] = Some(0);
+        }
+        Ok(steps)
+    }
+}
