@@ -103,8 +103,7 @@ fn rows(alloc: Global) -> Result<Txt, Memory> {
 #[test]
 fn rows_of_answers(rt: HostRuntime) -> Result<(), Fail> {
     let printed = rows(rt.alloc())?;
-    let lines =
-        "64 row 'Ada', DENIED(11), NULL\n0 denied ward('it''s', -2, 2024-02-29) phone 8\n";
+    let lines = "64 row 'Ada', DENIED(11), NULL\n0 denied ward('it''s', -2, 2024-02-29) phone 8\n";
     assert_eq!(rt; printed.as_str(), lines);
     Ok(())
 }
@@ -125,7 +124,8 @@ fn refusals(alloc: Global) -> Result<Txt, Memory> {
 fn refusals_name_what_they_speak_of(rt: HostRuntime) -> Result<(), Fail> {
     let alloc = rt.alloc();
     let printed = refusals(alloc)?;
-    let lines = "- no 19 MomentBack 2024-01-02T08:00:00Z\n1 no 30 UnknownTable nobody\n0 no 43 KeyThere 5\n0 no 58 NoSuchQuery -3\n1 no 13 BadSyntax\n";
+    let lines =
+        "- no 19 MomentBack 2024-01-02T08:00:00Z\n1 no 30 UnknownTable nobody\n0 no 43 KeyThere 5\n0 no 58 NoSuchQuery -3\n1 no 13 BadSyntax\n";
     assert_eq!(rt; printed.as_str(), lines);
     let mut short: RoomyTxt<16> = RoomyTxt::with_room(alloc)?;
     refusal_line(None, &Refusal::BadLine, &mut short)?;
