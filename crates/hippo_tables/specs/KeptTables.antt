@@ -48,14 +48,18 @@ inserted kept number table =
     option_map_or (λ place. table) (find_row table.rows.key (key_in table.rows.key kept) table.rows.rows)
     (grown kept number table)
 
+-- with other rows and numbers
+abbrev pub kept_with : KeptTable → KeyedRows → List ℕ → KeptTable
+kept_with table rows numbers = record { schema = table.schema; rows = rows; numbers = numbers }
+
 -- with a row instead of the one that has its key, if there is one
 abbrev pub updated : BornRow → ℕ → KeptTable → KeptTable
 updated kept number table =
-    option_map_or (λ place. record { schema = table.schema; rows = with_row kept table.rows; numbers = slice_set table.numbers place number })
+    option_map_or (λ place. kept_with table (with_row kept table.rows) (slice_set table.numbers place number))
     (find_row table.rows.key (key_in table.rows.key kept) table.rows.rows) table
 
 -- without the row that has a key, if there is one
 abbrev pub deleted : Key → KeptTable → KeptTable
 deleted key table =
-    option_map_or (λ place. record { schema = table.schema; rows = without_row key table.rows; numbers = remove table.numbers place })
+    option_map_or (λ place. kept_with table (without_row key table.rows) (remove table.numbers place))
     (find_row table.rows.key key table.rows.rows) table

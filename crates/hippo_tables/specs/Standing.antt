@@ -15,9 +15,9 @@ use Rattle.hippo_model.specs.Validity.{create_fits, is_table_version}
 use Rattle.hippo_tables.specs.declared.tables.Change.{Change}
 use Rattle.hippo_tables.specs.declared.tables.Change.TheVariants.{Nothing, Made, Inserted, Updated}
 use Rattle.hippo_tables.specs.declared.tables.Tables.{Tables}
-use Rattle.hippo_tables.specs.KeptTables.{KeptTable, table_at, empty_table, inserted, updated, deleted}
+use Rattle.hippo_tables.specs.KeptTables.{KeptTable, table_at, empty_table, inserted, deleted}
 use Rattle.hippo_tables.specs.declared.table.Before.{Before}
-use Rattle.hippo_tables.specs.Before.{before_of, renewed_table}
+use Rattle.hippo_tables.specs.Before.{before_of, renewed_table, restored}
 
 -- what a history says of a table
 abbrev pub kept_table : History → Name → Option KeptTable
@@ -36,8 +36,7 @@ undone Nothing name kept = kept
 undone (Made table) name kept = if bytes_eq table name then None else kept
 undone (Inserted table key) name kept = if bytes_eq table name then option_map (deleted key) kept else kept
 undone (Updated table before) name kept =
-    if bytes_eq table name then option_map (updated (record { row = before.row; born = before.born }) before.number) kept
-    else kept
+    if bytes_eq table name then option_map (restored before) kept else kept
 
 -- tables know what they were before their last entry
 pub record Remembers (tables : Tables) (history : History) : Type 0 where
