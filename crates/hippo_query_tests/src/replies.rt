@@ -20,7 +20,7 @@ fn ward_key(alloc: Global) -> Result<Cells, Memory> {
     let mut key = Sequence::new(alloc);
     key.push(text(alloc, "it's")?)?;
     key.push(Value::Int(-2))?;
-    key.push(Value::Day(read_day("2024-02-29").unwrap()))?;
+    key.push(Value::Day(read_day("2024-02-29").ok_or(Memory)?))?;
     Ok(key)
 }
 
@@ -46,9 +46,10 @@ fn flag(alloc: Global) -> Result<Flag, Memory> {
     let purpose = name(alloc, "treatment")?;
     let recipient = name(alloc, "clerk")?;
     let shared = tuple(alloc)?;
+    let moment = read_moment("2024-01-02T08:00:00Z").ok_or(Memory)?;
     Ok(Flag {
         seq: 12,
-        moment: read_moment("2024-01-02T08:00:00Z").unwrap(),
+        moment,
         user,
         pair: Pair { purpose, recipient },
         shared,
@@ -109,7 +110,7 @@ fn rows_of_answers(rt: HostRuntime) -> Result<(), Fail> {
 }
 
 fn refusals(alloc: Global) -> Result<Txt, Memory> {
-    let moment = read_moment("2024-01-02T08:00:00Z").unwrap();
+    let moment = read_moment("2024-01-02T08:00:00Z").ok_or(Memory)?;
     let unknown = Refusal::Meaningless(NameFault::UnknownTable(name(alloc, "nobody")?));
     let mut out = Txt::new(alloc);
     refusal_line(None, &Refusal::MomentBack(moment), &mut out)?;

@@ -9,6 +9,7 @@ use hippo_values::Memory;
 use std::alloc::Global;
 
 // Each operand becomes what stands for it under the rules.
+#[derive(Drop)]
 struct Masking<'a> {
     rules: &'a RulesInForce,
 }
