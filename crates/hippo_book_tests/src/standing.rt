@@ -1,8 +1,8 @@
 use crate::acts;
-use hippo_model::{Act, Authorization, ChoiceView, Schemas, TableFault, Verdict, Wanted};
+use hippo_model::{Act, Authorization, ChoiceView, Entry, Schemas, TableFault, Verdict, Wanted};
 use hippo_policy::PolicyBook;
 use hippo_tables::Tables;
-use hippo_values::{Memory, Moment};
+use hippo_values::{Duplicate, Memory, Moment};
 use std::alloc::Global;
 use std::test::Fail;
 
@@ -18,7 +18,7 @@ fn add(
     seq: u64,
     act: Act,
 ) -> Result<(), Memory> {
-    let entry = hippo_model::Entry {
+    let entry = Entry {
         seq,
         moment: moment()?,
         act,
@@ -227,5 +227,56 @@ fn each_column_has_a_gate(rt: HostRuntime) -> Result<(), Fail> {
     let mut tables = Tables::new(alloc);
     let found = gates(alloc, &mut book, &mut tables);
     assert_eq!(rt; found, Ok(2));
+    Ok(())
+}
+
+// Adds an entry to both and then keeps a copy of it; where memory is short on the way, both are what they were.
+fn keep(
+    alloc: Global,
+    book: &mut PolicyBook,
+    tables: &mut Tables,
+    entry: &Entry,
+) -> Result<(), Memory> {
+    book.add(alloc, entry)?;
+    if tables.apply(alloc, entry).is_err() {
+        book.take_back();
+        return Err(Memory);
+    }
+    match entry.copy(alloc) {
+        Ok(copy) => Ok(drop(copy)),
+        Err(_) => {
+            tables.take_back();
+            book.take_back();
+            Err(Memory)
+        }
+    }
+}
+
+// Whether there is a row more just where the entry was kept.
+fn is_kept_or_taken_back(
+    alloc: Global,
+    book: &mut PolicyBook,
+    tables: &mut Tables,
+) -> Result<bool, Memory> {
+    open(alloc, book, tables)?;
+    let before = count(alloc, tables)?;
+    let entry = Entry {
+        seq: 8,
+        moment: moment()?,
+        act: acts::insert(alloc, 3)?,
+    };
+    let kept = keep(alloc, book, tables, &entry);
+    drop(entry);
+    let rows = before + usize::from(kept.is_ok());
+    Ok(count(alloc, tables)? == rows)
+}
+
+#[test]
+fn an_entry_is_kept_or_taken_back(rt: HostRuntime) -> Result<(), Fail> {
+    let alloc = rt.alloc();
+    let mut book = PolicyBook::new(alloc);
+    let mut tables = Tables::new(alloc);
+    let found = is_kept_or_taken_back(alloc, &mut book, &mut tables);
+    assert_eq!(rt; found, Ok(true));
     Ok(())
 }
