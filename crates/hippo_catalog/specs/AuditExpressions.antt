@@ -42,7 +42,8 @@ period_refused period =
     refused (is_none period.from || is_none period.to) BadMoment
     ++ refused (option_map_or (λ from. option_map_or (goes_back from) period.to false) period.from false) PeriodBack
 
--- tables that are not there; exempt pairs; tables that stand twice; columns; kinds; texts; the number of parts; the period
+-- tables that are not there; exempt pairs; tables that stand twice; columns; kinds; texts; the number of parts; the
+-- period
 abbrev pub audit_refused : KnownNames → Period → RawAudit → List NameFault
 audit_refused known period audit =
     let schemas = schemas_of known audit.tables in

@@ -1,9 +1,11 @@
 //! The names of a history.
-ghost use Rattle.std.specs.Prelude.{◌≡◌, ◌∷◌, [], ◌++◌, true, IsOk, OnOk, OnErr, is_none, option_copied, length, bytes_eq};
+ghost use Rattle.std.specs.Prelude.{◌≡◌, ◌∷◌, [], ◌++◌, true, IsOk, OnOk, OnErr};
+ghost use Rattle.std.specs.Prelude.{is_none, option_copied, length, bytes_eq};
 ghost use Rattle.indexmap.specs.IndexMap.{get};
 ghost use Rattle.hippo_model.specs.declared.entry.Act.TheVariants.{Create, Purpose, Recipient, Item};
 ghost use Rattle.hippo_model.specs.declared.entry.Act.{Act as HistoryAct};
-ghost use Rattle.hippo_catalog.specs.Catalogs.{KnownNames, known_at, known_after, creates_anew, table_of, has_purpose, has_recipient, item_of};
+ghost use Rattle.hippo_catalog.specs.Catalogs.{KnownNames, known_at, known_after, creates_anew};
+ghost use Rattle.hippo_catalog.specs.Catalogs.{table_of, has_purpose, has_recipient, item_of};
 ghost use Rattle.hippo_catalog.specs.declared.catalog.Newest.TheVariants as Newest;
 ghost use Rattle.hippo_catalog.specs.NewestNames.{Remembers, creates_nothing, known_before};
 
@@ -213,8 +215,8 @@ impl Catalog {
         }
     }
 
-    /// Takes back the entry that was added last: the catalog then stands for the history before it. Takes no memory. The
-    /// last call that changed the catalog must have added an entry.
+    /// Takes back the entry that was added last: the catalog then stands for the history before it. Takes no memory.
+    /// The last call that changed the catalog must have added an entry.
     pub fn take_back(&mut self)
         ensures { (known : KnownNames) (act : HistoryAct) → Remembers self.old.newest act
             → self.old.names ≡ known_after known act → self.new.names ≡ known }

@@ -7,7 +7,7 @@ ghost use Rattle.hippo_values.specs.declared.names.Name.{Name as ColumnName};
 ghost use Rattle.hippo_catalog.specs.ColumnIndex.{IsIndexOf};
 ghost use Rattle.hippo_catalog.specs.WrittenColumns.{place_of};
 
-use hippo_model::{Column, Schema};
+use hippo_model::{Column, Lent, Schema};
 use hippo_values::{Duplicate, Memory, Name};
 use indexmap::IndexMap;
 use std::alloc::Global;
@@ -30,6 +30,9 @@ impl Model for IndexedTable {
 
     ghost invariant = { λ table. IsIndexOf table.schema.columns table.places };
 }
+
+/// The tables of a statement, in the order of FROM.
+pub type StatementTables<'a> = Lent<'a, IndexedTable>;
 
 // Adds a column's place, unless one of its name has one.
 fn add_place(

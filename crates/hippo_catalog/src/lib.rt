@@ -2,13 +2,23 @@
 #![tactic(auto)]
 
 mod catalog;
+pub mod column_faults;
 mod indexed_table;
+mod kinds;
+mod known_names;
 mod limits;
+mod literals;
+pub mod name_faults;
 mod name_spaces;
 mod period;
+mod repeats;
 
 pub use catalog::{Catalog, Newest};
-pub use indexed_table::IndexedTable;
+pub use indexed_table::{IndexedTable, StatementTables};
+pub use kinds::check_kinds;
+pub use known_names::check_pair;
 pub use limits::{COLUMN_LIMIT, FROM_LIMIT, ITEM_LIMIT, PAIR_LIMIT, TABLE_LIMIT};
+pub use literals::{check_texts, is_bad_text};
 pub use name_spaces::NameSpaces;
 pub use period::Period;
+pub use repeats::check_repeats;

@@ -21,5 +21,10 @@ impl Model for NameSpaces {
 
     ghost Value = { KnownNames };
 
-    ghost view = { λ spaces. record { tables = spaces.tables.entries; purposes = spaces.purposes.keys; recipients = spaces.recipients.keys; items = spaces.items.entries } };
+    ghost view = { λ spaces. record {
+      tables = spaces.tables.entries;
+      purposes = spaces.purposes.keys;
+      recipients = spaces.recipients.keys;
+      items = spaces.items.entries;
+    } };
 }

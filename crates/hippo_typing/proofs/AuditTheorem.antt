@@ -16,7 +16,7 @@ use Rattle.hippo_catalog.specs.AuditExpressions.{audit_parts_refused, period_ref
 use Rattle.hippo_typing.specs.declared.audits.FoundAudit.{FoundAudit}
 use Rattle.hippo_typing.specs.declared.audits.AuditHead.{AuditHead}
 use Rattle.hippo_typing.specs.FoundAudits.{tables_refused, audit_columns_refused, audit_found, judged_refused, head_of_audit}
-use Rattle.hippo_typing.proofs.Refused.{with_four}
+use Rattle.hippo_catalog.proofs.Refused.{with_four}
 
 module _ (known : KnownNames) (audit : RawAudit) (period : Period) (schemas : List Schema) (same : schemas ≡ schemas_of known audit.tables)
     (there : tables_refused known audit ≡ []) where

@@ -25,7 +25,7 @@ use Rattle.hippo_model.specs.Terms.{Place}
 use Rattle.hippo_catalog.specs.Comparisons.{condition_of, kinds_refused, texts_refused}
 use Rattle.hippo_catalog.specs.Catalogs.{KnownNames, schemas_of}
 use Rattle.hippo_catalog.specs.Refusals.{refused, unknown_table, repeated_names, IsFirstOf}
-use Rattle.hippo_typing.proofs.Refused.{first_after, with_four}
+use Rattle.hippo_catalog.proofs.Refused.{first_after, with_four}
 use Rattle.hippo_catalog.specs.StatementLimits.{from_limit, item_limit, too_many}
 use Rattle.hippo_catalog.specs.WrittenColumns.{column_of}
 use Rattle.hippo_catalog.specs.Selects.{outs_of, by_of, plain_column, argument_in, same_reference, lone_column, groups_refused, shown_outs, form_of, listed_columns, columns_refused, select_parts_refused, select_refused, query_of}

@@ -1,23 +1,25 @@
 //! Audit expressions.
-ghost use Rattle.std.specs.Prelude.{◌≡◌, ◌++◌, flat_map, unwrap_or, Option};
+ghost use Rattle.std.specs.Prelude.{◌≡◌, flat_map, unwrap_or, Option};
 ghost use Rattle.hippo_values.specs.Moments.{first_moment};
 ghost use Rattle.hippo_values.specs.declared.moments.Moment.{Moment as Second};
 ghost use Rattle.hippo_model.specs.declared.name_fault.NameFault.TheVariants.{PeriodBack};
 ghost use Rattle.hippo_catalog.specs.declared.period.Period.{Period as PeriodEnds};
 ghost use Rattle.hippo_catalog.specs.Catalogs.{schemas_of};
-ghost use Rattle.hippo_catalog.specs.Refusals.{Resolves, refused, unknown_table, unknown_pair, repeated_names};
-ghost use Rattle.hippo_catalog.specs.AuditExpressions.{goes_back, IsMomentIn, IsPeriodOf, audit_parts_refused, period_refused, audit_refused, audit_of};
-ghost use Rattle.hippo_typing.specs.FoundAudits.{tables_refused, audit_columns_refused, audit_found, judged_refused, head_of_audit};
+ghost use Rattle.hippo_catalog.specs.Refusals.{Resolves, refused, unknown_pair};
+ghost use Rattle.hippo_catalog.specs.AuditExpressions.{goes_back, IsMomentIn, IsPeriodOf};
+ghost use Rattle.hippo_catalog.specs.AuditExpressions.{audit_parts_refused, period_refused, audit_refused, audit_of};
+ghost use Rattle.hippo_typing.specs.FoundAudits.{tables_refused, audit_columns_refused, audit_found};
+ghost use Rattle.hippo_typing.specs.FoundAudits.{judged_refused, head_of_audit};
 
-use crate::change_names::check_pair;
 use crate::columns::found_references;
 use crate::conditions::found_condition;
-use crate::kinds::check_kinds;
-use crate::literals::check_texts;
 use crate::pairs::paired;
 use crate::parts::check_count;
-use crate::tables::{StatementTables, check_repeats, tables_of};
-use hippo_catalog::{Catalog, FROM_LIMIT, ITEM_LIMIT, PAIR_LIMIT, Period};
+use crate::tables::tables_of;
+use hippo_catalog::{
+    Catalog, FROM_LIMIT, ITEM_LIMIT, PAIR_LIMIT, Period, StatementTables, check_kinds, check_pair,
+    check_repeats, check_texts,
+};
 use hippo_model::{Audit, CondOf, NameFault, Names, Operand, Pairs, RawAudit, Refs};
 use hippo_values::{Duplicate, Moment, Txt, read_moment};
 use std::alloc::Global;
@@ -88,7 +90,8 @@ fn check_parts(audit: &RawAudit) -> Result<(), NameFault>
 
 // The purposes and recipients of exempt pairs have to be there.
 fn check_pairs(alloc: Global, catalog: &Catalog, pairs: &Pairs) -> Result<(), NameFault>
-    ensures { Resolves (flat_map (λ pair. unknown_pair catalog.now.names pair.purpose pair.recipient) pairs.now) tt result }
+    ensures { Resolves (flat_map (λ pair. unknown_pair catalog.now.names pair.purpose pair.recipient) pairs.now)
+        tt result }
 {
     for pair in pairs.as_slice() {
         check_pair(alloc, catalog, &pair.purpose, &pair.recipient)?;
@@ -102,7 +105,8 @@ fn audit_tables<'a>(
     catalog: &'a Catalog,
     audit: &RawAudit,
 ) -> Result<StatementTables<'a>, NameFault>
-    ensures { Resolves (tables_refused catalog.now.names audit.now) (schemas_of catalog.now.names audit.now.tables) result }
+    ensures { Resolves (tables_refused catalog.now.names audit.now)
+        (schemas_of catalog.now.names audit.now.tables) result }
 {
     let tables = tables_of(alloc, catalog, audit.tables.as_slice())?;
     check_pairs(alloc, catalog, &audit.exempt)?;
@@ -131,7 +135,8 @@ fn checked_audit(
     cond: &CondOf<Operand>,
     period: &Period,
 ) -> Result<AuditHead, NameFault>
-    ensures { Resolves (judged_refused tables.now audit.now cond.now period.now) (head_of_audit audit.now period.now) result }
+    ensures { Resolves (judged_refused tables.now audit.now cond.now period.now)
+        (head_of_audit audit.now period.now) result }
 {
     check_kinds(tables, cond)?;
     check_texts(cond)?;
@@ -148,7 +153,15 @@ fn checked_audit(
 }
 
 fn audit_of(found: FoundAudit, head: AuditHead, shown: bool) -> Audit
-    ensures { result ≡ record { from = head.from; to = head.to; exempt = head.exempt; shown = shown; columns = found.columns; tables = head.tables; cond = found.cond } }
+    ensures { result ≡ record {
+      from = head.from;
+      to = head.to;
+      exempt = head.exempt;
+      shown = shown;
+      columns = found.columns;
+      tables = head.tables;
+      cond = found.cond;
+    } }
 {
     let FoundAudit { columns, cond } = found;
     let AuditHead {
@@ -185,12 +198,13 @@ fn resolve_over(
     Ok(audit_of(found, head, audit.shown))
 }
 
-/// The audit expression that is meant, each of whose columns is found in one table of its FROM list, or why it is refused.
-/// The ends of its period are the moments that its texts write.
+/// The audit expression that is meant, each of whose columns is found in one table of its FROM list, or why it is
+/// refused. The ends of its period are the moments that its texts write.
 pub fn resolve_audit(alloc: Global, catalog: &Catalog, audit: &RawAudit) -> Result<Audit, NameFault>
     ensures period { (period : PeriodEnds) × IsPeriodOf audit.now period }
     ensures resolved { (period : PeriodEnds) → IsPeriodOf audit.now period
-        → Resolves (audit_refused catalog.now.names period audit.now) (audit_of catalog.now.names period audit.now) result }
+        → Resolves (audit_refused catalog.now.names period audit.now)
+        (audit_of catalog.now.names period audit.now) result }
 {
     let period = read_period(audit);
     resolve_over(alloc, catalog, audit, &period)

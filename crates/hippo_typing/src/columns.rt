@@ -1,14 +1,13 @@
 //! Which column of a statement's tables a written column is.
-ghost use Rattle.std.specs.Prelude.{◌≡◌, List, ◌++◌, map, flat_map, unwrap_or, option_copied, option_to_list, MatchResult};
+ghost use Rattle.std.specs.Prelude.{◌≡◌, List, ◌++◌, map, flat_map};
+ghost use Rattle.std.specs.Prelude.{unwrap_or, option_copied, option_to_list, MatchResult};
 ghost use Rattle.hippo_model.specs.declared.query.Ref.{Ref as Reference};
 ghost use Rattle.hippo_catalog.specs.Refusals.{Resolves, IsFirstOf};
 ghost use Rattle.hippo_catalog.specs.WrittenColumns.{may_stand_in, home_in, homes_refused, column_refused, column_of};
 ghost use Rattle.hippo_typing.specs.Found.{with_column};
 
-use crate::faults;
 use crate::found::{FoundColumn, FoundColumns};
-use crate::tables::StatementTables;
-use hippo_catalog::IndexedTable;
+use hippo_catalog::{IndexedTable, StatementTables, column_faults};
 use hippo_model::{NameFault, RawColumn, Ref, Refs};
 use hippo_values::{Name, Sequence};
 use std::alloc::Global;
@@ -52,7 +51,7 @@ fn one_home(
     match (home, found) {
         (None, found) => Ok(found),
         (Some(home), None) => Ok(Some(home)),
-        (Some(_), Some(_)) => Err(faults::ambiguous_column(alloc, &written.column)),
+        (Some(_), Some(_)) => Err(column_faults::ambiguous_column(alloc, &written.column)),
     }
 }
 
@@ -63,7 +62,7 @@ fn some_home(alloc: Global, written: &RawColumn, home: Option<Ref>) -> Result<Re
 {
     match home {
         Some(home) => Ok(home),
-        None => Err(faults::unknown_column(alloc, written)),
+        None => Err(column_faults::unknown_column(alloc, written)),
     }
 }
 
@@ -89,7 +88,8 @@ pub fn found_columns<'a>(
     tables: &StatementTables<'_>,
     written: &'a [RawColumn],
 ) -> Result<FoundColumns<'a>, NameFault>
-    ensures { Resolves (flat_map (column_refused tables.now) written.now) (map (with_column tables.now) written.now) result }
+    ensures { Resolves (flat_map (column_refused tables.now) written.now)
+        (map (with_column tables.now) written.now) result }
 {
     let mut found = Sequence::new(alloc);
     for written in written {
@@ -105,7 +105,8 @@ pub fn found_references(
     tables: &StatementTables<'_>,
     written: &[RawColumn],
 ) -> Result<Refs, NameFault>
-    ensures { Resolves (flat_map (column_refused tables.now) written.now) (map (column_of tables.now) written.now) result }
+    ensures { Resolves (flat_map (column_refused tables.now) written.now)
+        (map (column_of tables.now) written.now) result }
 {
     let mut found = Sequence::new(alloc);
     for column in written {

@@ -7,7 +7,7 @@ ghost use Rattle.hippo_catalog.specs.WrittenColumns.{column_refused, column_of};
 ghost use Rattle.hippo_catalog.specs.Comparisons.{operand_refused, operand_of, operands_refused, condition_of};
 
 use crate::columns::found_column;
-use crate::tables::StatementTables;
+use hippo_catalog::StatementTables;
 use hippo_model::{CondOf, NameFault, Operand, Operands, RawColumn, RawCond, RawOperand};
 use hippo_values::{Boxed, CompareOp, Duplicate, Sequence, Value};
 use std::alloc::Global;
@@ -80,7 +80,8 @@ fn found_between(
     high: &RawOperand,
 ) -> Result<CondOf<Operand>, NameFault>
     ensures { Resolves (flat_map (operand_refused tables.now) (value.now ∷ low.now ∷ high.now ∷ []))
-        (Between (operand_of tables.now value.now) (operand_of tables.now low.now) (operand_of tables.now high.now)) result }
+        (Between (operand_of tables.now value.now) (operand_of tables.now low.now) (operand_of tables.now high.now))
+        result }
 {
     let value = found_operand(alloc, tables, value)?;
     let low = found_operand(alloc, tables, low)?;
@@ -107,7 +108,8 @@ fn found_missing(
     tables: &StatementTables<'_>,
     value: &RawOperand,
 ) -> Result<CondOf<Operand>, NameFault>
-    ensures { Resolves (flat_map (operand_refused tables.now) (value.now ∷ [])) (Missing (operand_of tables.now value.now)) result }
+    ensures { Resolves (flat_map (operand_refused tables.now) (value.now ∷ []))
+        (Missing (operand_of tables.now value.now)) result }
 {
     let value = found_operand(alloc, tables, value)?;
     Ok(CondOf::Missing { value })
@@ -140,7 +142,8 @@ fn found_parts(
     tables: &StatementTables<'_>,
     parts: &Sequence<RawCond>,
 ) -> Result<Sequence<CondOf<Operand>>, NameFault>
-    ensures { Resolves (flat_map (operands_refused tables.now) parts.now) (map (condition_of tables.now) parts.now) result }
+    ensures { Resolves (flat_map (operands_refused tables.now) parts.now)
+        (map (condition_of tables.now) parts.now) result }
 {
     let mut found = Sequence::new(alloc);
     for part in parts.as_slice() {
@@ -155,7 +158,8 @@ fn found_all(
     tables: &StatementTables<'_>,
     parts: &Sequence<RawCond>,
 ) -> Result<CondOf<Operand>, NameFault>
-    ensures { Resolves (flat_map (operands_refused tables.now) parts.now) (All (map (condition_of tables.now) parts.now)) result }
+    ensures { Resolves (flat_map (operands_refused tables.now) parts.now)
+        (All (map (condition_of tables.now) parts.now)) result }
 {
     Ok(CondOf::All(found_parts(alloc, tables, parts)?))
 }
@@ -166,7 +170,8 @@ fn found_any(
     tables: &StatementTables<'_>,
     parts: &Sequence<RawCond>,
 ) -> Result<CondOf<Operand>, NameFault>
-    ensures { Resolves (flat_map (operands_refused tables.now) parts.now) (Any (map (condition_of tables.now) parts.now)) result }
+    ensures { Resolves (flat_map (operands_refused tables.now) parts.now)
+        (Any (map (condition_of tables.now) parts.now)) result }
 {
     Ok(CondOf::Any(found_parts(alloc, tables, parts)?))
 }

@@ -1,15 +1,16 @@
 //! The list and the GROUP BY columns of a grouped select.
-ghost use Rattle.std.specs.Prelude.{◌≡◌, ◌+◌, ◌≤◌, [], ◌∷◌, ◌++◌, map, filter_map, flat_map, length, option_to_list, is_some, IfOk, OnOk};
+ghost use Rattle.std.specs.Prelude.{◌≡◌, ◌+◌, ◌≤◌, [], ◌∷◌, ◌++◌, map, filter_map, flat_map};
+ghost use Rattle.std.specs.Prelude.{length, option_to_list, is_some, IfOk, OnOk};
 ghost use Rattle.std.specs.List.{list_any, position_or_len};
 ghost use Rattle.hippo_catalog.specs.Refusals.{Resolves};
 ghost use Rattle.hippo_catalog.specs.WrittenColumns.{column_refused};
 ghost use Rattle.hippo_catalog.specs.Selects.{column_in, same_reference};
-ghost use Rattle.hippo_typing.specs.Found.{with_out, plain_found, argument_found, lone_found, groups_found_refused, out_found, shown_found};
+ghost use Rattle.hippo_typing.specs.Found.{with_out, plain_found, argument_found, lone_found};
+ghost use Rattle.hippo_typing.specs.Found.{groups_found_refused, out_found, shown_found};
 
 use crate::columns::found_column;
-use crate::faults;
 use crate::found::{FoundColumn, FoundColumns, FoundOut, FoundOuts};
-use crate::tables::StatementTables;
+use hippo_catalog::{StatementTables, column_faults};
 use hippo_model::{NameFault, Out, Outs, RawColumn, RawOut, Ref, Refs};
 use hippo_values::{Memory, Sequence};
 use std::alloc::Global;
@@ -31,7 +32,8 @@ pub fn found_outs<'a>(
     tables: &StatementTables<'_>,
     outs: &'a [RawOut],
 ) -> Result<FoundOuts<'a>, NameFault>
-    ensures { Resolves (flat_map (λ out. column_refused tables.now (column_in out)) outs.now) (map (with_out tables.now) outs.now) result }
+    ensures { Resolves (flat_map (λ out. column_refused tables.now (column_in out)) outs.now)
+        (map (with_out tables.now) outs.now) result }
 {
     let mut found = Sequence::new(alloc);
     for out in outs {
@@ -83,7 +85,7 @@ fn check_column(
     if is_among(&found.column, others) {
         return Ok(());
     }
-    Err(faults::not_grouped(alloc, &found.written.column))
+    Err(column_faults::not_grouped(alloc, &found.written.column))
 }
 
 // Refuses columns that are not all among others.

@@ -1,14 +1,13 @@
 //! The columns of a select's list.
-ghost use Rattle.std.specs.Prelude.{◌≡◌, [], ◌∷◌, ◌++◌, map, flat_map, bytes_eq, option_copied, if◌then◌else◌, OnOk, MatchResult};
+ghost use Rattle.std.specs.Prelude.{◌≡◌, [], ◌∷◌, ◌++◌, map, flat_map};
+ghost use Rattle.std.specs.Prelude.{bytes_eq, option_copied, if◌then◌else◌, OnOk, MatchResult};
 ghost use Rattle.std.specs.List.{list_any, range_with_len};
 ghost use Rattle.hippo_catalog.specs.Refusals.{Resolves, IsFirstOf};
 ghost use Rattle.hippo_catalog.specs.WrittenColumns.{column_refused, column_of, may_stand_in};
 ghost use Rattle.hippo_catalog.specs.Selects.{item_refused, item_columns, star_refused, star_columns, table_columns};
 
 use crate::columns::{found_column, may_stand_in};
-use crate::faults;
-use crate::tables::StatementTables;
-use hippo_catalog::IndexedTable;
+use hippo_catalog::{IndexedTable, StatementTables, column_faults};
 use hippo_model::{NameFault, RawColumn, RawItem, Ref, Refs};
 use hippo_values::{Memory, Name, Sequence};
 use std::alloc::Global;
@@ -35,7 +34,8 @@ fn push_starred(
     columns: &mut Refs,
 ) -> Result<(), Memory>
     ensures { OnOk result (columns.new ≡ columns.old
-        ++ (if may_stand_in (option_copied qualifier.entry) table.now.name then table_columns place table.now else [])) }
+        ++ (if may_stand_in (option_copied qualifier.entry) table.now.name
+        then table_columns place table.now else [])) }
 {
     let schema = table.schema();
     if may_stand_in(qualifier, &schema.name) {
@@ -77,11 +77,12 @@ fn push_table_star(
     columns: &mut Refs,
 ) -> Result<(), NameFault>
     ensures { MatchResult result
-        (λ _. (star_refused tables.now table.now ≡ []) × (columns.new ≡ columns.old ++ star_columns tables.now (Some table.now)))
+        (λ _. (star_refused tables.now table.now ≡ [])
+        × (columns.new ≡ columns.old ++ star_columns tables.now (Some table.now)))
         (λ fault. IsFirstOf (star_refused tables.now table.now) fault) }
 {
     if !has_table(tables, table) {
-        return Err(faults::unknown_star(alloc, table));
+        return Err(column_faults::unknown_star(alloc, table));
     }
     push_star(tables, Some(table), columns)?;
     Ok(())
@@ -94,7 +95,8 @@ fn push_column(
     columns: &mut Refs,
 ) -> Result<(), NameFault>
     ensures { MatchResult result
-        (λ _. (column_refused tables.now written.now ≡ []) × (columns.new ≡ columns.old ++ column_of tables.now written.now ∷ []))
+        (λ _. (column_refused tables.now written.now ≡ [])
+        × (columns.new ≡ columns.old ++ column_of tables.now written.now ∷ []))
         (λ fault. IsFirstOf (column_refused tables.now written.now) fault) }
 {
     let column = found_column(alloc, tables, written)?;
@@ -136,7 +138,8 @@ pub fn found_items(
     tables: &StatementTables<'_>,
     items: &[RawItem],
 ) -> Result<Refs, NameFault>
-    ensures { Resolves (flat_map (item_refused tables.now) items.now) (flat_map (item_columns tables.now) items.now) result }
+    ensures { Resolves (flat_map (item_refused tables.now) items.now)
+        (flat_map (item_columns tables.now) items.now) result }
 {
     let mut columns = Sequence::new(alloc);
     for item in items {

@@ -1,25 +1,24 @@
 //! Selects.
-ghost use Rattle.std.specs.Prelude.{◌≡◌, ◌+◌, ◌≤◌, ◌++◌, [], map, flat_map, length, IfOk};
+ghost use Rattle.std.specs.Prelude.{◌≡◌, ◌+◌, ◌≤◌, [], map, flat_map, length, IfOk};
 ghost use Rattle.hippo_model.specs.declared.query.Form.TheVariants.{Grouped};
 ghost use Rattle.hippo_catalog.specs.Refusals.{Resolves};
-ghost use Rattle.hippo_catalog.specs.StatementLimits.{too_many, item_limit, from_limit};
 ghost use Rattle.hippo_catalog.specs.WrittenColumns.{column_refused};
-ghost use Rattle.hippo_catalog.specs.Comparisons.{kinds_refused, texts_refused};
-ghost use Rattle.hippo_catalog.specs.Selects.{column_in, item_refused, item_columns, outs_of, by_of, list_refused, columns_refused, select_parts_refused, select_refused, query_of};
-ghost use Rattle.hippo_typing.specs.Found.{with_out, groups_found_refused, shown_found};
-ghost use Rattle.hippo_typing.specs.FoundSelects.{list_found, select_found, head_refused, head_of, items_of, form_found};
+ghost use Rattle.hippo_catalog.specs.Selects.{column_in, item_refused, item_columns, outs_of, by_of};
+ghost use Rattle.hippo_catalog.specs.Selects.{list_refused, columns_refused, select_parts_refused};
+ghost use Rattle.hippo_catalog.specs.Selects.{select_refused, query_of};
+ghost use Rattle.hippo_typing.specs.Found.{with_out, shown_found};
+ghost use Rattle.hippo_typing.specs.FoundSelects.{list_found, select_found, head_refused};
+ghost use Rattle.hippo_typing.specs.FoundSelects.{head_of, items_of, form_found};
 
 use crate::columns::found_columns;
 use crate::conditions::found_condition;
 use crate::found::{FoundColumns, FoundOuts};
 use crate::groups::{check_groups, found_outs, grouped_items, shown_outs};
 use crate::items::found_items;
-use crate::kinds::check_kinds;
-use crate::literals::check_texts;
 use crate::pairs::paired;
 use crate::parts::check_count;
-use crate::tables::{StatementTables, found_tables};
-use hippo_catalog::{Catalog, FROM_LIMIT, ITEM_LIMIT};
+use crate::tables::found_tables;
+use hippo_catalog::{Catalog, FROM_LIMIT, ITEM_LIMIT, StatementTables, check_kinds, check_texts};
 use hippo_model::{
     CondOf, Form, NameFault, Names, Operand, Query, RawColumn, RawForm, RawOut, RawOuts, RawSelect,
     Refs, Shape,
@@ -166,7 +165,10 @@ fn query_items(alloc: Global, form: &RawForm, found: &FoundSelect<'_>) -> Result
 
 fn grouped_form(alloc: Global, found: &FoundSelect<'_>) -> Result<Form, Memory>
     requires { length found.now.by + length found.now.list.outs ≤ 256 }
-    ensures { IfOk result (λ form. form ≡ Grouped (record { keys = length found.now.by; outs = shown_found found.now.by (length found.now.by) found.now.list.outs })) }
+    ensures { IfOk result (λ form. form ≡ Grouped (record {
+      keys = length found.now.by;
+      outs = shown_found found.now.by (length found.now.by) found.now.list.outs;
+    })) }
 {
     let outs = shown_outs(alloc, &found.list.outs, &found.by)?;
     Ok(Form::Grouped(Shape {

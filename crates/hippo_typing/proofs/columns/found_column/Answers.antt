@@ -4,7 +4,7 @@ use Rattle.std.specs.List.{enumerate_from}
 use Rattle.hippo_model.specs.declared.query.Ref.{Ref}
 use Rattle.hippo_catalog.specs.Refusals.{IsFirstOf}
 use Rattle.hippo_catalog.specs.WrittenColumns.{home_in, homes, homes_refused, column_refused}
-use Rattle.hippo_typing.proofs.ListLemmas.{filter_map_at_item}
+use Rattle.hippo_catalog.proofs.ListLemmas.{filter_map_at_item}
 use Rattle.hippo_typing.proofs.columns.found_column.Goals as goal
 
 pub returns-in_err-home : goal.returns-in_err-home

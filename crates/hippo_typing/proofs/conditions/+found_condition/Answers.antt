@@ -4,7 +4,7 @@ use Rattle.hippo_model.proofs.ChangedOperands.{changed_operands-All, changed_ope
 use Rattle.hippo_catalog.specs.Comparisons.{operand_refused, operands_refused, operand_of}
 use Rattle.hippo_catalog.specs.Refusals.{IsFirstOf}
 use Rattle.hippo_catalog.proofs.ComparedOperands.{gathered-All, gathered-Any}
-use Rattle.hippo_typing.proofs.Refused.{first_at_item}
+use Rattle.hippo_catalog.proofs.Refused.{first_at_item}
 use Rattle.hippo_typing.proofs.conditions.+found_condition.Goals as goal
 
 pub found_condition-returns-in-All : goal.found_condition-returns-in-All

@@ -2,7 +2,7 @@ use Rattle.std.proofs.Common.{arith, rules}
 use Rattle.std.specs.List.{flat_map}
 use Rattle.hippo_catalog.specs.Comparisons.{operand_refused}
 use Rattle.hippo_catalog.specs.Refusals.{IsFirstOf}
-use Rattle.hippo_typing.proofs.Refused.{first_at_item}
+use Rattle.hippo_catalog.proofs.Refused.{first_at_item}
 use Rattle.hippo_typing.proofs.conditions.found_list.Goals as goal
 
 pub returns-in_err-found_operand : goal.returns-in_err-found_operand

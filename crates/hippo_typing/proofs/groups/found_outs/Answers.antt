@@ -6,7 +6,7 @@ use Rattle.hippo_model.specs.declared.statement.RawOut.{RawOut}
 use Rattle.hippo_catalog.specs.Refusals.{IsFirstOf}
 use Rattle.hippo_catalog.specs.Selects.{column_in}
 use Rattle.hippo_catalog.specs.WrittenColumns.{column_refused}
-use Rattle.hippo_typing.proofs.Refused.{first_at_item}
+use Rattle.hippo_catalog.proofs.Refused.{first_at_item}
 use Rattle.hippo_typing.proofs.groups.found_outs.Goals as goal
 
 pub returns-in_err-column : goal.returns-in_err-column

@@ -1,0 +1,48 @@
+-- Two lists side by side, place by place.
+use Rattle.std.proofs.Common.{◌≡◌, ℕ, ◌+◌, ◌<◌, List, [], ◌∷◌, ◌++◌, length, drop, min, get_or, arith, refl}
+use Rattle.std.specs.List.{zip, flat_map}
+use Rattle.std.proofs.lemmas.List.{nil_from_length, length-drop}
+use Rattle.std.proofs.lemmas.List.Concat.{flat_map-append}
+use Rattle.std.proofs.lemmas.Slice.Zip.{length-zip}
+use Rattle.hippo_model.specs.declared.name_fault.NameFault.{NameFault}
+use Rattle.hippo_catalog.specs.Refusals.{IsFirstOf}
+use Rattle.hippo_catalog.proofs.ListLemmas.{drop_at_get_or}
+use Rattle.hippo_catalog.proofs.Refused.{first_with_more, first_after}
+
+-- no pair is left where the shorter list has ended
+pub zip-past_end : {A B : Type 0} (xs : List A) (ys : List B) (n : ℕ) → n ≡ min (length xs) (length ys) → zip (drop n xs) (drop n ys) ≡ []
+zip-past_end xs ys n ended =
+    nil_from_length (zip (drop n xs) (drop n ys)) (rw (length-zip (drop n xs) (drop n ys), length-drop n xs, length-drop n ys) (omega arith))
+
+-- the pair at a place, and then those behind it
+pub zip-drop : {A B : Type 0} (xs : List A) (ys : List B) (n : ℕ) (x : A) (y : B) → n < length xs → n < length ys → x ≡ get_or xs n x → y ≡ get_or ys n y → zip (drop n xs) (drop n ys) ≡ (x, y) ∷ zip (drop (n + 1) xs) (drop (n + 1) ys)
+zip-drop xs ys n x y within also read first =
+    rw (drop_at_get_or xs n x within read, drop_at_get_or ys n y also first) refl
+
+-- where nothing is refused before a pair, its first refusal is the first of all
+pub first_at_pair : {A B : Type 0} (refuse : A × B → List NameFault) (xs : List A) (ys : List B) (n : ℕ) (x : A) (y : B) (fault : NameFault) → n < length xs → n < length ys → x ≡ get_or xs n x → y ≡ get_or ys n y → flat_map refuse (zip xs ys) ≡ flat_map refuse (zip (drop n xs) (drop n ys)) → IsFirstOf (refuse (x, y)) fault → IsFirstOf (flat_map refuse (zip xs ys)) fault
+first_at_pair refuse xs ys n x y fault within also read too left first =
+    rw (left, zip-drop xs ys n x y within also read too) (first_with_more (refuse (x, y)) (flat_map refuse (zip (drop (n + 1) xs) (drop (n + 1) ys))) fault first)
+
+-- the first refusal of some members is that of these and more
+pub first_of_front : {A : Type 0} (refuse : A → List NameFault) (front back : List A) (fault : NameFault) → IsFirstOf (flat_map refuse front) fault → IsFirstOf (flat_map refuse (front ++ back)) fault
+first_of_front refuse front back fault first =
+    rw (flat_map-append refuse front back) (first_with_more (flat_map refuse front) (flat_map refuse back) fault first)
+
+-- the first refusal of a group, where nothing is refused before it, and groups come behind it
+module _ (before group : List NameFault) (fault : NameFault) (none : before ≡ []) (first : IsFirstOf group fault) where
+  pub with_one : (a : List NameFault) → IsFirstOf (before ++ group ++ a) fault
+  with_one a = first_with_more (before ++ group) a fault (first_after before group fault none first)
+
+  pub with_two : (a b : List NameFault) → IsFirstOf (before ++ group ++ a ++ b) fault
+  with_two a b = first_with_more (before ++ group ++ a) b fault (with_one a)
+
+  pub with_three : (a b c : List NameFault) → IsFirstOf (before ++ group ++ a ++ b ++ c) fault
+  with_three a b c = first_with_more (before ++ group ++ a ++ b) c fault (with_two a b)
+
+  pub with_four : (a b c d : List NameFault) → IsFirstOf (before ++ group ++ a ++ b ++ c ++ d) fault
+  with_four a b c d = first_with_more (before ++ group ++ a ++ b ++ c) d fault (with_three a b c)
+
+-- nothing is refused in two groups where nothing is in either
+pub neither : (a b : List NameFault) → a ≡ [] → b ≡ [] → a ++ b ≡ []
+neither a b none also = rw (none, also) refl

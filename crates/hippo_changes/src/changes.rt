@@ -1,0 +1,237 @@
+//! What a statement that changes something asks for, or why it is refused.
+ghost use Rattle.std.specs.Prelude.{◌≡◌, false, Err};
+ghost use Rattle.hippo_model.specs.declared.name_fault.NameFault.TheVariants as faults;
+ghost use Rattle.hippo_model.specs.declared.statement.Stmt.TheVariants.{CreatePurpose, CreateRecipient, CreateItem};
+ghost use Rattle.hippo_model.specs.declared.statement.Stmt.TheVariants.{Authorize, Deauthorize, Choice, Insert};
+ghost use Rattle.hippo_catalog.specs.ChangesRefused.{change_refused};
+ghost use Rattle.hippo_catalog.specs.ChangesWanted.{wanted_by, Grants, changes_something};
+
+use crate::keys::{check_delete, check_update};
+use crate::names::{check_item, check_new, known_table};
+use crate::rules::{RuleNames, check_allow, check_revoke};
+use crate::tables::check_create_table;
+use crate::values::{check_new_row, key_of};
+use hippo_catalog::{Catalog, check_pair};
+use hippo_model::{Act, Cells, ItemKind, NameFault, Stmt, Wanted};
+use hippo_values::{Duplicate, Name};
+use std::alloc::Global;
+
+fn check_create_purpose(
+    alloc: Global,
+    catalog: &Catalog,
+    purpose: &Name,
+) -> Result<Wanted, NameFault>
+    ensures { Grants (change_refused catalog.now.names (CreatePurpose purpose.now))
+        (wanted_by catalog.now.names (CreatePurpose purpose.now)) result }
+{
+    check_new(alloc, catalog.has_purpose(purpose), purpose)?;
+    Ok(Wanted::Ready(Act::Purpose(purpose.copy(alloc)?)))
+}
+
+fn check_create_recipient(
+    alloc: Global,
+    catalog: &Catalog,
+    recipient: &Name,
+) -> Result<Wanted, NameFault>
+    ensures { Grants (change_refused catalog.now.names (CreateRecipient recipient.now))
+        (wanted_by catalog.now.names (CreateRecipient recipient.now)) result }
+{
+    check_new(alloc, catalog.has_recipient(recipient), recipient)?;
+    Ok(Wanted::Ready(Act::Recipient(recipient.copy(alloc)?)))
+}
+
+fn check_create_item(
+    alloc: Global,
+    catalog: &Catalog,
+    item: &Name,
+    kind: ItemKind,
+) -> Result<Wanted, NameFault>
+    ensures { Grants (change_refused catalog.now.names (CreateItem item.now kind))
+        (wanted_by catalog.now.names (CreateItem item.now kind)) result }
+{
+    check_new(alloc, catalog.item(item).is_some(), item)?;
+    let item = item.copy(alloc)?;
+    Ok(Wanted::Ready(Act::Item { item, kind }))
+}
+
+fn check_authorize(
+    alloc: Global,
+    catalog: &Catalog,
+    user: &Name,
+    purpose: &Name,
+    recipient: &Name,
+) -> Result<Wanted, NameFault>
+    ensures { Grants (change_refused catalog.now.names (Authorize user.now purpose.now recipient.now))
+        (wanted_by catalog.now.names (Authorize user.now purpose.now recipient.now)) result }
+{
+    check_pair(alloc, catalog, purpose, recipient)?;
+    let user = user.copy(alloc)?;
+    let purpose = purpose.copy(alloc)?;
+    let recipient = recipient.copy(alloc)?;
+    Ok(Wanted::Ready(Act::Authorize {
+        user,
+        purpose,
+        recipient,
+    }))
+}
+
+fn check_deauthorize(
+    alloc: Global,
+    catalog: &Catalog,
+    user: &Name,
+    purpose: &Name,
+    recipient: &Name,
+) -> Result<Wanted, NameFault>
+    ensures { Grants (change_refused catalog.now.names (Deauthorize user.now purpose.now recipient.now))
+        (wanted_by catalog.now.names (Deauthorize user.now purpose.now recipient.now)) result }
+{
+    check_pair(alloc, catalog, purpose, recipient)?;
+    let user = user.copy(alloc)?;
+    let purpose = purpose.copy(alloc)?;
+    let recipient = recipient.copy(alloc)?;
+    Ok(Wanted::Ready(Act::Deauthorize {
+        user,
+        purpose,
+        recipient,
+    }))
+}
+
+fn check_choice(
+    alloc: Global,
+    catalog: &Catalog,
+    subject: &i64,
+    item: &Name,
+    yes: bool,
+) -> Result<Wanted, NameFault>
+    ensures { Grants (change_refused catalog.now.names (Choice subject.now item.now yes))
+        (wanted_by catalog.now.names (Choice subject.now item.now yes)) result }
+{
+    check_item(alloc, catalog, item)?;
+    let item = item.copy(alloc)?;
+    Ok(Wanted::Ready(Act::Choice {
+        subject: *subject,
+        item,
+        yes,
+    }))
+}
+
+fn check_insert(
+    alloc: Global,
+    catalog: &Catalog,
+    table: &Name,
+    values: &Cells,
+) -> Result<Wanted, NameFault>
+    ensures { Grants (change_refused catalog.now.names (Insert table.now values.now))
+        (wanted_by catalog.now.names (Insert table.now values.now)) result }
+{
+    let schema = known_table(alloc, catalog, table)?.schema();
+    check_new_row(alloc, schema, values.as_slice())?;
+    let table = table.copy(alloc)?;
+    let key = key_of(alloc, schema.key.as_slice(), values.as_slice())?;
+    let row = values.copy(alloc)?;
+    Ok(Wanted::Add { table, row, key })
+}
+
+// INSERT, UPDATE and DELETE.
+fn check_row_change(alloc: Global, catalog: &Catalog, change: &Stmt) -> Result<Wanted, NameFault>
+    ensures answer { Grants (change_refused catalog.now.names change.now) (wanted_by catalog.now.names change.now) result }
+    ensures other { changes_something change.now ≡ false → result ≡ Err faults.Memory }
+{
+    match change {
+        Stmt::Insert { table, values } => check_insert(alloc, catalog, table, values),
+        Stmt::Update {
+            table,
+            columns,
+            values,
+            key_columns,
+            key_values,
+        } => check_update(
+            alloc,
+            catalog,
+            table,
+            columns,
+            values,
+            key_columns,
+            key_values,
+        ),
+        Stmt::Delete {
+            table,
+            key_columns,
+            key_values,
+        } => check_delete(alloc, catalog, table, key_columns, key_values),
+        _ => Err(NameFault::Memory),
+    }
+}
+
+// ALLOW, REVOKE and what changes rows.
+fn check_table_change(alloc: Global, catalog: &Catalog, change: &Stmt) -> Result<Wanted, NameFault>
+    ensures answer { Grants (change_refused catalog.now.names change.now) (wanted_by catalog.now.names change.now) result }
+    ensures other { changes_something change.now ≡ false → result ≡ Err faults.Memory }
+{
+    match change {
+        Stmt::Allow {
+            purpose,
+            recipient,
+            table,
+            columns,
+            item,
+            days,
+        } => {
+            let rule = RuleNames {
+                purpose,
+                recipient,
+                table,
+                columns,
+            };
+            check_allow(alloc, catalog, rule, item, *days)
+        }
+        Stmt::Revoke {
+            purpose,
+            recipient,
+            table,
+            columns,
+        } => {
+            let rule = RuleNames {
+                purpose,
+                recipient,
+                table,
+                columns,
+            };
+            check_revoke(alloc, catalog, rule)
+        }
+        _ => check_row_change(alloc, catalog, change),
+    }
+}
+
+/// What a statement that changes something asks for, or the first refusal that holds: its names and types are right
+/// where a catalog's names stand. What it does may still wait for the rows that are there. A statement that changes
+/// nothing is answered with want of memory; of one that does, any error else is its first refusal.
+pub fn check_change(alloc: Global, catalog: &Catalog, statement: &Stmt) -> Result<Wanted, NameFault>
+    ensures answer { Grants (change_refused catalog.now.names statement.now)
+        (wanted_by catalog.now.names statement.now) result }
+    ensures other { changes_something statement.now ≡ false → result ≡ Err faults.Memory }
+{
+    match statement {
+        Stmt::CreateTable {
+            table,
+            columns,
+            key,
+            subject,
+        } => check_create_table(alloc, catalog, table, columns, key, subject),
+        Stmt::CreatePurpose(purpose) => check_create_purpose(alloc, catalog, purpose),
+        Stmt::CreateRecipient(recipient) => check_create_recipient(alloc, catalog, recipient),
+        Stmt::CreateItem { item, kind } => check_create_item(alloc, catalog, item, *kind),
+        Stmt::Authorize {
+            user,
+            purpose,
+            recipient,
+        } => check_authorize(alloc, catalog, user, purpose, recipient),
+        Stmt::Deauthorize {
+            user,
+            purpose,
+            recipient,
+        } => check_deauthorize(alloc, catalog, user, purpose, recipient),
+        Stmt::Choice { subject, item, yes } => check_choice(alloc, catalog, subject, item, *yes),
+        _ => check_table_change(alloc, catalog, statement),
+    }
+}

@@ -1,0 +1,123 @@
+//! ALLOW and REVOKE.
+ghost use Rattle.std.specs.Prelude.{◌≡◌, IfOk};
+ghost use Rattle.hippo_model.specs.declared.entry.Act.TheVariants as acts;
+ghost use Rattle.hippo_model.specs.declared.statement.Stmt.TheVariants.{Allow, Revoke};
+ghost use Rattle.hippo_model.specs.declared.statement.Wanted.TheVariants.{Ready};
+ghost use Rattle.hippo_catalog.specs.Refusals.{Resolves};
+ghost use Rattle.hippo_catalog.specs.ChangesRefused.{item_refused, rule_refused, places_of, change_refused};
+ghost use Rattle.hippo_catalog.specs.ChangesWanted.{wanted_by, Grants};
+
+use crate::columns::places;
+use crate::names::{check_item_if_any, known_table};
+use hippo_catalog::{Catalog, IndexedTable, check_pair, check_repeats, name_faults};
+use hippo_model::{Act, NameFault, Names, Places, Schema, Wanted};
+use hippo_values::{Duplicate, Memory, Name};
+use std::alloc::Global;
+
+/// What a rule names.
+#[derive(Clone, Copy)]
+pub struct RuleNames<'a> {
+    pub purpose: &'a Name,
+    pub recipient: &'a Name,
+    pub table: &'a Name,
+    pub columns: &'a Names,
+}
+
+fn rule_places(alloc: Global, table: &IndexedTable, columns: &Names) -> Result<Places, NameFault>
+    ensures { Resolves (rule_refused columns.now table.now) (places_of table.now columns.now) result }
+{
+    check_repeats(alloc, columns.as_slice())?;
+    places(alloc, table, columns.as_slice())
+}
+
+// An item wants a table with SUBJECT.
+fn check_subject(alloc: Global, schema: &Schema, item: &Option<Name>) -> Result<(), NameFault>
+    ensures { Resolves (item_refused item.now schema.now) tt result }
+{
+    if item.is_some() && schema.subject.is_none() {
+        return Err(name_faults::no_subject(alloc, &schema.name));
+    }
+    Ok(())
+}
+
+fn copied_if_any(alloc: Global, name: &Option<Name>) -> Result<Option<Name>, Memory>
+    ensures { IfOk result (λ made. made ≡ name.now) }
+{
+    match name {
+        None => Ok(None),
+        Some(name) => Ok(Some(name.copy(alloc)?)),
+    }
+}
+
+fn allow(
+    alloc: Global,
+    rule: RuleNames,
+    columns: Places,
+    item: &Option<Name>,
+    days: Option<u32>,
+) -> Result<Wanted, Memory>
+    ensures { IfOk result (λ made. made ≡ Ready (acts.Allow rule.entry.purpose.now rule.entry.recipient.now
+        rule.entry.table.now columns item.now days)) }
+{
+    let purpose = rule.purpose.copy(alloc)?;
+    let recipient = rule.recipient.copy(alloc)?;
+    let table = rule.table.copy(alloc)?;
+    let item = copied_if_any(alloc, item)?;
+    Ok(Wanted::Ready(Act::Allow {
+        purpose,
+        recipient,
+        table,
+        columns,
+        item,
+        days,
+    }))
+}
+
+fn revoke(alloc: Global, rule: RuleNames, columns: Places) -> Result<Wanted, Memory>
+    ensures { IfOk result (λ made. made ≡ Ready (acts.Revoke rule.entry.purpose.now rule.entry.recipient.now
+        rule.entry.table.now columns)) }
+{
+    let purpose = rule.purpose.copy(alloc)?;
+    let recipient = rule.recipient.copy(alloc)?;
+    let table = rule.table.copy(alloc)?;
+    Ok(Wanted::Ready(Act::Revoke {
+        purpose,
+        recipient,
+        table,
+        columns,
+    }))
+}
+
+/// ALLOW: the columns that a rule shows.
+pub fn check_allow(
+    alloc: Global,
+    catalog: &Catalog,
+    rule: RuleNames,
+    item: &Option<Name>,
+    days: Option<u32>,
+) -> Result<Wanted, NameFault>
+    ensures { Grants (change_refused catalog.now.names (Allow rule.entry.purpose.now rule.entry.recipient.now
+        rule.entry.table.now rule.entry.columns.now item.now days))
+        (wanted_by catalog.now.names (Allow rule.entry.purpose.now rule.entry.recipient.now
+        rule.entry.table.now rule.entry.columns.now item.now days)) result }
+{
+    let table = known_table(alloc, catalog, rule.table)?;
+    check_pair(alloc, catalog, rule.purpose, rule.recipient)?;
+    check_item_if_any(alloc, catalog, item)?;
+    let columns = rule_places(alloc, table, rule.columns)?;
+    check_subject(alloc, table.schema(), item)?;
+    Ok(allow(alloc, rule, columns, item, days)?)
+}
+
+/// REVOKE: the columns that a rule no longer shows.
+pub fn check_revoke(alloc: Global, catalog: &Catalog, rule: RuleNames) -> Result<Wanted, NameFault>
+    ensures { Grants (change_refused catalog.now.names (Revoke rule.entry.purpose.now rule.entry.recipient.now
+        rule.entry.table.now rule.entry.columns.now))
+        (wanted_by catalog.now.names (Revoke rule.entry.purpose.now rule.entry.recipient.now
+        rule.entry.table.now rule.entry.columns.now)) result }
+{
+    let table = known_table(alloc, catalog, rule.table)?;
+    check_pair(alloc, catalog, rule.purpose, rule.recipient)?;
+    let columns = rule_places(alloc, table, rule.columns)?;
+    Ok(revoke(alloc, rule, columns)?)
+}

@@ -1,0 +1,188 @@
+//! CREATE TABLE.
+ghost use Rattle.std.specs.Prelude.{◌≡◌, [], ◌++◌, map, option_copied, option_to_list, option_and_then, bytes_eq, IfOk};
+ghost use Rattle.std.specs.List.{list_any};
+ghost use Rattle.hippo_model.specs.declared.statement.Stmt.TheVariants.{CreateTable};
+ghost use Rattle.hippo_model.specs.Validity.{is_integer};
+ghost use Rattle.hippo_catalog.specs.Refusals.{Resolves, repeated_names};
+ghost use Rattle.hippo_catalog.specs.WrittenColumns.{place_of};
+ghost use Rattle.hippo_catalog.specs.ChangesRefused.{draft_of, column_named, places_of, unknown_columns};
+ghost use Rattle.hippo_catalog.specs.ChangesRefused.{subject_refused, sizes_refused, create_refused, change_refused};
+ghost use Rattle.hippo_catalog.specs.ChangesWanted.{with_not_null, wanted_by, Grants};
+
+use crate::columns::{NamedColumns, place_if_any, places};
+use crate::names::check_new;
+use hippo_catalog::{COLUMN_LIMIT, Catalog, TABLE_LIMIT, check_repeats, name_faults};
+use hippo_model::{Act, Column, ColumnKind, Columns, NameFault, Names, Places, Schema, Wanted};
+use hippo_values::{Duplicate, Memory, Name, Sequence};
+use indexmap::IndexSet;
+use std::alloc::Global;
+
+fn check_columns_differ(alloc: Global, columns: &[Column]) -> Result<(), NameFault>
+    ensures { Resolves (repeated_names (map (λ column. column.name) columns.now)) tt result }
+{
+    let mut before = IndexSet::new(alloc);
+    for column in columns {
+        if before.contains(&&column.name) {
+            return Err(name_faults::repeated_name(alloc, &column.name));
+        }
+        before.insert(&column.name)?;
+    }
+    Ok(())
+}
+
+fn column_named<'a>(columns: &'a Columns, name: &Name) -> Option<&'a Column>
+    ensures { option_copied result ≡ column_named (draft_of [] columns.now) name.now }
+{
+    let place = columns.place(name)?;
+    columns.as_slice().get(place)
+}
+
+fn is_integer(kind: ColumnKind) -> bool
+    ensures { result ≡ is_integer kind }
+{
+    matches!(kind, ColumnKind::Integer)
+}
+
+fn check_subject(columns: &Columns, subject: &Option<Name>) -> Result<(), NameFault>
+    ensures { Resolves (subject_refused (draft_of [] columns.now) subject.now) tt result }
+{
+    let Some(name) = subject else {
+        return Ok(());
+    };
+    match column_named(columns, name) {
+        Some(column) if !is_integer(column.kind) => Err(NameFault::TypeMismatch),
+        _ => Ok(()),
+    }
+}
+
+// The places of the key's columns, in the key's order, and of the SUBJECT.
+#[derive(Drop)]
+struct KeyPlaces {
+    key: Places,
+    subject: Option<usize>,
+}
+
+fn key_places(
+    alloc: Global,
+    columns: &Columns,
+    key: &Names,
+    subject: &Option<Name>,
+) -> Result<KeyPlaces, NameFault>
+    ensures { Resolves (unknown_columns (draft_of [] columns.now) (key.now ++ option_to_list subject.now))
+        (record {
+          key = places_of (draft_of [] columns.now) key.now;
+          subject = option_and_then (place_of (draft_of [] columns.now)) subject.now;
+        }) result }
+{
+    let key = places(alloc, columns, key.as_slice())?;
+    let subject = place_if_any(alloc, columns, subject)?;
+    Ok(KeyPlaces { key, subject })
+}
+
+fn check_sizes(catalog: &Catalog, columns: &Columns) -> Result<(), NameFault>
+    ensures { Resolves (sizes_refused catalog.now.names columns.now) tt result }
+{
+    if columns.len() > COLUMN_LIMIT {
+        return Err(NameFault::TooManyParts(COLUMN_LIMIT as u64));
+    }
+    if catalog.table_count() >= TABLE_LIMIT {
+        return Err(NameFault::TooManyParts(TABLE_LIMIT as u64));
+    }
+    Ok(())
+}
+
+fn check_table(
+    alloc: Global,
+    catalog: &Catalog,
+    table: &Name,
+    columns: &Columns,
+    key: &Names,
+    subject: &Option<Name>,
+) -> Result<KeyPlaces, NameFault>
+    ensures { Resolves (create_refused catalog.now.names table.now columns.now key.now subject.now)
+        (record {
+          key = places_of (draft_of [] columns.now) key.now;
+          subject = option_and_then (place_of (draft_of [] columns.now)) subject.now;
+        }) result }
+{
+    check_columns_differ(alloc, columns.as_slice())?;
+    check_repeats(alloc, key.as_slice())?;
+    let places = key_places(alloc, columns, key, subject)?;
+    check_subject(columns, subject)?;
+    check_sizes(catalog, columns)?;
+    check_new(alloc, catalog.table(table).is_some(), table)?;
+    Ok(places)
+}
+
+fn is_among(names: &[Name], name: &Name) -> bool
+    ensures { result ≡ list_any (λ known. bytes_eq known name.now) names.now }
+{
+    names.iter().any(|known| *known == *name)
+}
+
+fn is_required(key: &[Name], subject: &Option<Name>, column: &Column) -> bool
+    ensures { result ≡ (with_not_null key.now subject.now column.now).not_null }
+{
+    if column.not_null || is_among(key, &column.name) {
+        return true;
+    }
+    match subject {
+        Some(subject) => *subject == column.name,
+        None => false,
+    }
+}
+
+fn column_made(
+    alloc: Global,
+    key: &[Name],
+    subject: &Option<Name>,
+    column: &Column,
+) -> Result<Column, Memory>
+    ensures { IfOk result (λ made. made ≡ with_not_null key.now subject.now column.now) }
+{
+    let name = column.name.copy(alloc)?;
+    Ok(Column {
+        name,
+        kind: column.kind,
+        not_null: is_required(key, subject, column),
+    })
+}
+
+fn columns_made(
+    alloc: Global,
+    key: &[Name],
+    subject: &Option<Name>,
+    columns: &[Column],
+) -> Result<Columns, Memory>
+    ensures { IfOk result (λ made. made ≡ map (with_not_null key.now subject.now) columns.now) }
+{
+    let mut made = Sequence::new(alloc);
+    for column in columns {
+        made.push(column_made(alloc, key, subject, column)?)?;
+    }
+    Ok(made)
+}
+
+/// CREATE TABLE: its columns, its key and its SUBJECT.
+pub fn check_create_table(
+    alloc: Global,
+    catalog: &Catalog,
+    table: &Name,
+    columns: &Columns,
+    key: &Names,
+    subject: &Option<Name>,
+) -> Result<Wanted, NameFault>
+    ensures { Grants (change_refused catalog.now.names (CreateTable table.now columns.now key.now subject.now))
+        (wanted_by catalog.now.names (CreateTable table.now columns.now key.now subject.now)) result }
+{
+    let places = check_table(alloc, catalog, table, columns, key, subject)?;
+    let columns = columns_made(alloc, key.as_slice(), subject, columns.as_slice())?;
+    let name = table.copy(alloc)?;
+    let KeyPlaces { key, subject } = places;
+    Ok(Wanted::Ready(Act::Create(Schema {
+        name,
+        columns,
+        key,
+        subject,
+    })))
+}
