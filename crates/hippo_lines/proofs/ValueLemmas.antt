@@ -1,5 +1,5 @@
 -- The numbers that words write.
-use Rattle.std.proofs.Common.{◌≡◌, ℕ, ◌+◌, ◌^◌, ◌<◌, ◌≤◌, Bool, true, false, not, ◌&&◌, List, [], ◌∷◌, length, Option, Some, None, Result, Ok, Err, refl, sym, ap, ◌∙◌, arith}
+use Rattle.std.proofs.Common.{◌≡◌, ℕ, ◌+◌, ◌^◌, ◌<◌, ◌≤◌, Bool, true, false, not, ◌&&◌, List, [], ◌∷◌, length, Option, Some, None, Result, Ok, Err, inl, inr, refl, sym, ap, ◌∙◌, arith, rules}
 use Rattle.std.specs.Prelude.{nat_lt, nat_le}
 use Rattle.std.specs.Bool.{then_some}
 use Rattle.std.specs.List.{list_all}
@@ -23,7 +23,7 @@ filled (first ∷ rest) h = omega arith
 
 -- what a parse gives for digits
 pub value-parsed : {E : Type 0} (word : List ℕ) (r : Result ℕ E) → is_numeral word ≡ true → ParsesUnsigned 32 10 word r → result_ok r ≡ then_some (nat_lt (digits_value 10 word) (2 ^ 32)) (digits_value 10 word)
-value-parsed word r numeral parses =
+value-parsed {E = E} word r numeral parses =
     let front = (and_parts (is_filled word && list_all is_ascii_digit word) (not (has_leading_zero word)) numeral).0 in
     let parts = and_parts (is_filled word) (list_all is_ascii_digit word) front in
     by_result word r (filled word parts.0) (parse_digits digits 32 word r parses parts.1)

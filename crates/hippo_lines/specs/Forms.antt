@@ -1,5 +1,5 @@
 -- What form a line of the input has.
-use Rattle.std.specs.Prelude.{ℕ, Bool, ◌||◌, ◌==◌, List, [], ◌∷◌, Option, Some, None, option_and_then, if◌then◌else◌, codes, bytes_eq}
+use Rattle.std.specs.Prelude.{ℕ, Bool, false, ◌||◌, ◌==◌, List, [], ◌∷◌, Option, Some, None, option_map, option_and_then, if◌then◌else◌, codes, bytes_eq}
 use Rattle.std.specs.List.{list_all}
 use Rattle.std.specs.Map.{lookup}
 use Rattle.hippo_values.specs.declared.names.Name.{Name}
@@ -10,7 +10,7 @@ use Rattle.hippo_lines.specs.declared.short_words.ShortWord.TheVariants.{Login, 
 use Rattle.hippo_lines.specs.Limits.{session_limit, cursor_limit, job_limit, watch_limit, fetch_limit, step_limit}
 use Rattle.hippo_lines.specs.Words.{words_of, is_space, around_space, trimmed, only, two, three, number_in}
 
--- what is asked for by a line that begins with a session's number
+-- what a short word and the words behind it ask for
 pub data Request : Type 0 where
   logs_in : Name → Name → Name → Request
   logs_out : Request
@@ -20,13 +20,13 @@ pub data Request : Type 0 where
   drops : ℕ → Request
   unwatches : ℕ → Request
   loads : Name → Txt → Request
-  states : Txt → Request
 
--- a line that says nothing, one that sets the clock, or one that asks for something in a session
+-- a line says nothing, sets the clock, asks for something in a session, or makes a statement there
 pub data Form : Type 0 where
-  is_silent_line : Form
+  says_nothing : Form
   sets_clock : Txt → Form
   asks : ℕ → Request → Form
+  states : ℕ → Txt → Form
 
 infixl 10 ◌>>=◌
 -- one and then the next, where both are there
@@ -101,25 +101,16 @@ short_words =
 abbrev pub short_word_of : Txt → Option ShortWord
 short_word_of word = lookup (λ known. bytes_eq known (folded word)) short_words
 
--- what a text with these words behind its first one asks for; without a short word it is a statement
-abbrev pub request_by : Option ShortWord → Txt → List Txt → Option Request
-request_by (Some Login) text arguments = login_of arguments
-request_by (Some Logout) text arguments = logout_of arguments
-request_by (Some Fetch) text arguments = fetch_of arguments
-request_by (Some Close) text arguments = close_of arguments
-request_by (Some Step) text arguments = step_of arguments
-request_by (Some Drop) text arguments = drop_of arguments
-request_by (Some Unwatch) text arguments = unwatch_of arguments
-request_by (Some Load) text arguments = load_of text
-request_by None text arguments = Some (states text)
-
-abbrev pub request_with : Txt → List Txt → Option Request
-request_with text [] = None
-request_with text (word ∷ arguments) = request_by (short_word_of word) text arguments
-
--- what the text behind a session's number asks for
-abbrev pub request_of : Txt → Option Request
-request_of text = request_with text (words_of text)
+-- what a text asks for that begins with a short word and has these words behind it
+abbrev pub request_by : ShortWord → Txt → List Txt → Option Request
+request_by Login text arguments = login_of arguments
+request_by Logout text arguments = logout_of arguments
+request_by Fetch text arguments = fetch_of arguments
+request_by Close text arguments = close_of arguments
+request_by Step text arguments = step_of arguments
+request_by Drop text arguments = drop_of arguments
+request_by Unwatch text arguments = unwatch_of arguments
+request_by Load text arguments = load_of text
 
 -- at MOMENT
 abbrev pub at_of : Txt → Option Form
@@ -127,22 +118,34 @@ at_of text = do
   moment ← only (words_of text)
   Some (sets_clock moment)
 
--- SESSION, and what is asked for
-abbrev pub asking_of : Txt → Txt → Option Form
-asking_of number text = do
-  session ← number_in 0 session_limit number
-  request ← request_of text
-  Some (asks session request)
+-- the form of a line with a session's number and this text behind it; without a short word the text is a statement
+abbrev pub form_in : ℕ → Txt → Option ShortWord → List Txt → Option Form
+form_in session text (Some short) arguments = option_map (asks session) (request_by short text arguments)
+form_in session text None arguments = Some (states session text)
 
--- it has only spaces, or begins with `#`
+abbrev pub form_with : ℕ → Txt → List Txt → Option Form
+form_with session text [] = None
+form_with session text (word ∷ arguments) = form_in session text (short_word_of word) arguments
+
+-- SESSION, and a text behind it
+abbrev pub session_form : Txt → Txt → Option Form
+session_form number text = do
+  session ← number_in 0 session_limit number
+  form_with session text (words_of text)
+
+-- it begins with `#`
+abbrev pub is_comment : Txt → Bool
+is_comment [] = false
+is_comment (first ∷ rest) = first == 35
+
+-- a line of spaces only, or of nothing, or a comment
 abbrev pub is_silent : Txt → Bool
-is_silent [] = true
-is_silent (first ∷ rest) = first == 35 || list_all is_space (first ∷ rest)
+is_silent line = is_comment line || list_all is_space line
 
 -- the form of a line by its first word and what stands behind the one space behind it
 abbrev pub form_by : Txt → Txt → Option Form
-form_by first behind = if bytes_eq (codes "at") (folded first) then at_of behind else asking_of first behind
+form_by first behind = if bytes_eq (codes "at") (folded first) then at_of behind else session_form first behind
 
 -- the form of a line; in front of the first word no space may stand
 abbrev pub line_form : Txt → Option Form
-line_form line = if is_silent line then Some is_silent_line else (around_space line >>= λ (first, behind). form_by first behind)
+line_form line = if is_silent line then Some says_nothing else (around_space line >>= λ (first, behind). form_by first behind)

@@ -1,7 +1,7 @@
 //! The forms of lines.
 use crate::written_name::WrittenName;
 
-/// What is asked for by a line that begins with a session's number.
+/// What a short word behind a session's number asks for, with the words behind it.
 #[derive(Debug, Drop)]
 pub enum RequestForm<'a> {
     /// Open the session.
@@ -27,8 +27,6 @@ pub enum RequestForm<'a> {
         table: WrittenName<'a>,
         record: &'a str,
     },
-    /// Carry out a statement of the language: all that stands behind the one space behind the session's number.
-    Statement { text: &'a str },
 }
 
 /// The form of a line. Texts are the line's own.
@@ -38,6 +36,11 @@ pub enum LineForm<'a> {
     Silent,
     /// Set the clock.
     At { moment: &'a str },
-    /// Carry out a request in a session, or at the console, which is session 0.
-    Asking { session: u8, request: RequestForm<'a> },
+    /// Do what a short word asks for, in a session or at the console, which is session 0.
+    Asking {
+        session: u8,
+        request: RequestForm<'a>,
+    },
+    /// Carry out a statement in a session or at the console: all that stands behind the one space behind its number.
+    Statement { session: u8, text: &'a str },
 }

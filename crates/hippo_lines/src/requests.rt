@@ -1,13 +1,13 @@
-//! What the text behind a session's number asks for.
+//! What a short word asks for, with the words behind it.
 ghost use Rattle.std.specs.Prelude.{◌≡◌, option_map};
 ghost use Rattle.hippo_lines.specs.Words.{words_of};
-ghost use Rattle.hippo_lines.specs.Forms.{login_of, logout_of, fetch_of, close_of, step_of, drop_of, unwatch_of, load_of, request_of};
+ghost use Rattle.hippo_lines.specs.Forms.{login_of, logout_of, fetch_of, close_of, step_of, drop_of, unwatch_of, load_of, request_by};
 ghost use Rattle.hippo_lines.specs.Lent.{request};
 
 use crate::forms::RequestForm;
 use crate::limits::{CURSOR_LIMIT, FETCH_LIMIT, JOB_LIMIT, STEP_LIMIT, WATCH_LIMIT};
 use crate::numbers::{number, small_number};
-use crate::short_words::{ShortWord, short_word_of};
+use crate::short_words::ShortWord;
 use crate::words::{around_space, first_word, only_word, three_words, trimmed, two_words};
 use crate::written_name::WrittenName;
 
@@ -81,21 +81,19 @@ fn load_of(text: &str) -> Option<RequestForm<'_>>
     Some(RequestForm::Load { table, record })
 }
 
-/// What the text behind a session's number asks for; none where it is blank, or its first word is a short word and it
-/// lacks that word's form.
-pub fn request_of(text: &str) -> Option<RequestForm<'_>>
-    ensures { option_map request result ≡ request_of text.now }
+/// What a text asks for that begins with a short word and has these words behind it; none where it lacks the word's
+/// form.
+pub fn request_by<'a>(short: ShortWord, text: &'a str, arguments: &'a str) -> Option<RequestForm<'a>>
+    ensures { option_map request result ≡ request_by short text.now (words_of arguments.now) }
 {
-    let (word, arguments) = first_word(text)?;
-    match short_word_of(word) {
-        Some(ShortWord::Login) => login_of(arguments),
-        Some(ShortWord::Logout) => logout_of(arguments),
-        Some(ShortWord::Fetch) => fetch_of(arguments),
-        Some(ShortWord::Close) => close_of(arguments),
-        Some(ShortWord::Step) => step_of(arguments),
-        Some(ShortWord::Drop) => drop_of(arguments),
-        Some(ShortWord::Unwatch) => unwatch_of(arguments),
-        Some(ShortWord::Load) => load_of(text),
-        None => Some(RequestForm::Statement { text }),
+    match short {
+        ShortWord::Login => login_of(arguments),
+        ShortWord::Logout => logout_of(arguments),
+        ShortWord::Fetch => fetch_of(arguments),
+        ShortWord::Close => close_of(arguments),
+        ShortWord::Step => step_of(arguments),
+        ShortWord::Drop => drop_of(arguments),
+        ShortWord::Unwatch => unwatch_of(arguments),
+        ShortWord::Load => load_of(text),
     }
 }
