@@ -1,5 +1,5 @@
 -- What is known of a line that makes a statement.
-use Rattle.std.proofs.Common.{◌≡◌, ◌≢◌, ℕ, ◌+◌, ◌-◌, ◌<◌, ◌≤◌, Bool, true, false, List, [], ◌∷◌, length, drop, Option, Some, None, option_map, if◌then◌else◌, codes, bytes_eq, refl, sym, ap, ◌∙◌, arith}
+use Rattle.std.proofs.Common.{◌≡◌, ◌≢◌, ℕ, ◌+◌, ◌-◌, ◌<◌, Bool, true, false, List, [], ◌∷◌, length, Option, Some, None, option_map, if◌then◌else◌, codes, bytes_eq, refl, sym, ap, ◌∙◌, arith}
 use Rattle.std.specs.Prelude.{nat_lt}
 use Rattle.std.specs.Bool.{then_some}
 use Rattle.std.specs.List.{position_or_len, before_first, after_first}
@@ -9,7 +9,8 @@ use Rattle.hippo_values.specs.Texts.{Txt}
 use Rattle.hippo_values.specs.Names.{folded}
 use Rattle.hippo_lines.specs.declared.short_words.ShortWord.{ShortWord}
 use Rattle.hippo_lines.specs.Limits.{session_limit}
-use Rattle.hippo_lines.specs.Words.{is_space, words_of, around_space, only, number_in}
+use Rattle.hippo_lines.specs.Words.{is_space, words_of, around_space, only}
+use Rattle.hippo_lines.specs.Numbers.{number_in}
 use Rattle.hippo_lines.specs.Forms.{Request, Form, says_nothing, sets_clock, asks, states, ◌>>=◌, short_word_of, request_by, form_in, form_with, session_form, at_of, is_silent, form_by, line_form}
 
 -- the text of a statement
@@ -59,8 +60,8 @@ pub states-within : (line text : Txt) (session : ℕ) → line_form line ≡ Som
 states-within line text session found = by_silence (is_silent line) found
   where
     by_space : (space : Bool) → nat_lt (position_or_len is_space line) (length line) ≡ space
-      → (then_some space (before_first is_space line, after_first is_space line) >>= λ (first, rest). form_by first rest) ≡ Some (states session text)
-      → (length text < length line) × (words_of text ≢ [])
+        → (then_some space (before_first is_space line, after_first is_space line) >>= λ (first, rest). form_by first rest) ≡ Some (states session text)
+        → (length text < length line) × (words_of text ≢ [])
     by_space false there e = let nothing : None ≡ Some (states session text) = e in cc
     by_space true there e =
         let is = behind_word session (before_first is_space line) (after_first is_space line) text e in
@@ -69,6 +70,6 @@ states-within line text session found = by_silence (is_silent line) found
         (rw (← is.whole, count) (omega arith), is.filled)
 
     by_silence : (silent : Bool) → (if silent then Some says_nothing else (around_space line >>= λ (first, rest). form_by first rest)) ≡ Some (states session text)
-      → (length text < length line) × (words_of text ≢ [])
+        → (length text < length line) × (words_of text ≢ [])
     by_silence true e = let other : Some says_nothing ≡ Some (states session text) = e in cc
     by_silence false e = by_space (nat_lt (position_or_len is_space line) (length line)) refl e

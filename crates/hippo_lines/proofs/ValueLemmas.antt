@@ -1,15 +1,15 @@
 -- The numbers that words write.
-use Rattle.std.proofs.Common.{◌≡◌, ℕ, ◌+◌, ◌^◌, ◌<◌, ◌≤◌, Bool, true, false, not, ◌&&◌, List, [], ◌∷◌, length, Option, Some, None, Result, Ok, Err, inl, inr, refl, sym, ap, ◌∙◌, arith, rules}
-use Rattle.std.specs.Prelude.{nat_lt, nat_le}
+use Rattle.std.proofs.Common.{◌≡◌, ℕ, ◌^◌, ◌<◌, true, not, ◌&&◌, List, [], ◌∷◌, length, Result, Ok, Err, inl, inr, refl, arith, rules}
+use Rattle.std.specs.Prelude.{nat_lt}
 use Rattle.std.specs.Bool.{then_some}
 use Rattle.std.specs.List.{list_all}
 use Rattle.std.specs.Result.{result_ok, OkIff}
 use Rattle.std.specs.Char.{is_ascii_digit}
-use Rattle.std.specs.Int.{IsInRange}
 use Rattle.std.specs.Str.Parse.{digits_value, ParsesUnsigned}
-use Rattle.std.proofs.lemmas.Bool.{and_parts, both_ways, cases_Bool, le-leb, leb-true, lt-ltb, ltb-true, ltb-false, le-ltb, lt-leb, false_from_ne_true}
+use Rattle.std.proofs.lemmas.Bool.{and_parts, both_ways, cases_Bool, lt-ltb, ltb-true}
 use Rattle.std.proofs.lemmas.Str.Parse.{IsDigitsTest, IsNumeralModel, numerals_by_value, parse_digits}
-use Rattle.hippo_lines.specs.Words.{is_filled, is_numeral, has_leading_zero, number_in}
+use Rattle.hippo_lines.specs.Words.{is_filled}
+use Rattle.hippo_lines.specs.Numbers.{is_numeral, has_leading_zero}
 
 tells_digits : IsDigitsTest (λ text. list_all is_ascii_digit text ≡ true)
 tells_digits = search rules

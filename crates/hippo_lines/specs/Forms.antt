@@ -8,7 +8,8 @@ use Rattle.hippo_values.specs.Names.{folded, name_of}
 use Rattle.hippo_lines.specs.declared.short_words.ShortWord.{ShortWord}
 use Rattle.hippo_lines.specs.declared.short_words.ShortWord.TheVariants.{Login, Logout, Fetch, Close, Step, Drop, Unwatch, Load}
 use Rattle.hippo_lines.specs.Limits.{session_limit, cursor_limit, job_limit, watch_limit, fetch_limit, step_limit}
-use Rattle.hippo_lines.specs.Words.{words_of, is_space, around_space, trimmed, only, two, three, number_in}
+use Rattle.hippo_lines.specs.Words.{words_of, is_space, around_space, trimmed, only, two, three}
+use Rattle.hippo_lines.specs.Numbers.{number_in}
 
 -- what a short word and the words behind it ask for
 pub data Request : Type 0 where
@@ -87,7 +88,7 @@ unwatch_of arguments = do
 -- load TABLE RECORD: all that stands behind the one space behind TABLE is the record
 abbrev pub load_of : Txt → Option Request
 load_of text = do
-  (short, behind) ← around_space (trimmed text)
+  (_, behind) ← around_space (trimmed text)
   (table, fields) ← around_space (trimmed behind)
   name ← name_of table
   Some (loads name fields)
@@ -148,4 +149,5 @@ form_by first behind = if bytes_eq (codes "at") (folded first) then at_of behind
 
 -- the form of a line; in front of the first word no space may stand
 abbrev pub line_form : Txt → Option Form
-line_form line = if is_silent line then Some says_nothing else (around_space line >>= λ (first, behind). form_by first behind)
+line_form line =
+    if is_silent line then Some says_nothing else (around_space line >>= λ (first, behind). form_by first behind)

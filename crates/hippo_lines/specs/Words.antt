@@ -1,9 +1,7 @@
--- Words of a text, which have spaces between them, and the numbers that words write.
-use Rattle.std.specs.Prelude.{ℕ, Bool, true, false, not, ◌&&◌, ◌==◌, List, [], ◌∷◌, length, drop, nat_lt, nat_le, Option, Some, None, option_map}
-use Rattle.std.specs.List.{filter, list_all, slice_split, prefix_len, position_or_len, before_first, after_first}
+-- The words of a text, which have spaces between them.
+use Rattle.std.specs.Prelude.{ℕ, Bool, true, false, ◌==◌, List, [], ◌∷◌, length, drop, nat_lt, Option, Some, None, option_map}
+use Rattle.std.specs.List.{filter, slice_split, prefix_len, position_or_len, before_first, after_first}
 use Rattle.std.specs.Bool.{then_some}
-use Rattle.std.specs.Char.{is_ascii_digit}
-use Rattle.std.specs.Str.Parse.{digits_value}
 use Rattle.hippo_values.specs.Texts.{Txt}
 
 abbrev pub is_space : ℕ → Bool
@@ -19,7 +17,9 @@ words_of text = filter is_filled (slice_split is_space text)
 
 -- what stands before the first space, and what stands behind it
 abbrev pub around_space : Txt → Option (Txt × Txt)
-around_space text = then_some (nat_lt (position_or_len is_space text) (length text)) (before_first is_space text, after_first is_space text)
+around_space text =
+    then_some (nat_lt (position_or_len is_space text) (length text))
+    (before_first is_space text, after_first is_space text)
 
 -- the text without the spaces at its front
 abbrev pub trimmed : Txt → Txt
@@ -37,15 +37,3 @@ two (x ∷ rest) = option_map (λ y. (x, y)) (only rest)
 abbrev pub three : {A : Type 0} → List A → Option (A × A × A)
 three [] = None
 three (x ∷ rest) = option_map (λ (y, z). (x, y, z)) (two rest)
-
-abbrev pub has_leading_zero : Txt → Bool
-has_leading_zero (first ∷ second ∷ rest) = first == 48
-has_leading_zero _ = false
-
--- digits alone, without leading zeros
-abbrev pub is_numeral : Txt → Bool
-is_numeral word = is_filled word && list_all is_ascii_digit word && not (has_leading_zero word)
-
--- the number that a word writes, where it is within these limits
-abbrev pub number_in : ℕ → ℕ → Txt → Option ℕ
-number_in least most word = then_some (is_numeral word && nat_le least (digits_value 10 word) && nat_le (digits_value 10 word) most) (digits_value 10 word)

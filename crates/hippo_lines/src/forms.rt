@@ -13,15 +13,27 @@ pub enum RequestForm<'a> {
     /// Close the session and its cursors.
     Logout,
     /// Hand out so many further rows of a cursor.
-    Fetch { cursor: u8, count: u32 },
+    Fetch {
+        cursor: u8,
+        count: u32,
+    },
     /// Close a cursor.
-    Close { cursor: u8 },
+    Close {
+        cursor: u8,
+    },
     /// Let a job look at so many further entries.
-    Step { job: u8, count: u32 },
+    Step {
+        job: u8,
+        count: u32,
+    },
     /// Drop a job.
-    Drop { job: u8 },
+    Drop {
+        job: u8,
+    },
     /// End a watch.
-    Unwatch { watch: u8 },
+    Unwatch {
+        watch: u8,
+    },
     /// Insert a row, which stands in a record of CSV.
     Load {
         table: WrittenName<'a>,
@@ -35,12 +47,17 @@ pub enum LineForm<'a> {
     /// The line is empty, has only spaces, or begins with `#`.
     Silent,
     /// Set the clock.
-    At { moment: &'a str },
+    At {
+        moment: &'a str,
+    },
     /// Do what a short word asks for, in a session or at the console, which is session 0.
     Asking {
         session: u8,
         request: RequestForm<'a>,
     },
     /// Carry out a statement in a session or at the console: all that stands behind the one space behind its number.
-    Statement { session: u8, text: &'a str },
+    Statement {
+        session: u8,
+        text: &'a str,
+    },
 }

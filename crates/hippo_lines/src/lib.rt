@@ -11,8 +11,6 @@ mod words;
 mod written_name;
 
 pub use forms::{LineForm, RequestForm};
-pub use limits::{
-    CURSOR_LIMIT, FETCH_LIMIT, JOB_LIMIT, SESSION_LIMIT, STEP_LIMIT, WATCH_LIMIT,
-};
+pub use limits::{CURSOR_LIMIT, FETCH_LIMIT, JOB_LIMIT, SESSION_LIMIT, STEP_LIMIT, WATCH_LIMIT};
 pub use lines::line_form;
 pub use written_name::WrittenName;

@@ -83,7 +83,11 @@ fn load_of(text: &str) -> Option<RequestForm<'_>>
 
 /// What a text asks for that begins with a short word and has these words behind it; none where it lacks the word's
 /// form.
-pub fn request_by<'a>(short: ShortWord, text: &'a str, arguments: &'a str) -> Option<RequestForm<'a>>
+pub fn request_by<'a>(
+    short: ShortWord,
+    text: &'a str,
+    arguments: &'a str,
+) -> Option<RequestForm<'a>>
     ensures { option_map request result ≡ request_by short text.now (words_of arguments.now) }
 {
     match short {

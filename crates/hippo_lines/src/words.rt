@@ -32,7 +32,8 @@ pub fn around_space(text: &str) -> Option<(&str, &str)>
 
 /// The first word of a text, and what stands behind it.
 pub fn first_word(text: &str) -> Option<(&str, &str)>
-    ensures { MatchOption result (words_of text.now ≡ []) (λ parts. words_of text.now ≡ parts.0.now ∷ words_of parts.1.now) }
+    ensures { MatchOption result (words_of text.now ≡ [])
+        (λ parts. words_of text.now ≡ parts.0.now ∷ words_of parts.1.now) }
 {
     let rest = trimmed(text);
     if rest.is_empty() {

@@ -35,7 +35,7 @@ impl<'a> WrittenName<'a> {
         }
     }
 
-    /// The name, which is in lower case.
+    /// The name, which is in lower case, or want of memory.
     pub fn name(&self, alloc: Global) -> Result<Name, Memory>
         ensures { IfOk result (λ name. name ≡ self.now) }
     {

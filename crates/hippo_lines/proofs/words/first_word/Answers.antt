@@ -12,12 +12,12 @@ returns-then-is_empty c =
 pub returns-in-Some : goal.returns-in-Some
 returns-in-Some c =
     let found : around_space (trimmed c.args.text.now) ≡ Some (c.in-Some.parts.0.now, c.in-Some.parts.1.now)
-        = ap around_space (sym c.trimmed-rest.ensures) ∙ (sym c.around_space.ensures ∙ ap (option_map (λ parts. (parts.0.now, parts.1.now))) c.in-Some.is) in
+    = ap around_space (sym c.trimmed-rest.ensures) ∙ (sym c.around_space.ensures ∙ ap (option_map (λ parts. (parts.0.now, parts.1.now))) c.in-Some.is) in
     words_of-more c.args.text.now _ _ found
 
 pub returns-in-None : goal.returns-in-None
 returns-in-None c =
     let some : eqb (length (trimmed c.args.text.now)) 0 ≡ false = ap (λ rest. eqb (length rest) 0) (sym c.trimmed-rest.ensures) ∙ (sym c.is_empty.ensures ∙ c.if-is_empty.false) in
     let missing : around_space (trimmed c.args.text.now) ≡ None
-        = ap around_space (sym c.trimmed-rest.ensures) ∙ (sym c.around_space.ensures ∙ ap (option_map (λ parts. (parts.0.now, parts.1.now))) c.in-None.is) in
+    = ap around_space (sym c.trimmed-rest.ensures) ∙ (sym c.around_space.ensures ∙ ap (option_map (λ parts. (parts.0.now, parts.1.now))) c.in-None.is) in
     rw c.trimmed-rest.ensures (words_of-last c.args.text.now some missing)
