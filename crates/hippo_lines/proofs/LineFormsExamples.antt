@@ -158,3 +158,15 @@ a_record_is_all_behind_one_space : HaveForms (
     ∷ [])
 unfolding word_lists
 a_record_is_all_behind_one_space = refl
+
+any_other_text_is_a_statement : HaveForms (
+    (codes "0 INSERT INTO patient VALUES (3, 'x", Some (states 0 (codes "INSERT INTO patient VALUES (3, 'x")))
+    ∷ (codes "1 SELECT drop FROM t", Some (states 1 (codes "SELECT drop FROM t")))
+    ∷ (codes "1 SELECT " ++ replicate 100 40, Some (states 1 (codes "SELECT " ++ replicate 100 40)))
+    ∷ (codes "0 CREATE TABLE select (a INTEGER)", Some (states 0 (codes "CREATE TABLE select (a INTEGER)")))
+    ∷ (codes "2 at x", Some (states 2 (codes "at x")))
+    ∷ (codes "0 loads patient 1", Some (states 0 (codes "loads patient 1")))
+    ∷ (codes "0 #", Some (states 0 (codes "#")))
+    ∷ [])
+unfolding word_lists
+any_other_text_is_a_statement = refl
