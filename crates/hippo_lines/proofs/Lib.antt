@@ -1,0 +1,4 @@
+mod SpaceLemmas
+mod ValueLemmas
+pub mod FormLemmas
+mod LineFormsExamples

@@ -1,0 +1,153 @@
+-- What form a line of the input has.
+use Rattle.std.specs.Prelude.{ℕ, Bool, false, ◌||◌, ◌==◌, List, [], ◌∷◌, Option, Some, None, option_map, option_and_then, if◌then◌else◌, codes, bytes_eq}
+use Rattle.std.specs.List.{list_all}
+use Rattle.std.specs.Map.{lookup}
+use Rattle.hippo_values.specs.declared.names.Name.{Name}
+use Rattle.hippo_values.specs.Texts.{Txt}
+use Rattle.hippo_values.specs.Names.{folded, name_of}
+use Rattle.hippo_lines.specs.declared.short_words.ShortWord.{ShortWord}
+use Rattle.hippo_lines.specs.declared.short_words.ShortWord.TheVariants.{Login, Logout, Fetch, Close, Step, Drop, Unwatch, Load}
+use Rattle.hippo_lines.specs.Limits.{session_limit, cursor_limit, job_limit, watch_limit, fetch_limit, step_limit}
+use Rattle.hippo_lines.specs.Words.{words_of, is_space, around_space, trimmed, only, two, three}
+use Rattle.hippo_lines.specs.Numbers.{number_in}
+
+-- what a short word and the words behind it ask for
+pub data Request : Type 0 where
+  logs_in : Name → Name → Name → Request
+  logs_out : Request
+  fetches : ℕ → ℕ → Request
+  closes : ℕ → Request
+  steps : ℕ → ℕ → Request
+  drops : ℕ → Request
+  unwatches : ℕ → Request
+  loads : Name → Txt → Request
+
+-- a line says nothing, sets the clock, asks for something in a session, or makes a statement there
+pub data Form : Type 0 where
+  says_nothing : Form
+  sets_clock : Txt → Form
+  asks : ℕ → Request → Form
+  states : ℕ → Txt → Form
+
+infixl 10 ◌>>=◌
+-- one and then the next, where both are there
+abbrev pub ◌>>=◌ : {A B : Type 0} → Option A → (A → Option B) → Option B
+found >>= next = option_and_then next found
+
+-- login USER PURPOSE RECIPIENT
+abbrev pub login_of : List Txt → Option Request
+login_of arguments = do
+  (user, purpose, recipient) ← three arguments
+  who ← name_of user
+  why ← name_of purpose
+  whom ← name_of recipient
+  Some (logs_in who why whom)
+
+-- logout
+abbrev pub logout_of : List Txt → Option Request
+logout_of [] = Some logs_out
+logout_of (word ∷ words) = None
+
+-- fetch CURSOR COUNT
+abbrev pub fetch_of : List Txt → Option Request
+fetch_of arguments = do
+  (cursor, count) ← two arguments
+  place ← number_in 1 cursor_limit cursor
+  rows ← number_in 1 fetch_limit count
+  Some (fetches place rows)
+
+-- close CURSOR
+abbrev pub close_of : List Txt → Option Request
+close_of arguments = do
+  cursor ← only arguments
+  place ← number_in 1 cursor_limit cursor
+  Some (closes place)
+
+-- step JOB COUNT
+abbrev pub step_of : List Txt → Option Request
+step_of arguments = do
+  (job, count) ← two arguments
+  place ← number_in 1 job_limit job
+  entries ← number_in 1 step_limit count
+  Some (steps place entries)
+
+-- drop JOB
+abbrev pub drop_of : List Txt → Option Request
+drop_of arguments = do
+  job ← only arguments
+  place ← number_in 1 job_limit job
+  Some (drops place)
+
+-- unwatch WATCH
+abbrev pub unwatch_of : List Txt → Option Request
+unwatch_of arguments = do
+  watch ← only arguments
+  place ← number_in 1 watch_limit watch
+  Some (unwatches place)
+
+-- load TABLE RECORD: all that stands behind the one space behind TABLE is the record
+abbrev pub load_of : Txt → Option Request
+load_of text = do
+  (_, behind) ← around_space (trimmed text)
+  (table, fields) ← around_space (trimmed behind)
+  name ← name_of table
+  Some (loads name fields)
+
+-- the short words, in whatever case
+abbrev pub short_words : List (Txt × ShortWord)
+short_words =
+    (codes "login", Login) ∷ (codes "logout", Logout) ∷ (codes "fetch", Fetch) ∷ (codes "close", Close)
+    ∷ (codes "step", Step) ∷ (codes "drop", Drop) ∷ (codes "unwatch", Unwatch) ∷ (codes "load", Load) ∷ []
+
+abbrev pub short_word_of : Txt → Option ShortWord
+short_word_of word = lookup (λ known. bytes_eq known (folded word)) short_words
+
+-- what a text asks for that begins with a short word and has these words behind it
+abbrev pub request_by : ShortWord → Txt → List Txt → Option Request
+request_by Login text arguments = login_of arguments
+request_by Logout text arguments = logout_of arguments
+request_by Fetch text arguments = fetch_of arguments
+request_by Close text arguments = close_of arguments
+request_by Step text arguments = step_of arguments
+request_by Drop text arguments = drop_of arguments
+request_by Unwatch text arguments = unwatch_of arguments
+request_by Load text arguments = load_of text
+
+-- at MOMENT
+abbrev pub at_of : Txt → Option Form
+at_of text = do
+  moment ← only (words_of text)
+  Some (sets_clock moment)
+
+-- the form of a line with a session's number and this text behind it; without a short word the text is a statement
+abbrev pub form_in : ℕ → Txt → Option ShortWord → List Txt → Option Form
+form_in session text (Some short) arguments = option_map (asks session) (request_by short text arguments)
+form_in session text None arguments = Some (states session text)
+
+abbrev pub form_with : ℕ → Txt → List Txt → Option Form
+form_with session text [] = None
+form_with session text (word ∷ arguments) = form_in session text (short_word_of word) arguments
+
+-- SESSION, and a text behind it
+abbrev pub session_form : Txt → Txt → Option Form
+session_form number text = do
+  session ← number_in 0 session_limit number
+  form_with session text (words_of text)
+
+-- it begins with `#`
+abbrev pub is_comment : Txt → Bool
+is_comment [] = false
+is_comment (first ∷ rest) = first == 35
+
+-- a line of spaces only, or of nothing, or a comment
+abbrev pub is_silent : Txt → Bool
+is_silent line = is_comment line || list_all is_space line
+
+-- the form of a line by its first word and what stands behind the one space behind it
+abbrev pub form_by : Txt → Txt → Option Form
+form_by first behind = if bytes_eq (codes "at") (folded first) then at_of behind else session_form first behind
+
+-- the form of a line; in front of the first word no space may stand
+abbrev pub line_form : Txt → Option Form
+line_form line =
+    if is_silent line then Some says_nothing else (around_space line >>= λ (first, behind). form_by first behind)

@@ -1,0 +1,5 @@
+pub mod Limits
+pub mod Words
+pub mod Numbers
+pub mod Forms
+pub mod Lent
