@@ -1,6 +1,9 @@
 //! The act of an entry, and the entry, read from bytes.
 ghost use Rattle.std.specs.Prelude.{◌≡◌};
-ghost use Rattle.hippo_entry.specs.Readings.{Gives, Reads, leading_create, change_of, leading_change, leading_new_name, leading_new_item, leading_grant, leading_item, leading_days, leading_allow, leading_revoke, leading_choice, leading_question, act_of_kind, moment_of, leading_entry};
+ghost use Rattle.hippo_entry.specs.Readings.{Gives, Reads, leading_create, change_of, leading_change, leading_new_name};
+ghost use Rattle.hippo_entry.specs.Readings.{leading_new_item, leading_grant, leading_item, leading_days};
+ghost use Rattle.hippo_entry.specs.Readings.{leading_allow, leading_revoke, leading_choice, leading_question};
+ghost use Rattle.hippo_entry.specs.Readings.{act_of_kind, moment_of, leading_entry};
 
 use crate::fault::Fault;
 use crate::reading::{

@@ -40,8 +40,9 @@ fn only_if<T: Drop>(test: Result<bool, Memory>, value: T) -> Result<Option<T>, M
     if test? { Ok(Some(value)) } else { Ok(None) }
 }
 
-/// The entry that can be kept and has this stored form; none just where no entry has. The only error is want of memory. It
-/// takes time in the length of the form, and no memory that a number in the form asks for before its bytes are there.
+/// The entry that can be kept and has this stored form; none just where no entry has. The only error is want of memory.
+/// It takes time in the length of the form, and no memory that a number in the form asks for before its bytes are
+/// there.
 pub fn decode(alloc: Global, kept: &StoredEntry) -> Result<Option<Entry>, Memory>
     ensures found { IfOk result (IsEntryOf kept.now) }
 {

@@ -1,7 +1,9 @@
 //! The stored form of an entry.
 ghost use Rattle.std.specs.Prelude.{◌≡◌, true, [], ◌∷◌, ◌++◌, IfOk, OnOk};
 ghost use Rattle.hippo_model.specs.declared.entry.Act.TheVariants.{Allow, Revoke, Choice, Asked};
-ghost use Rattle.hippo_model.specs.StoredForms.{name_bytes, list_bytes, value_bytes, subject_byte, schema_bytes, item_kind, item_bytes, days_bytes, act_format, act_kind, act_bytes, body, table_changed, stored};
+ghost use Rattle.hippo_model.specs.StoredForms.{name_bytes, list_bytes, value_bytes, subject_byte, schema_bytes};
+ghost use Rattle.hippo_model.specs.StoredForms.{item_kind, item_bytes, days_bytes, act_format, act_kind, act_bytes};
+ghost use Rattle.hippo_model.specs.StoredForms.{body, table_changed, stored};
 ghost use Rattle.hippo_model.specs.Keepable.{is_keepable};
 
 use crate::parts::{Part, one_byte, write_byte, write_number, write_signed, write_text};
@@ -243,8 +245,8 @@ fn table_changed(alloc: Global, act: &Act) -> Result<Txt, Memory>
     }
 }
 
-/// The stored form of an entry that can be kept: its number, moment, kind, the table whose row it changes, and its body,
-/// in format 2 for a rule with days, else in format 1. It takes time in the length of the body.
+/// The stored form of an entry that can be kept: its number, moment, kind, the table whose row it changes, and its
+/// body, in format 2 for a rule with days, else in format 1. It takes time in the length of the body.
 pub fn encode(alloc: Global, entry: &Entry) -> Result<StoredEntry, Memory>
     requires keepable { is_keepable entry.now ≡ true }
     ensures form { IfOk result (λ kept. kept ≡ stored entry.now) }

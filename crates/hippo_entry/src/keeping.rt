@@ -4,7 +4,9 @@ ghost use Rattle.std.specs.List.{list_all};
 ghost use Rattle.hippo_values.specs.Limits.{text_limit, line_limit};
 ghost use Rattle.hippo_values.specs.Moments.{is_day, is_moment, is_signed_number};
 ghost use Rattle.hippo_model.specs.declared.entry.Act.TheVariants.{Allow};
-ghost use Rattle.hippo_model.specs.Keepable.{is_folded_name, is_text, cells_are_keepable, columns_are_keepable, key_is_keepable, subject_is_keepable, days_are_keepable, item_is_keepable, question_is_keepable, rule_is_keepable, act_is_keepable};
+ghost use Rattle.hippo_model.specs.Keepable.{is_folded_name, is_text, cells_are_keepable, columns_are_keepable};
+ghost use Rattle.hippo_model.specs.Keepable.{key_is_keepable, subject_is_keepable, days_are_keepable, item_is_keepable};
+ghost use Rattle.hippo_model.specs.Keepable.{question_is_keepable, rule_is_keepable, act_is_keepable};
 
 use hippo_model::{Act, Cells, Column, Columns, Entry, Places, Schema};
 use hippo_values::{DayNumber, LINE_LIMIT, Moment, Name, Sequence, TEXT_LIMIT, Txt, Value};
@@ -50,9 +52,9 @@ fn is_short(length: usize) -> bool
     length >= 1 && length <= COLUMN_LIMIT
 }
 
-// By its type every name is one in lower case, every day and moment one of the years 0001 to 9999, every text UTF-8, every
-// number one of 64 bits and every number of days one of 32; so where a test of the definitions says no more, there is
-// nothing to look at.
+// By its type every name is one in lower case, every day and moment one of the years 0001 to 9999, every text UTF-8,
+// every number one of 64 bits and every number of days one of 32; so where a test of the definitions says no more,
+// there is nothing to look at.
 impl Keepable for Name {
     ghost use Rattle.hippo_model.specs.Keepable.{is_folded_name};
 
@@ -173,7 +175,7 @@ impl Keepable for Schema {
     }
 }
 
-fn change_is_keepable(table: &Name, row: &Cells) -> bool
+fn row_is_keepable(table: &Name, row: &Cells) -> bool
     ensures { result ≡ is_folded_name table.now && cells_are_keepable row.now }
 {
     table.is_keepable() && row.is_keepable()
@@ -229,10 +231,8 @@ impl Keepable for Act {
     fn is_keepable(&self) -> bool {
         match self {
             Act::Create(schema) => schema.is_keepable(),
-            Act::Insert { table, row } | Act::Update { table, row } => {
-                change_is_keepable(table, row)
-            }
-            Act::Delete { table, key } => change_is_keepable(table, key),
+            Act::Insert { table, row } | Act::Update { table, row } => row_is_keepable(table, row),
+            Act::Delete { table, key } => row_is_keepable(table, key),
             Act::Purpose(name) | Act::Recipient(name) => name.is_keepable(),
             Act::Item { item, .. } => item.is_keepable(),
             Act::Authorize {

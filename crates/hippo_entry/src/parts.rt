@@ -1,7 +1,8 @@
 //! The parts of an entry, in bytes.
 ghost use Rattle.std.specs.Prelude.{◌≡◌, [], ◌∷◌, ◌++◌, flat_map, IfOk, OnOk};
 ghost use Rattle.std.specs.Int.{from_bool};
-ghost use Rattle.hippo_model.specs.StoredForms.{number_bytes, signed_bytes, name_bytes, text_bytes, list_bytes, place_bytes, value_bytes, column_kind, column_bytes};
+ghost use Rattle.hippo_model.specs.StoredForms.{number_bytes, signed_bytes, name_bytes, text_bytes, list_bytes};
+ghost use Rattle.hippo_model.specs.StoredForms.{place_bytes, value_bytes, column_kind, column_bytes};
 
 use hippo_model::{Column, ColumnKind};
 use hippo_values::{Memory, Name, Sequence, Txt, Value};
@@ -17,8 +18,8 @@ pub trait Part {
         ensures { OnOk result (out.new.items ≡ out.old.items ++ bytes self.now) };
 }
 
-/// A number in one byte. Each count and place of an entry that can be kept has room in one; the case that cannot come is
-/// answered with want of memory.
+/// A number in one byte. Each count and place of an entry that can be kept has room in one; the case that cannot come
+/// is answered with want of memory.
 pub fn one_byte(number: usize) -> Result<u8, Memory>
     ensures { IfOk result (λ byte. byte ≡ number) }
 {

@@ -2,7 +2,10 @@
 ghost use Rattle.std.specs.Prelude.{◌≡◌};
 ghost use Rattle.std.specs.Int.{w32, w64};
 ghost use Rattle.hippo_values.specs.Names.{name_of};
-ghost use Rattle.hippo_entry.specs.Readings.{Gives, Reads, leading_byte, leading_bytes, leading_number, leading_signed, text_of, leading_text, leading_name, leading_parts, leading_list, day_of, leading_value, column_kind_of, bool_of, item_kind_of, subject_of_byte, leading_column, leading_schema};
+ghost use Rattle.hippo_entry.specs.Readings.{Gives, Reads, leading_byte, leading_bytes, leading_number, leading_signed};
+ghost use Rattle.hippo_entry.specs.Readings.{text_of, leading_text, leading_name, leading_parts, leading_list, day_of};
+ghost use Rattle.hippo_entry.specs.Readings.{leading_value, column_kind_of, bool_of, item_kind_of, subject_of_byte};
+ghost use Rattle.hippo_entry.specs.Readings.{leading_column, leading_schema};
 
 use crate::fault::Fault;
 use hippo_model::{Column, ColumnKind, ItemKind, Schema};

@@ -5,4 +5,6 @@ use Rattle.hippo_entry.proofs.PartLoops.{with_front}
 use Rattle.hippo_entry.proofs.reading.read_parts.Given as goal
 
 abbrev pub invariant-loop : goal.invariant-loop
-invariant-loop g l = with_front g.T.Readable.reading l.parts (leading_parts g.T.Readable.reading (l.count - l.counter) l.rest) ≡ leading_parts g.T.Readable.reading l.count l.bytes
+invariant-loop g l = with_front g.T.Readable.reading l.parts
+    (leading_parts g.T.Readable.reading (l.count - l.counter) l.rest)
+    ≡ leading_parts g.T.Readable.reading l.count l.bytes
