@@ -228,11 +228,12 @@ impl Tables {
     }
 
     /// Takes in the entry that comes next: the tables then stand for the history with the entry behind. They are unchanged
-    /// where memory is short, which it never is for a Delete.
+    /// where memory is short, which it never is for a Delete, nor for what changes no row and makes no table.
     pub fn apply(&mut self, alloc: Global, entry: &Entry) -> Result<(), Memory>
         ensures ok { OnOk result (Adds self.old self.new entry.now) }
         ensures err { OnErr result (IsAsBefore self.old self.new) }
         ensures deletes { is_delete entry.now.act ≡ true → IsOk result }
+        ensures silent { is_silent entry.now.act ≡ true → IsOk result }
     {
         match &entry.act {
             Act::Create(schema) => self.make(alloc, schema),
