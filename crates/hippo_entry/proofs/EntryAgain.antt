@@ -134,18 +134,18 @@ schema_again : (x : Schema) (rest : List ℕ) → schema_is_keepable x ≡ true
 unfolding leading_schema
 schema_again x rest fits =
     let all = and_parts (is_folded_name x.name && columns_are_keepable x.columns && key_is_keepable x.key)
-        (subject_is_keepable x.subject) fits in
+    (subject_is_keepable x.subject) fits in
     let front = and_parts (is_folded_name x.name && columns_are_keepable x.columns) (key_is_keepable x.key) all.0 in
     let first = and_parts (is_folded_name x.name) (columns_are_keepable x.columns) front.0 in
     let columns = (and_parts (is_short x.columns)
-        (list_all (λ column. is_folded_name column.name) x.columns) first.1).1 in
+    (list_all (λ column. is_folded_name column.name) x.columns) first.1).1 in
     let key = (and_parts (is_short x.key) (list_all is_place x.key) front.1).1 in
     let subject : List ℕ = subject_byte x.subject ∷ [] in
     ap leading_schema (four (name_bytes x.name) (list_bytes column_bytes x.columns)
-        (list_bytes place_bytes x.key) subject rest)
+    (list_bytes place_bytes x.key) subject rest)
     ∙ rw (
       name_again x.name (list_bytes column_bytes x.columns ++ (list_bytes place_bytes x.key ++ (subject ++ rest)))
-      first.0,
+          first.0,
       list_again a_column x.columns (list_bytes place_bytes x.key ++ (subject ++ rest)) columns,
       list_again a_place x.key (subject ++ rest) key,
       subject_again x.subject,
@@ -161,7 +161,7 @@ create_again x rest fits = rw (schema_again x rest fits) refl
 change_again : (kind : ℕ) (table : Name) (row : Row) (rest : List ℕ)
     → (is_folded_name table && cells_are_keepable row) ≡ true
     → leading_change kind ((name_bytes table ++ list_bytes value_bytes row) ++ rest)
-        ≡ Some (change_of kind table row, rest)
+    ≡ Some (change_of kind table row, rest)
 unfolding leading_change
 change_again kind table row rest fits =
     let parts = and_parts (is_folded_name table) (cells_are_keepable row) fits in
@@ -193,8 +193,11 @@ grant_again kind u p r rest fits =
     let all = and_parts (is_folded_name u && is_folded_name p) (is_folded_name r) fits in
     let front = and_parts (is_folded_name u) (is_folded_name p) all.0 in
     ap (leading_grant kind) (three (name_bytes u) (name_bytes p) (name_bytes r) rest)
-    ∙ rw (name_again u (name_bytes p ++ (name_bytes r ++ rest)) front.0, name_again p (name_bytes r ++ rest) front.1,
-        name_again r rest all.1) refl
+    ∙ rw (
+      name_again u (name_bytes p ++ (name_bytes r ++ rest)) front.0,
+      name_again p (name_bytes r ++ rest) front.1,
+      name_again r rest all.1,
+    ) refl
 
 item_again : (x : Option Name) (rest : List ℕ) → item_is_keepable x ≡ true
     → leading_item (item_bytes x ++ rest) ≡ Some (x, rest)
@@ -215,8 +218,8 @@ allow_again : (format : ℕ) (p r t : Name) (c : List Place) (i : Option Name) (
     → (rule_is_keepable p r t c && item_is_keepable i) ≡ true
     → leading_days format (days_bytes d ++ rest) ≡ Some (d, rest)
     → leading_allow format ((name_bytes p ++ name_bytes r ++ name_bytes t ++ list_bytes place_bytes c ++ item_bytes i
-        ++ days_bytes d) ++ rest)
-        ≡ Some (Allow p r t c i d, rest)
+    ++ days_bytes d) ++ rest)
+    ≡ Some (Allow p r t c i d, rest)
 unfolding leading_allow
 allow_again format p r t c i d rest fits days =
     let both = and_parts (rule_is_keepable p r t c) (item_is_keepable i) fits in
@@ -226,7 +229,7 @@ allow_again format p r t c i d rest fits days =
     let behind_columns : List ℕ = item_bytes i ++ (days_bytes d ++ rest) in
     let behind_table : List ℕ = list_bytes place_bytes c ++ behind_columns in
     ap (leading_allow format)
-        (six (name_bytes p) (name_bytes r) (name_bytes t) (list_bytes place_bytes c) (item_bytes i) (days_bytes d) rest)
+    (six (name_bytes p) (name_bytes r) (name_bytes t) (list_bytes place_bytes c) (item_bytes i) (days_bytes d) rest)
     ∙ rw (
       name_again p (name_bytes r ++ (name_bytes t ++ behind_table)) first.0,
       name_again r (name_bytes t ++ behind_table) first.1,
@@ -238,7 +241,7 @@ allow_again format p r t c i d rest fits days =
 
 revoke_again : (p r t : Name) (c : List Place) (rest : List ℕ) → rule_is_keepable p r t c ≡ true
     → leading_revoke ((name_bytes p ++ name_bytes r ++ name_bytes t ++ list_bytes place_bytes c) ++ rest)
-        ≡ Some (Revoke p r t c, rest)
+    ≡ Some (Revoke p r t c, rest)
 unfolding leading_revoke
 revoke_again p r t c rest fits =
     let all = and_parts (is_folded_name p && is_folded_name r && is_folded_name t) (places_are_keepable c) fits in
@@ -246,25 +249,31 @@ revoke_again p r t c rest fits =
     let first = and_parts (is_folded_name p) (is_folded_name r) front.0 in
     let behind_table : List ℕ = list_bytes place_bytes c ++ rest in
     ap leading_revoke (four (name_bytes p) (name_bytes r) (name_bytes t) (list_bytes place_bytes c) rest)
-    ∙ rw (name_again p (name_bytes r ++ (name_bytes t ++ behind_table)) first.0,
-        name_again r (name_bytes t ++ behind_table) first.1, name_again t behind_table front.1,
-        places_again c rest all.1) refl
+    ∙ rw (
+      name_again p (name_bytes r ++ (name_bytes t ++ behind_table)) first.0,
+      name_again r (name_bytes t ++ behind_table) first.1,
+      name_again t behind_table front.1,
+      places_again c rest all.1,
+    ) refl
 
 choice_again : (subject : ℤ) (item : Name) (agreed : Bool) (rest : List ℕ)
     → (is_signed_number subject && is_folded_name item) ≡ true
     → leading_choice ((signed_bytes subject ++ name_bytes item ++ from_bool agreed ∷ []) ++ rest)
-        ≡ Some (Choice subject item agreed, rest)
+    ≡ Some (Choice subject item agreed, rest)
 unfolding leading_choice
 choice_again subject item agreed rest fits =
     let parts = and_parts (is_signed_number subject) (is_folded_name item) fits in
     ap leading_choice (three (signed_bytes subject) (name_bytes item) (from_bool agreed ∷ []) rest)
-    ∙ rw (signed_again subject (name_bytes item ++ (from_bool agreed ∷ rest)) (number_fits subject parts.0),
-        name_again item (from_bool agreed ∷ rest) parts.1, bool_again agreed) refl
+    ∙ rw (
+      signed_again subject (name_bytes item ++ (from_bool agreed ∷ rest)) (number_fits subject parts.0),
+      name_again item (from_bool agreed ∷ rest) parts.1,
+      bool_again agreed,
+    ) refl
 
 question_again : (u p r : Name) (text : Txt) (rest : List ℕ)
     → (is_folded_name u && is_folded_name p && is_folded_name r && question_is_keepable text) ≡ true
     → leading_question ((name_bytes u ++ name_bytes p ++ name_bytes r ++ text_bytes text) ++ rest)
-        ≡ Some (Asked u p r text, rest)
+    ≡ Some (Asked u p r text, rest)
 unfolding leading_question
 question_again u p r text rest fits =
     let all = and_parts (is_folded_name u && is_folded_name p && is_folded_name r) (question_is_keepable text) fits in
@@ -292,7 +301,7 @@ act_again (Authorize u p r) rest fits = grant_again 8 u p r rest fits
 act_again (Deauthorize u p r) rest fits = grant_again 9 u p r rest fits
 act_again (Allow p r t c i None) rest fits =
     allow_again 1 p r t c i None rest (and_parts (rule_is_keepable p r t c && item_is_keepable i) true fits).0
-        (no_days_again rest)
+    (no_days_again rest)
 act_again (Allow p r t c i (Some d)) rest fits =
     let parts = and_parts (rule_is_keepable p r t c && item_is_keepable i) (days_are_keepable (Some d)) fits in
     allow_again 2 p r t c i (Some d) rest parts.0 (days_again d rest parts.1)
@@ -309,9 +318,13 @@ entry_again x rest fits =
     let head = and_parts (nat_lt x.seq 18446744073709551616) (is_moment x.moment) all.0 in
     let act : List ℕ = act_kind x.act ∷ act_bytes x.act in
     ap (λ (bytes : List ℕ). leading_entry (act_format x.act ∷ bytes))
-        (three (number_bytes x.seq) (signed_bytes x.moment) act rest)
-    ∙ rw (long_again x.seq (signed_bytes x.moment ++ (act ++ rest)) (ltb-true _ _ head.0),
-        signed_again x.moment (act ++ rest) (moment_fits x.moment head.1), head.1, act_again x.act rest all.1) refl
+    (three (number_bytes x.seq) (signed_bytes x.moment) act rest)
+    ∙ rw (
+      long_again x.seq (signed_bytes x.moment ++ (act ++ rest)) (ltb-true _ _ head.0),
+      signed_again x.moment (act ++ rest) (moment_fits x.moment head.1),
+      head.1,
+      act_again x.act rest all.1,
+    ) refl
 
 -- ---- the entry that has a form
 
@@ -320,7 +333,7 @@ pub read_from_form : (kept : StoredEntry) (entry : Entry) → HasForm kept entry
     → leading_entry kept.body ≡ Some (entry, [])
 read_from_form kept entry form =
     let whole : kept.body ≡ body entry ++ [] =
-        sym (ap (λ (s : StoredEntry). s.body) form.1) ∙ sym (append-nil (body entry)) in
+    sym (ap (λ (s : StoredEntry). s.body) form.1) ∙ sym (append-nil (body entry)) in
     ap leading_entry whole ∙ entry_again entry [] form.0
 
 abbrev read_as : Entry → List ℕ → Option (Entry × List ℕ)

@@ -61,14 +61,14 @@ pub signed_again : (x : ℤ) (rest : List ℕ) → FitsSigned w64 x
     → leading_signed w64 (to_be_bytes w64 (cast_unsigned w64 x) ++ rest) ≡ Some (x, rest)
 signed_again x rest fits =
     ap (λ (found : Option (ℕ × List ℕ)). found >>= λ n. Some (cast_signed w64 n.0, n.1))
-        (long_again (cast_unsigned w64 x) rest (unsigned64 x fits))
+    (long_again (cast_unsigned w64 x) rest (unsigned64 x fits))
     ∙ ap (λ (y : ℤ). Some (y, rest)) (to_z-of_z w64 x fits)
 
 pub short_signed_again : (x : ℤ) (rest : List ℕ) → FitsSigned w32 x
     → leading_signed w32 (to_be_bytes w32 (cast_unsigned w32 x) ++ rest) ≡ Some (x, rest)
 short_signed_again x rest fits =
     ap (λ (found : Option (ℕ × List ℕ)). found >>= λ n. Some (cast_signed w32 n.0, n.1))
-        (short_again (cast_unsigned w32 x) rest (unsigned32 x fits))
+    (short_again (cast_unsigned w32 x) rest (unsigned32 x fits))
     ∙ ap (λ (y : ℤ). Some (y, rest)) (to_z-of_z w32 x fits)
 
 -- ---- texts and names
@@ -118,8 +118,8 @@ module _ {A : Type 0} {reading : List ℕ → Option (A × List ℕ)} {fits : A 
   parts_again (x ∷ xs) rest holds =
       let both = and_parts (fits x) (list_all fits xs) holds in
       let regrouped : flat_map write (x ∷ xs) ++ rest ≡ write x ++ (flat_map write xs ++ rest) =
-          ap (λ (bytes : List ℕ). bytes ++ rest) (flat_map-cons write x xs)
-          ∙ append_assoc (write x) (flat_map write xs) rest in
+      ap (λ (bytes : List ℕ). bytes ++ rest) (flat_map-cons write x xs)
+      ∙ append_assoc (write x) (flat_map write xs) rest in
       ap (leading_parts reading (length (x ∷ xs))) regrouped
       ∙ rw (part.again x (flat_map write xs ++ rest) both.0, parts_again xs rest both.1) refl
 

@@ -23,8 +23,8 @@ module _ {A : Type 0} (reading : List ℕ → Option (A × List ℕ)) where
   goes_on front longer count i bytes n after total lt h pushed so_far =
       let k : count - i ≡ suc (count - (i + 1)) = omega arith in
       let one : with_front front (leading_parts reading (count - i) bytes)
-          ≡ with_front (front ++ n ∷ []) (leading_parts reading (count - (i + 1)) after) =
-          rw (k, h) (regroup front n (leading_parts reading (count - (i + 1)) after)) in
+      ≡ with_front (front ++ n ∷ []) (leading_parts reading (count - (i + 1)) after) =
+      rw (k, h) (regroup front n (leading_parts reading (count - (i + 1)) after)) in
       rw pushed (sym one ∙ so_far)
 
   pub ends : (e : Fault) (front : List A) (count i : ℕ) (bytes : List ℕ) (total : Option (List A × List ℕ)) → i < count
@@ -41,5 +41,5 @@ module _ {A : Type 0} (reading : List ℕ → Option (A × List ℕ)) where
   is_done front count i bytes total le so_far =
       let k : count - i ≡ 0 = omega arith in
       let one : with_front front (leading_parts reading (count - i) bytes) ≡ Some (front, bytes) =
-          rw k (ap (λ (ns : List A). Some (ns, bytes)) (append-nil front)) in
+      rw k (ap (λ (ns : List A). Some (ns, bytes)) (append-nil front)) in
       sym so_far ∙ one
