@@ -1,0 +1,6 @@
+pub mod Deeds
+pub mod Checks
+pub mod Records
+pub mod Judging
+pub mod Effects
+pub mod Runs

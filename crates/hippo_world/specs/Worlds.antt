@@ -1,0 +1,85 @@
+-- What a run holds beside the history: the clock, open sessions with their cursors, audit jobs and watches.
+use Rattle.std.specs.Prelude.{ℕ, ◌-◌, ◌+◌, Bool, List, ◌∷◌, [], slice_get, slice_set, map, Option, Some, None, is_some, is_none, option_and_then, option_map, position, filter_map, take, drop, length, min}
+use Rattle.std.specs.Option.{option_flatten}
+use Rattle.std.specs.List.{repeat}
+use Rattle.hippo_values.specs.declared.moments.Moment.{Moment}
+use Rattle.hippo_model.specs.declared.audit.Audit.{Audit}
+use Rattle.hippo_model.specs.declared.audit.Flag.{Flag}
+use Rattle.hippo_model.specs.Terms.{ShownRow}
+use Rattle.hippo_report.specs.declared.format.Format.{Format}
+use Rattle.hippo_world.specs.declared.cursors.Cursor.{Cursor}
+use Rattle.hippo_world.specs.declared.sessions.Session.{Session}
+
+-- an audit job: its audit, the history's length at its beginning, the last number looked at, and flags not yet written
+pub record Job : Type 0 where
+  pub audit : Audit
+  pub length : ℕ
+  pub place : ℕ
+  pub waiting : List Flag
+
+-- sessions, jobs and watches stand by their numbers, the first being number 1
+pub record World : Type 0 where
+  pub clock : Moment
+  -- how many entries the history may have
+  pub limit : ℕ
+  pub format : Format
+  pub sessions : List (Option Session)
+  pub jobs : List (Option Job)
+  pub watches : List (Option Audit)
+
+-- how many sessions, cursors of a session, jobs and watches there may be
+abbrev pub session_limit : ℕ
+session_limit = 64
+
+abbrev pub cursor_limit : ℕ
+cursor_limit = 4
+
+abbrev pub job_limit : ℕ
+job_limit = 8
+
+abbrev pub watch_limit : ℕ
+watch_limit = 8
+
+-- what stands at a number, if anything does
+abbrev pub at_number : {A : Type 0} → List (Option A) → ℕ → Option A
+at_number places number = option_flatten (slice_get places (number - 1))
+
+-- with something at a number, or with nothing there
+abbrev pub with_at : {A : Type 0} → List (Option A) → ℕ → Option A → List (Option A)
+with_at places number held = slice_set places (number - 1) held
+
+-- the lowest number at which nothing stands
+abbrev pub free_number : {A : Type 0} → List (Option A) → Option ℕ
+free_number places = option_map (λ place. place + 1) (position is_none places)
+
+-- nothing stands at any of so many numbers
+abbrev pub none_held : {A : Type 0} → ℕ → List (Option A)
+none_held count = repeat count None
+
+-- the world in which a run begins
+abbrev pub opening : Moment → ℕ → Format → World
+opening clock limit format = record {
+  clock = clock;
+  limit = limit;
+  format = format;
+  sessions = none_held session_limit;
+  jobs = none_held job_limit;
+  watches = none_held watch_limit;
+}
+
+abbrev pub session_at : World → ℕ → Option Session
+session_at world number = at_number world.sessions number
+
+abbrev pub with_session : World → ℕ → Option Session → World
+with_session world number session = record world { sessions = with_at world.sessions number session }
+
+-- the rows of a cursor that are handed out next, at most so many, and the cursor after them
+abbrev pub rows_next : Cursor → ℕ → List ShownRow
+rows_next cursor count = take count (drop cursor.given cursor.answer)
+
+abbrev pub moved_on : Cursor → ℕ → Cursor
+moved_on cursor count = record cursor { given = min (cursor.given + count) (length cursor.answer) }
+
+-- a session with a cursor at a number, or with none there
+abbrev pub with_cursor : Session → ℕ → Option Cursor → Session
+with_cursor session number cursor = record session { cursors = with_at session.cursors number cursor }
