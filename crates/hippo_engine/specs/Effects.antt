@@ -26,7 +26,8 @@ use Rattle.hippo_report.specs.Notices.{done_line, number_line}
 use Rattle.hippo_report.specs.Refusals.{refusal_line}
 use Rattle.hippo_world.specs.declared.cursors.Cursor.{Cursor}
 use Rattle.hippo_world.specs.declared.sessions.Session.{Session}
-use Rattle.hippo_world.specs.Worlds.{World, Job, with_at, with_session, with_cursor, rows_next, moved_on, none_held, cursor_limit}
+use Rattle.hippo_world.specs.Worlds.{World, Job, with_at, with_session, with_cursor, rows_next, moved_on, none_held}
+use Rattle.hippo_lines.specs.Limits.{cursor_limit}
 use Rattle.hippo_commands.specs.Commands.{Command, who_commands, takes_memory}
 use Rattle.hippo_engine.specs.Deeds.{Deed, Question, asked_by}
 use Rattle.hippo_engine.specs.Deeds as deeds

@@ -1,5 +1,5 @@
 -- What a run holds beside the history: the clock, open sessions with their cursors, audit jobs and watches.
-use Rattle.std.specs.Prelude.{ℕ, ◌-◌, ◌+◌, Bool, List, ◌∷◌, [], slice_get, slice_set, map, Option, Some, None, is_some, is_none, option_and_then, option_map, position, filter_map, take, drop, length, min}
+use Rattle.std.specs.Prelude.{ℕ, zero, suc, ◌+◌, List, slice_get, slice_set, Option, None, is_none, option_map, position, take, drop, length, min}
 use Rattle.std.specs.Option.{option_flatten}
 use Rattle.std.specs.List.{repeat}
 use Rattle.hippo_values.specs.declared.moments.Moment.{Moment}
@@ -7,6 +7,7 @@ use Rattle.hippo_model.specs.declared.audit.Audit.{Audit}
 use Rattle.hippo_model.specs.declared.audit.Flag.{Flag}
 use Rattle.hippo_model.specs.Terms.{ShownRow}
 use Rattle.hippo_report.specs.declared.format.Format.{Format}
+use Rattle.hippo_lines.specs.Limits.{session_limit, cursor_limit, job_limit, watch_limit}
 use Rattle.hippo_world.specs.declared.cursors.Cursor.{Cursor}
 use Rattle.hippo_world.specs.declared.sessions.Session.{Session}
 
@@ -27,26 +28,15 @@ pub record World : Type 0 where
   pub jobs : List (Option Job)
   pub watches : List (Option Audit)
 
--- how many sessions, cursors of a session, jobs and watches there may be
-abbrev pub session_limit : ℕ
-session_limit = 64
-
-abbrev pub cursor_limit : ℕ
-cursor_limit = 4
-
-abbrev pub job_limit : ℕ
-job_limit = 8
-
-abbrev pub watch_limit : ℕ
-watch_limit = 8
-
 -- what stands at a number, if anything does
 abbrev pub at_number : {A : Type 0} → List (Option A) → ℕ → Option A
-at_number places number = option_flatten (slice_get places (number - 1))
+at_number places zero = None
+at_number places (suc place) = option_flatten (slice_get places place)
 
 -- with something at a number, or with nothing there
 abbrev pub with_at : {A : Type 0} → List (Option A) → ℕ → Option A → List (Option A)
-with_at places number held = slice_set places (number - 1) held
+with_at places zero held = places
+with_at places (suc place) held = slice_set places place held
 
 -- the lowest number at which nothing stands
 abbrev pub free_number : {A : Type 0} → List (Option A) → Option ℕ
