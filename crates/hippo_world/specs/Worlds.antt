@@ -1,5 +1,5 @@
 -- What a run holds beside the history: the clock, open sessions with their cursors, audit jobs and watches.
-use Rattle.std.specs.Prelude.{ℕ, zero, suc, ◌+◌, List, slice_get, slice_set, Option, None, is_none, option_map, position, take, drop, length, min}
+use Rattle.std.specs.Prelude.{ℕ, zero, suc, ◌+◌, List, [], ◌∷◌, slice_get, slice_set, Option, None, is_none, option_map, position, take, drop, length, min}
 use Rattle.std.specs.Option.{option_flatten}
 use Rattle.std.specs.List.{repeat}
 use Rattle.hippo_values.specs.declared.moments.Moment.{Moment}
@@ -44,7 +44,7 @@ free_number places = option_map (λ place. place + 1) (position is_none places)
 
 -- nothing stands at any of so many numbers
 abbrev pub none_held : {A : Type 0} → ℕ → List (Option A)
-none_held count = repeat count None
+none_held count = repeat count (None ∷ [])
 
 -- the world in which a run begins
 abbrev pub opening : Moment → ℕ → Format → World
