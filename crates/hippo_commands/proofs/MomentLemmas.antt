@@ -5,6 +5,8 @@ use Rattle.std.proofs.lemmas.Int.{ints}
 use Rattle.std.proofs.lemmas.Slice.Eq.{bytes_eq-Decides}
 use Rattle.hippo_values.specs.Moments.{IsMoment}
 use Rattle.hippo_values.specs.Dates.{moment_text, IsMomentText}
+use Rattle.hippo_values.proofs.MomentTextLemmas.{IsMomentText-unique}
+use Rattle.hippo_commands.specs.CommandLaws.{MomentsAreRead}
 use Rattle.hippo_commands.specs.Moments.{moment_after, moment_among, moment_in}
 
 -- what is found among the first n moments is the text's moment
@@ -49,3 +51,13 @@ pub moment_in-is : (text : List ℕ) (answer : Option ℤ) → IfSome answer (Is
 unfolding moment_in
 moment_in-is text answer some inverse =
     agree text answer (moment_among 315537897600 text) some inverse (found_moment 315537897600 text (omega arith)) (no_moment text)
+
+some_found : (text : List ℕ) (found : Option ℤ) (second : ℤ) → IfSome found (IsMomentText text) → found ≡ Some second → IsMomentText text second
+some_found text found second is e = rw e at is
+
+pub moments_are_read : MomentsAreRead
+unfolding moment_in
+moments_are_read text second = (
+  λ e. some_found text (moment_among 315537897600 text) second (found_moment 315537897600 text (omega arith)) e,
+  λ h. sym (moment_in-is text (Some second) h (λ other is. ap Some (IsMomentText-unique text second other h is))),
+)

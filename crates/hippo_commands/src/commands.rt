@@ -66,7 +66,7 @@ fn text_command<'a>(alloc: Global, text: &'a str) -> Command<'a>
 /// What a line commands, by the forms of lines and the grammar alone. A statement may be refused for want of memory
 /// instead; nothing else takes memory. The end of the input commands nothing.
 pub fn command_of<'a>(alloc: Global, line: Line<'a>) -> Command<'a>
-    ensures { IfSome (line_text line) (λ text. IsCommand (command_of text) (command result)) }
+    ensures { IfSome (line_text line.entry) (λ text. IsCommand (command_of text) (command result)) }
 {
     match line {
         Line::Text(text) => text_command(alloc, text),

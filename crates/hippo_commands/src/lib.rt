@@ -3,6 +3,7 @@
 
 mod command;
 mod commands;
+pub mod laws;
 mod statements;
 
 pub use command::Command;
