@@ -114,6 +114,10 @@ takes_memory (set_clock moment) = false
 takes_memory (ask session request) = request_takes_memory request
 takes_memory (state session stmt text) = true
 
+-- an outcome, or want of memory
+abbrev pub OrMemory : {A : Type 0} → Result A Refusal → Result A Refusal → Type 0
+OrMemory outcome result = (result ≡ outcome) ⊎ (result ≡ Err Memory)
+
 -- a line commands this, or it is refused for want of memory
 abbrev pub IsCommand : Command → Command → Type 0
 IsCommand command found =

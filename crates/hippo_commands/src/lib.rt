@@ -1,1 +1,9 @@
+//! What a line of the input commands, whatever the history.
 #![tactic(auto)]
+
+mod command;
+mod commands;
+mod statements;
+
+pub use command::Command;
+pub use commands::command_of;
