@@ -26,8 +26,7 @@ use Rattle.hippo_report.specs.Notices.{done_line, number_line}
 use Rattle.hippo_report.specs.Refusals.{refusal_line}
 use Rattle.hippo_world.specs.declared.cursors.Cursor.{Cursor}
 use Rattle.hippo_world.specs.declared.sessions.Session.{Session}
-use Rattle.hippo_world.specs.Worlds.{World, Job, with_at, with_session, with_cursor, rows_next, moved_on, none_held}
-use Rattle.hippo_lines.specs.Limits.{cursor_limit}
+use Rattle.hippo_world.specs.Worlds.{World, Job, with_at, with_session, with_cursor, new_session, new_cursor, rows_next, moved_on}
 use Rattle.hippo_commands.specs.Commands.{Command, who_commands, takes_memory}
 use Rattle.hippo_engine.specs.Deeds.{Deed, Question, asked_by}
 use Rattle.hippo_engine.specs.Deeds as deeds
@@ -98,7 +97,7 @@ abbrev pub opened : World → Session → ℕ → Question → List ShownRow →
 opened world session number question rows =
     if nat_lt row_limit (length rows) then world
     else with_session world question.session
-    (Some (with_cursor session number (Some (record { answer = rows; given = 0 }))))
+    (Some (with_cursor session number (Some (new_cursor rows))))
 
 abbrev pub cursor_opened : History → World → Session → ℕ → Question → Effect
 cursor_opened history world session number question =
@@ -118,10 +117,6 @@ handed_out world number session at cursor count = record {
   added = [];
   world = with_session world number (Some (with_cursor session at (Some (moved_on cursor count))));
 }
-
--- a session that nothing was asked in
-abbrev pub new_session : Name → Pair → Session
-new_session user pair = record { user = user; pair = pair; cursors = none_held cursor_limit }
 
 -- an entry as a flag, where an audit flags it
 abbrev pub flag_by : Entry → Act → List SharedRow → Option Flag

@@ -1,10 +1,11 @@
 -- What a run holds beside the history: the clock, open sessions with their cursors, audit jobs and watches.
-use Rattle.std.specs.Prelude.{ℕ, zero, suc, ◌+◌, List, [], ◌∷◌, slice_get, slice_set, Option, None, is_none, option_map, position, take, drop, length, min}
+use Rattle.std.specs.Prelude.{ℕ, zero, suc, ◌+◌, List, slice_get, slice_set, replicate, Option, None, is_none, option_map, position, take, drop, length, min}
 use Rattle.std.specs.Option.{option_flatten}
-use Rattle.std.specs.List.{repeat}
 use Rattle.hippo_values.specs.declared.moments.Moment.{Moment}
+use Rattle.hippo_values.specs.declared.names.Name.{Name}
 use Rattle.hippo_model.specs.declared.audit.Audit.{Audit}
 use Rattle.hippo_model.specs.declared.audit.Flag.{Flag}
+use Rattle.hippo_model.specs.declared.audit.Pair.{Pair}
 use Rattle.hippo_model.specs.Terms.{ShownRow}
 use Rattle.hippo_report.specs.declared.format.Format.{Format}
 use Rattle.hippo_lines.specs.Limits.{session_limit, cursor_limit, job_limit, watch_limit}
@@ -44,7 +45,7 @@ free_number places = option_map (λ place. place + 1) (position is_none places)
 
 -- nothing stands at any of so many numbers
 abbrev pub none_held : {A : Type 0} → ℕ → List (Option A)
-none_held count = repeat count (None ∷ [])
+none_held count = replicate count None
 
 -- the world in which a run begins
 abbrev pub opening : Moment → ℕ → Format → World
@@ -62,6 +63,14 @@ session_at world number = at_number world.sessions number
 
 abbrev pub with_session : World → ℕ → Option Session → World
 with_session world number session = record world { sessions = with_at world.sessions number session }
+
+-- a session that nothing was asked in
+abbrev pub new_session : Name → Pair → Session
+new_session user pair = record { user = user; pair = pair; cursors = none_held cursor_limit }
+
+-- a cursor of which no row was handed out
+abbrev pub new_cursor : List ShownRow → Cursor
+new_cursor answer = record { answer = answer; given = 0 }
 
 -- the rows of a cursor that are handed out next, at most so many, and the cursor after them
 abbrev pub rows_next : Cursor → ℕ → List ShownRow

@@ -2,7 +2,11 @@
 #![tactic(auto)]
 
 mod cursors;
+mod numbered;
 mod sessions;
+mod worlds;
 
 pub use cursors::Cursor;
+pub use numbered::Numbered;
 pub use sessions::Session;
+pub use worlds::World;
