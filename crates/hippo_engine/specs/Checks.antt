@@ -1,5 +1,6 @@
 -- The checks of a line, one after the other; the first that fails refuses it.
-use Rattle.std.specs.Prelude.{ℕ, ◌==◌, ℤ, pos, Bool, true, false, not, nat_le, int_eq, if◌then◌else◌, List, [], ◌∷◌, length, find, ◌&&◌, Option, Some, None, Result, Ok, Err, ok_or}
+use Rattle.std.specs.Prelude.{ℕ, ◌==◌, ℤ, pos, Bool, true, false, not, nat_le, if◌then◌else◌, List, [], ◌∷◌, length, find, ◌&&◌, Option, Some, None, Result, Ok, Err, ok_or}
+use Rattle.std.specs.Ordering.{int_eq}
 use Rattle.hippo_model.specs.declared.audit.Pair.{Pair}
 use Rattle.hippo_values.specs.declared.names.Name.{Name}
 use Rattle.hippo_model.specs.declared.entry.Act.{Act}

@@ -40,7 +40,7 @@ pub data Deed : Type 0 where
   change : Act → Deed
   answer : Question → Deed
   -- with the number that its cursor gets, in its session
-  open : Session → ℕ → Question → Deed
+  open_cursor : Session → ℕ → Question → Deed
   extract : Question → Deed
   explain : Entry → Deed
   audit : Audit → Deed

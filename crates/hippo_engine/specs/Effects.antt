@@ -210,7 +210,7 @@ done history world (deeds.change act) = record {
   world = world;
 }
 done history world (deeds.answer question) = answered history world question answer_line
-done history world (deeds.open session number question) = cursor_opened history world session number question
+done history world (deeds.open_cursor session number question) = cursor_opened history world session number question
 done history world (deeds.extract question) = answered history world question extract_line
 done history world (deeds.explain entry) = explained history world entry
 done history world (deeds.audit audit) = audited history world audit
@@ -244,7 +244,7 @@ pub record IsShortStep (history : History) (world : World) (reply : Txt) (number
 -- what may stand in the place of what is done, where memory is short
 abbrev pub IsShort : History → World → Txt → Checked Deed → Effect → Type 0
 IsShort history world reply (Ok (deeds.answer question)) effect = IsShortAnswer history world reply question effect
-IsShort history world reply (Ok (deeds.open session number question)) effect = IsShortAnswer history world reply question effect
+IsShort history world reply (Ok (deeds.open_cursor session number question)) effect = IsShortAnswer history world reply question effect
 IsShort history world reply (Ok (deeds.extract question)) effect = IsShortAnswer history world reply question effect
 IsShort history world reply (Ok (deeds.step_job number job count)) effect = IsShortStep history world reply number job count effect
 IsShort history world reply judgement effect = effect ≡ only_reply world reply

@@ -143,7 +143,7 @@ judged_open history world number select text = do
   session ← open_session world number
   free ← ok_or (free_number session.cursors) CursorLimit
   room ← has_room history world
-  Ok (deeds.open session free question)
+  Ok (deeds.open_cursor session free question)
 
 abbrev pub judged_extract : History → World → ℕ → RawSelect → Txt → Checked Deed
 judged_extract history world number select text = do

@@ -4,3 +4,4 @@ pub mod Records
 pub mod Judging
 pub mod Effects
 pub mod Runs
+pub mod EffectLaws
