@@ -1,5 +1,5 @@
 -- A flag has no float.
-use Rattle.std.proofs.Common.{◌≡◌, ◌∙◌, refl, false, List, [], ◌∷◌, map, ap}
+use Rattle.std.proofs.Common.{◌≡◌, refl, false, List, [], ◌∷◌, map}
 use Rattle.serde_json.specs.Data.{Data}
 use Rattle.serde_json.specs.View.{items_of}
 use Rattle.serde_json.specs.Written.{has_float, items_have_float}

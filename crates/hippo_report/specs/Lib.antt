@@ -1,3 +1,4 @@
 pub mod Cells
 pub mod Flags
 pub mod Refusals
+pub mod Notices

@@ -1,5 +1,5 @@
 //! Rows of answers, and cells that were denied.
-ghost use Rattle.std.specs.Prelude.{◌≡◌, ◌++◌, OnOk, OnErr};
+ghost use Rattle.std.specs.Prelude.{◌≡◌, ◌++◌, flat_map, OnOk, OnErr};
 ghost use Rattle.hippo_values.specs.Printing.{KeepsFront};
 ghost use Rattle.hippo_report.specs.Cells.{answer_line, denied_line};
 
@@ -35,6 +35,37 @@ pub fn answer_line<const ROOM: usize>(
 {
     let length = out.as_str().len();
     let printed = append_answer(session, row, out);
+    if printed.is_err() {
+        out.truncate(length);
+    }
+    printed
+}
+
+fn append_answers<const ROOM: usize>(
+    session: u8,
+    rows: &[CellRow],
+    out: &mut RoomyTxt<ROOM>,
+) -> Result<(), Memory>
+    ensures ok { OnOk result (out.new ≡ out.old ++ flat_map (answer_line session) rows.now) }
+    ensures err { OnErr result (KeepsFront out.old out.new) }
+{
+    for row in rows {
+        answer_line(session, row, out)?;
+    }
+    Ok(())
+}
+
+/// Adds rows of an answer to a session, each as `answer_line` does. The text is unchanged where memory is short.
+pub fn answer_lines<const ROOM: usize>(
+    session: u8,
+    rows: &[CellRow],
+    out: &mut RoomyTxt<ROOM>,
+) -> Result<(), Memory>
+    ensures ok { OnOk result (out.new ≡ out.old ++ flat_map (answer_line session) rows.now) }
+    ensures err { OnErr result (out.new ≡ out.old) }
+{
+    let length = out.as_str().len();
+    let printed = append_answers(session, rows, out);
     if printed.is_err() {
         out.truncate(length);
     }

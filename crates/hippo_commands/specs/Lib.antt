@@ -1,0 +1,4 @@
+pub mod Moments
+pub mod Commands
+pub mod Lent
+pub mod CommandLaws

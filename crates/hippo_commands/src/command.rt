@@ -1,0 +1,32 @@
+//! Commands.
+use hippo_lines::RequestForm;
+use hippo_model::Stmt;
+use hippo_report::Refusal;
+use hippo_values::Moment;
+
+/// What a line commands. Texts are the line's own.
+#[derive(Debug, Drop)]
+pub enum Command<'a> {
+    /// The line is empty, has only spaces, or begins with `#`.
+    Nothing,
+    /// Whatever the history, the line is refused. It is a session's, the console's, which is session 0, or nobody's.
+    Wrong {
+        who: Option<u8>,
+        refusal: Refusal,
+    },
+    /// Set the clock.
+    SetClock {
+        moment: Moment,
+    },
+    /// Do what a short word asks for.
+    Ask {
+        session: u8,
+        request: RequestForm<'a>,
+    },
+    /// Carry out a statement, which stands in this text.
+    State {
+        session: u8,
+        statement: Stmt,
+        text: &'a str,
+    },
+}

@@ -1,0 +1,83 @@
+//! What a line commands.
+ghost use Rattle.std.specs.Prelude.{◌≡◌, Option, None, IfSome};
+ghost use Rattle.hippo_io.specs.LineTexts.{line_text};
+ghost use Rattle.hippo_lines.specs.Forms.{line_form};
+ghost use Rattle.hippo_commands.specs.Moments.{moment_in};
+ghost use Rattle.hippo_commands.specs.Commands.{clock_command, state_command, statement_in, command_by, command_of, IsCommand};
+ghost use Rattle.hippo_commands.specs.Lent.{command};
+
+use crate::command::Command;
+use crate::statements::statement_in;
+use hippo_io::Line;
+use hippo_lines::{LineForm, line_form};
+use hippo_report::Refusal;
+use hippo_values::{Moment, read_moment};
+use std::alloc::Global;
+
+fn moment_in(text: &str) -> Option<Moment>
+    ensures { result ≡ moment_in text.now }
+{
+    read_moment(text)
+}
+
+fn clock_command(text: &str) -> Command<'_>
+    ensures { command result ≡ clock_command (moment_in text.now) }
+{
+    match moment_in(text) {
+        Some(moment) => Command::SetClock { moment },
+        None => Command::Wrong {
+            who: None,
+            refusal: Refusal::BadMoment,
+        },
+    }
+}
+
+fn state_command<'a>(alloc: Global, session: u8, text: &'a str) -> Command<'a>
+    ensures { IsCommand (state_command session text.now (statement_in text.now)) (command result) }
+{
+    match statement_in(alloc, text) {
+        Ok(statement) => Command::State {
+            session,
+            statement,
+            text,
+        },
+        Err(refusal) => Command::Wrong {
+            who: Some(session),
+            refusal,
+        },
+    }
+}
+
+fn text_command<'a>(alloc: Global, text: &'a str) -> Command<'a>
+    ensures { IsCommand (command_by (line_form text.now)) (command result) }
+{
+    match line_form(text) {
+        None => Command::Wrong {
+            who: None,
+            refusal: Refusal::BadLine,
+        },
+        Some(LineForm::Silent) => Command::Nothing,
+        Some(LineForm::At { moment }) => clock_command(moment),
+        Some(LineForm::Asking { session, request }) => Command::Ask { session, request },
+        Some(LineForm::Statement { session, text }) => state_command(alloc, session, text),
+    }
+}
+
+/// What a line commands, by the forms of lines and the grammar alone. A statement may be refused for want of memory
+/// instead; nothing else takes memory. The end of the input commands nothing.
+pub fn command_of<'a>(alloc: Global, line: Line<'a>) -> Command<'a>
+    ensures { IfSome (line_text line.entry) (λ text. IsCommand (command_of text) (command result)) }
+{
+    match line {
+        Line::Text(text) => text_command(alloc, text),
+        Line::TooLong => Command::Wrong {
+            who: None,
+            refusal: Refusal::LineTooLong,
+        },
+        Line::NotUtf8 => Command::Wrong {
+            who: None,
+            refusal: Refusal::BadLine,
+        },
+        Line::End => Command::Nothing,
+    }
+}

@@ -1,0 +1,45 @@
+-- What lines leave: nothing where they are refused, and else at most the next entry.
+use Rattle.std.proofs.Common.{◌≡◌, inl, inr, [], ◌∷◌, Option, ℕ, Result, Ok, Err, refl}
+use Rattle.hippo_model.specs.Terms.{History}
+use Rattle.hippo_world.specs.Worlds.{World}
+use Rattle.hippo_report.specs.declared.refusal.Refusal.{Refusal}
+use Rattle.hippo_commands.specs.Commands.{Command, who_commands}
+use Rattle.hippo_engine.specs.Checks.{Checked}
+use Rattle.hippo_engine.specs.Deeds.{Deed, asked_by}
+use Rattle.hippo_engine.specs.Deeds as deeds
+use Rattle.hippo_engine.specs.Judging.{judged}
+use Rattle.hippo_engine.specs.Effects.{done, carried_out, effect_of}
+use Rattle.hippo_engine.specs.EffectLaws.{ChangesNothing, RefusalsChangeNothing, AddsNext, LinesAddTheNextEntry}
+
+refused : (history : History) (world : World) (who : Option ℕ) (judgement : Checked Deed) (refusal : Refusal) → judgement ≡ Err refusal → ChangesNothing world (carried_out history world who judgement)
+refused history world who (Err other) refusal e = record { added = refl; world_is = refl }
+refused history world who (Ok deed) refusal e = absurd cc
+
+pub refusals_change_nothing : RefusalsChangeNothing
+refusals_change_nothing history world command refusal e = refused history world (who_commands command) (judged history world command) refusal e
+
+adds : (history : History) (world : World) (deed : Deed) → AddsNext history world (done history world deed)
+adds history world deeds.do_nothing = inl refl
+adds history world (deeds.set_clock moment) = inl refl
+adds history world (deeds.log_in number user pair) = inl refl
+adds history world (deeds.log_out number) = inl refl
+adds history world (deeds.hand_out number session at cursor count) = inl refl
+adds history world (deeds.close_cursor number session at) = inl refl
+adds history world (deeds.step_job number job count) = inl refl
+adds history world (deeds.drop_job number) = inl refl
+adds history world (deeds.end_watch number) = inl refl
+adds history world (deeds.change act) = inr (act, refl)
+adds history world (deeds.answer question) = inr (asked_by question, refl)
+adds history world (deeds.open_cursor session number question) = inr (asked_by question, refl)
+adds history world (deeds.extract question) = inr (asked_by question, refl)
+adds history world (deeds.explain entry) = inl refl
+adds history world (deeds.audit audit) = inl refl
+adds history world (deeds.begin_audit number audit) = inl refl
+adds history world (deeds.watch number audit) = inl refl
+
+carried : (history : History) (world : World) (who : Option ℕ) (judgement : Checked Deed) → AddsNext history world (carried_out history world who judgement)
+carried history world who (Ok deed) = adds history world deed
+carried history world who (Err refusal) = inl refl
+
+pub lines_add_the_next_entry : LinesAddTheNextEntry
+lines_add_the_next_entry history world command = carried history world (who_commands command) (judged history world command)

@@ -1,0 +1,3 @@
+pub mod ExampleLines
+mod RunExamples
+pub mod EffectTheorem

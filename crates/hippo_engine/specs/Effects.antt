@@ -1,0 +1,261 @@
+-- What is done for a line: its reply, the entries that it adds, and the world after it.
+use Rattle.std.specs.Prelude.{◌≡◌, ◌⊎◌, ◌≤◌, ℕ, ◌+◌, ◌-◌, min, Bool, true, false, ◌==◌, nat_lt, List, [], ◌∷◌, ◌++◌, map, flat_map, filter_map, count_by, length, take, drop, slice_get, Option, Some, None, option_map, option_and_then, Result, Ok, Err, if◌then◌else◌, codes, decimal}
+use Rattle.std.specs.List.{enumerate_from}
+use Rattle.std.specs.Option.{option_map_or}
+use Rattle.hippo_values.specs.Texts.{Txt}
+use Rattle.hippo_values.specs.declared.names.Name.{Name}
+use Rattle.hippo_model.specs.declared.audit.Audit.{Audit}
+use Rattle.hippo_model.specs.declared.audit.Flag.{Flag}
+use Rattle.hippo_model.specs.declared.audit.Pair.{Pair}
+use Rattle.hippo_model.specs.declared.audit.SharedRow.{SharedRow}
+use Rattle.hippo_model.specs.declared.entry.Act.{Act}
+use Rattle.hippo_model.specs.declared.entry.Act.TheVariants.{Asked}
+use Rattle.hippo_model.specs.declared.entry.Entry.{Entry}
+use Rattle.hippo_model.specs.Terms.{History, ShownRow}
+use Rattle.hippo_model.specs.Verdicts.{Context}
+use Rattle.hippo_model.specs.Answers.{answer}
+use Rattle.hippo_model.specs.Audits.{shared, flagged}
+use Rattle.hippo_model.specs.Denials.{Denial, denials}
+use Rattle.hippo_typing.specs.Meanings.{meaning}
+use Rattle.hippo_report.specs.declared.format.Format.{Format}
+use Rattle.hippo_report.specs.declared.refusal.Refusal.{Refusal}
+use Rattle.hippo_report.specs.declared.refusal.Refusal.TheVariants.{TooManyRows, Memory}
+use Rattle.hippo_report.specs.Cells.{answer_line, denied_line}
+use Rattle.hippo_report.specs.Flags.{flag_line, tuple_text}
+use Rattle.hippo_report.specs.Notices.{done_line, number_line}
+use Rattle.hippo_report.specs.Refusals.{refusal_line}
+use Rattle.hippo_world.specs.declared.cursors.Cursor.{Cursor}
+use Rattle.hippo_world.specs.declared.sessions.Session.{Session}
+use Rattle.hippo_world.specs.Worlds.{World, Job, with_at, with_session, with_cursor, new_session, new_cursor, rows_next, moved_on}
+use Rattle.hippo_commands.specs.Commands.{Command, who_commands, takes_memory}
+use Rattle.hippo_engine.specs.Deeds.{Deed, Question, asked_by}
+use Rattle.hippo_engine.specs.Deeds as deeds
+use Rattle.hippo_engine.specs.Checks.{Checked}
+use Rattle.hippo_engine.specs.Judging.{judged}
+use Rattle.hippo_engine.specs.Records.{extract_line}
+
+-- what a line leaves: its reply, the entries that it adds to the history, and the world after it
+pub record Effect : Type 0 where
+  pub reply : Txt
+  pub added : List Entry
+  pub world : World
+
+-- the most rows of an answer, and the most denied cells of a list
+abbrev pub row_limit : ℕ
+row_limit = 100000
+
+-- a reply alone
+abbrev pub only_reply : World → Txt → Effect
+only_reply world reply = record { reply = reply; added = []; world = world }
+
+-- an act as the next entry
+abbrev pub next_entry : History → World → Act → Entry
+next_entry history world act = record { seq = length history + 1; moment = world.clock; act = act }
+
+-- a line for each member, and how many there are
+abbrev pub listed : {A : Type 0} → ℕ → (A → Txt) → List A → Txt
+listed number line members = flat_map line members ++ number_line number (codes "end") (length members)
+
+-- what a question's answer is, as of now
+abbrev pub question_rows : History → World → Question → List ShownRow
+question_rows history world question =
+    let context : Context =
+    record { purpose = question.pair.purpose; recipient = question.pair.recipient; moment = world.clock } in
+    answer history context question.query
+
+-- a reply with the rows, unless there are too many
+abbrev pub within_limit : ℕ → List ShownRow → Txt → Txt
+within_limit number rows reply =
+    if nat_lt row_limit (length rows) then refusal_line (Some number) TooManyRows else reply
+
+-- what a watch says of an entry, where its audit flags it
+abbrev pub alarm_line : History → Entry → ℕ → Audit → Txt
+alarm_line history entry number audit =
+    let says : List SharedRow → Txt =
+    λ tuple. codes "0 alarm " ++ (decimal number ++ (codes " " ++ (decimal entry.seq ++ (tuple_text tuple ++ codes "\n")))) in
+    option_map_or says (shared meaning history audit entry) []
+
+-- what the watches say of an entry, in the order of their numbers
+abbrev pub alarms : History → World → Entry → Txt
+alarms history world entry =
+    flat_map (λ (number, held). option_map_or (alarm_line history entry number) held []) (enumerate_from 1 world.watches)
+
+-- a question is logged; its reply is followed by what the watches say of it
+abbrev pub asked : History → World → Question → Txt → World → Effect
+asked history world question reply after =
+    let entry : Entry = next_entry history world (asked_by question) in
+    record { reply = reply ++ alarms history world entry; added = entry ∷ []; world = after }
+
+-- the answer's rows, each as a line
+abbrev pub answered : History → World → Question → (ℕ → ShownRow → Txt) → Effect
+answered history world question line =
+    let rows : List ShownRow = question_rows history world question in
+    asked history world question (within_limit question.session rows (listed question.session (line question.session) rows)) world
+
+-- the answer is kept, and handed out from its first row on
+abbrev pub opened : World → Session → ℕ → Question → List ShownRow → World
+opened world session number question rows =
+    if nat_lt row_limit (length rows) then world
+    else with_session world question.session
+    (Some (with_cursor session number (Some (new_cursor rows))))
+
+abbrev pub cursor_opened : History → World → Session → ℕ → Question → Effect
+cursor_opened history world session number question =
+    let rows : List ShownRow = question_rows history world question in
+    asked history world question (within_limit question.session rows (number_line question.session (codes "cursor") number))
+    (opened world session number question rows)
+
+-- how many rows were handed out, while there are more; else how many there are
+abbrev pub handed_line : ℕ → Cursor → Txt
+handed_line number cursor =
+    if nat_lt cursor.given (length cursor.answer) then number_line number (codes "part") cursor.given
+    else number_line number (codes "end") (length cursor.answer)
+
+abbrev pub handed_out : World → ℕ → Session → ℕ → Cursor → ℕ → Effect
+handed_out world number session at cursor count = record {
+  reply = flat_map (answer_line number) (rows_next cursor count) ++ handed_line number (moved_on cursor count);
+  added = [];
+  world = with_session world number (Some (with_cursor session at (Some (moved_on cursor count))));
+}
+
+-- an entry as a flag, where an audit flags it
+abbrev pub flag_by : Entry → Act → List SharedRow → Option Flag
+flag_by entry (Asked user purpose recipient text) tuple =
+    Some (record {
+      seq = entry.seq;
+      moment = entry.moment;
+      user = user;
+      pair = record { purpose = purpose; recipient = recipient };
+      shared = tuple;
+    })
+flag_by entry act tuple = None
+
+abbrev pub flag_of : History → Audit → Entry → Option Flag
+flag_of history audit entry = option_and_then (flag_by entry entry.act) (shared meaning history audit entry)
+
+-- the flags of the entries above a number, up to another
+abbrev pub flags_between : History → Audit → ℕ → ℕ → List Flag
+flags_between history audit above upto = filter_map (flag_of history audit) (take (upto - above) (drop above history))
+
+abbrev pub flag_lines : World → List Flag → Txt
+flag_lines world flags = flat_map (flag_line world.format) flags
+
+-- all flags of the history, and how many there are
+abbrev pub audited : History → World → Audit → Effect
+audited history world audit =
+    only_reply world (listed 0 (flag_line world.format) (flags_between history audit 0 (length history)))
+
+-- the last number of a step
+abbrev pub step_end : Job → ℕ → ℕ
+step_end job count = min (job.place + count) job.length
+
+-- a job that has looked up to a number, with the flags that wait
+abbrev pub looked_upto : Job → ℕ → List Flag → Job
+looked_upto job upto waiting = record job { place = upto; waiting = waiting }
+
+-- how far a job is, while numbers are left; else how many flags it has
+abbrev pub step_line : History → Job → ℕ → Txt
+step_line history job upto =
+    if nat_lt upto job.length then number_line 0 (codes "part") upto
+    else number_line 0 (codes "end") (length (flags_between history job.audit 0 job.length))
+
+-- the flags that a step writes: those that wait, and those that it finds
+abbrev pub step_flags : History → Job → ℕ → List Flag
+step_flags history job upto = job.waiting ++ flags_between history job.audit job.place upto
+
+abbrev pub with_job : World → ℕ → Option Job → World
+with_job world number job = record world { jobs = with_at world.jobs number job }
+
+abbrev pub with_watch : World → ℕ → Option Audit → World
+with_watch world number audit = record world { watches = with_at world.watches number audit }
+
+abbrev pub stepped : History → World → ℕ → Job → ℕ → Effect
+stepped history world number job count =
+    let upto : ℕ = step_end job count in
+    record {
+      reply = flag_lines world (step_flags history job upto) ++ step_line history job upto;
+      added = [];
+      world = with_job world number (Some (looked_upto job upto []));
+    }
+
+-- the cells that were denied to a question, at its own time
+abbrev pub denial_line : Denial → Txt
+denial_line denial = denied_line denial.table denial.key denial.column denial.rule
+
+abbrev pub explained : History → World → Entry → Effect
+explained history world entry =
+    let cells : List Denial = denials meaning history entry in
+    only_reply world (if nat_lt row_limit (length cells) then refusal_line (Some 0) TooManyRows else listed 0 denial_line cells)
+
+-- a job at its beginning
+abbrev pub new_job : History → Audit → Job
+new_job history audit = record { audit = audit; length = length history; place = 0; waiting = [] }
+
+-- what is done
+abbrev pub done : History → World → Deed → Effect
+done history world deeds.do_nothing = only_reply world []
+done history world (deeds.set_clock moment) = only_reply (record world { clock = moment }) (done_line None)
+done history world (deeds.log_in number user pair) =
+    only_reply (with_session world number (Some (new_session user pair))) (done_line (Some number))
+done history world (deeds.log_out number) = only_reply (with_session world number None) (done_line (Some number))
+done history world (deeds.hand_out number session at cursor count) = handed_out world number session at cursor count
+done history world (deeds.close_cursor number session at) =
+    only_reply (with_session world number (Some (with_cursor session at None))) (done_line (Some number))
+done history world (deeds.step_job number job count) = stepped history world number job count
+done history world (deeds.drop_job number) = only_reply (with_job world number None) (done_line (Some 0))
+done history world (deeds.end_watch number) = only_reply (with_watch world number None) (done_line (Some 0))
+done history world (deeds.change act) = record {
+  reply = number_line 0 (codes "ok") (length history + 1);
+  added = next_entry history world act ∷ [];
+  world = world;
+}
+done history world (deeds.answer question) = answered history world question answer_line
+done history world (deeds.open_cursor session number question) = cursor_opened history world session number question
+done history world (deeds.extract question) = answered history world question extract_line
+done history world (deeds.explain entry) = explained history world entry
+done history world (deeds.audit audit) = audited history world audit
+done history world (deeds.begin_audit number audit) =
+    only_reply (with_job world number (Some (new_job history audit))) (number_line 0 (codes "job") number)
+done history world (deeds.watch number audit) =
+    only_reply (with_watch world number (Some audit)) (number_line 0 (codes "watch") number)
+
+-- a refusal changes nothing
+abbrev pub carried_out : History → World → Option ℕ → Checked Deed → Effect
+carried_out history world who (Ok deed) = done history world deed
+carried_out history world who (Err refusal) = only_reply world (refusal_line who refusal)
+
+-- what the rules make of a command
+abbrev pub effect_of : History → World → Command → Effect
+effect_of history world command = carried_out history world (who_commands command) (judged history world command)
+
+-- a reply that says that memory was short, and the entry of a question is there or not
+pub record IsShortAnswer (history : History) (world : World) (reply : Txt) (question : Question) (effect : Effect) : Type 0 where
+  pub said : effect.reply ≡ reply
+  pub kept : (effect.added ≡ []) ⊎ (effect.added ≡ next_entry history world (asked_by question) ∷ [])
+  pub same : effect.world ≡ world
+
+-- a reply that says that memory was short, and the job stands at some number up to the step's end
+pub record IsShortStep (history : History) (world : World) (reply : Txt) (number : ℕ) (job : Job) (count : ℕ) (effect : Effect) : Type 0 where
+  pub upto : ℕ
+  pub from : job.place ≤ upto
+  pub to : upto ≤ step_end job count
+  pub is : effect ≡ only_reply (with_job world number (Some (looked_upto job upto (step_flags history job upto)))) reply
+
+-- what may stand in the place of what is done, where memory is short
+abbrev pub IsShort : History → World → Txt → Checked Deed → Effect → Type 0
+IsShort history world reply (Ok (deeds.answer question)) effect = IsShortAnswer history world reply question effect
+IsShort history world reply (Ok (deeds.open_cursor session number question)) effect = IsShortAnswer history world reply question effect
+IsShort history world reply (Ok (deeds.extract question)) effect = IsShortAnswer history world reply question effect
+IsShort history world reply (Ok (deeds.step_job number job count)) effect = IsShortStep history world reply number job count effect
+IsShort history world reply judgement effect = effect ≡ only_reply world reply
+
+-- a line may be answered by want of memory, unless it takes none
+abbrev pub IsMemoryEffect : History → World → Command → Effect → Type 0
+IsMemoryEffect history world command effect =
+    (takes_memory command ≡ true)
+    × IsShort history world (refusal_line (who_commands command) Memory) (judged history world command) effect
+
+-- the effect of a command is what the rules make of it, or want of memory
+abbrev pub IsEffect : History → World → Command → Effect → Type 0
+IsEffect history world command effect =
+    (effect ≡ effect_of history world command) ⊎ IsMemoryEffect history world command effect

@@ -1,0 +1,242 @@
+-- What is to be done for a command, or the first refusal that holds.
+use Rattle.std.specs.Prelude.{ℕ, ◌-◌, ◌==◌, ℤ, Bool, true, false, not, nat_lt, int_lt, List, [], ◌∷◌, ◌++◌, take, drop, length, filter_map, position, slice_get, Option, Some, None, is_some, is_none, option_map, Result, Ok, Err, ok_or, if◌then◌else◌}
+use Rattle.std.specs.Option.{option_map_or}
+use Rattle.hippo_values.specs.Texts.{Txt}
+use Rattle.hippo_values.specs.declared.names.Name.{Name}
+use Rattle.hippo_values.specs.declared.values.Value.{Value}
+use Rattle.hippo_model.specs.declared.audit.Audit.{Audit}
+use Rattle.hippo_model.specs.declared.audit.Pair.{Pair}
+use Rattle.hippo_model.specs.declared.entry.Act.{Act}
+use Rattle.hippo_model.specs.declared.name_fault.NameFault.TheVariants as faults
+use Rattle.hippo_model.specs.declared.query.Query.{Query}
+use Rattle.hippo_model.specs.declared.schema.Schema.{Schema}
+use Rattle.hippo_model.specs.declared.statement.RawAudit.{RawAudit}
+use Rattle.hippo_model.specs.declared.statement.RawForm.{RawForm}
+use Rattle.hippo_model.specs.declared.statement.RawForm.TheVariants as forms
+use Rattle.hippo_model.specs.declared.statement.RawSelect.{RawSelect}
+use Rattle.hippo_model.specs.declared.statement.Stmt.{Stmt}
+use Rattle.hippo_model.specs.declared.statement.Stmt.TheVariants as stmt
+use Rattle.hippo_model.specs.declared.statement.Wanted.{Wanted}
+use Rattle.hippo_model.specs.Terms.{History, Row}
+use Rattle.hippo_catalog.specs.Catalogs.{KnownNames, known_at, table_of}
+use Rattle.hippo_catalog.specs.Selects.{select_refused, query_of}
+use Rattle.hippo_catalog.specs.AuditExpressions.{audit_refused, audit_of}
+use Rattle.hippo_catalog.specs.ChangesRefused.{change_refused, insert_refused, count_refused}
+use Rattle.hippo_catalog.specs.ChangesWanted.{wanted_by}
+use Rattle.hippo_tables.specs.Finished.{finished}
+use Rattle.hippo_report.specs.declared.refusal.Refusal.{Refusal}
+use Rattle.hippo_report.specs.declared.refusal.Refusal.TheVariants.{BadSyntax, MomentBack, SessionOpen, Meaningless, CursorLimit, NoCursor, JobLimit, NoJob, NoSuchQuery, BadRecord, BadField, WatchLimit, NoWatch, NotBuilt}
+use Rattle.hippo_world.specs.declared.sessions.Session.{Session}
+use Rattle.hippo_world.specs.Worlds.{World, at_number, free_number, session_at}
+use Rattle.hippo_commands.specs.Moments.{period_in}
+use Rattle.hippo_lines.specs.Forms.{Request, logs_in, logs_out, fetches, closes, steps, drops, unwatches, loads}
+use Rattle.hippo_commands.specs.Commands.{Command, nothing, wrong, ask, state}
+use Rattle.hippo_commands.specs.Commands as commands
+use Rattle.hippo_engine.specs.Deeds.{Deed, Question}
+use Rattle.hippo_engine.specs.Deeds as deeds
+use Rattle.hippo_engine.specs.Checks.{Checked, ◌>>=◌, refused_if, by_session, by_console, open_session, authorized, meant, act_made, has_room, question_at}
+use Rattle.hippo_engine.specs.Records.{record_fields, field_values}
+
+-- the clock does not go back
+abbrev pub judged_clock : World → ℤ → Checked Deed
+judged_clock world moment =
+    refused_if (int_lt moment world.clock) (MomentBack world.clock) >>= λ _. Ok (deeds.set_clock moment)
+
+abbrev pub judged_login : History → World → ℕ → Name → Pair → Checked Deed
+judged_login history world number user pair = do
+  session ← by_session number
+  closed ← refused_if (is_some (session_at world number)) SessionOpen
+  allowed ← authorized history user pair
+  Ok (deeds.log_in number user pair)
+
+abbrev pub judged_logout : World → ℕ → Checked Deed
+judged_logout world number = open_session world number >>= λ session. Ok (deeds.log_out number)
+
+abbrev pub judged_fetch : World → ℕ → ℕ → ℕ → Checked Deed
+judged_fetch world number at count = do
+  session ← open_session world number
+  cursor ← ok_or (at_number session.cursors at) (NoCursor at)
+  Ok (deeds.hand_out number session at cursor count)
+
+abbrev pub judged_close : World → ℕ → ℕ → Checked Deed
+judged_close world number at = do
+  session ← open_session world number
+  cursor ← ok_or (at_number session.cursors at) (NoCursor at)
+  Ok (deeds.close_cursor number session at)
+
+abbrev pub judged_step : World → ℕ → ℕ → ℕ → Checked Deed
+judged_step world number at count = do
+  console ← by_console number
+  job ← ok_or (at_number world.jobs at) (NoJob at)
+  Ok (deeds.step_job at job count)
+
+abbrev pub judged_drop : World → ℕ → ℕ → Checked Deed
+judged_drop world number at = do
+  console ← by_console number
+  job ← ok_or (at_number world.jobs at) (NoJob at)
+  Ok (deeds.drop_job at)
+
+abbrev pub judged_unwatch : World → ℕ → ℕ → Checked Deed
+judged_unwatch world number at = do
+  console ← by_console number
+  audit ← ok_or (at_number world.watches at) (NoWatch at)
+  Ok (deeds.end_watch at)
+
+-- what is wanted is made, where the rows that are there let it be, and the history has room
+abbrev pub judged_wanted : History → World → Wanted → Checked Deed
+judged_wanted history world wanted = do
+  act ← act_made (finished history wanted)
+  room ← has_room history world
+  Ok (deeds.change act)
+
+-- a statement that changes something
+abbrev pub judged_change : History → World → ℕ → Stmt → Checked Deed
+judged_change history world number statement = do
+  console ← by_console number
+  change ← meant (change_refused (known_at history) statement) (wanted_by (known_at history) statement)
+  wanted ← ok_or change BadSyntax
+  judged_wanted history world wanted
+
+-- the name of the first column whose field is not of its form
+abbrev pub bad_field : Schema → List (Option Value) → Checked (Unit {0})
+bad_field schema values =
+    option_map_or (λ place. option_map_or (λ column. Err (BadField column.name)) (slice_get schema.columns place) (Ok tt))
+    (position is_none values) (Ok tt)
+
+-- a record for a table: its fields, their number and forms, and then what an INSERT of the values is refused for
+abbrev pub loaded_row : Schema → Txt → Checked Row
+loaded_row schema text = do
+  fields ← ok_or (record_fields text) BadRecord
+  counted ← refused_if (not (length fields == length schema.columns)) (Meaningless (faults.WrongCount (length schema.columns)))
+  formed ← bad_field schema (field_values schema fields)
+  meant (insert_refused (filter_map (λ value. value) (field_values schema fields)) schema)
+      (filter_map (λ value. value) (field_values schema fields))
+
+abbrev pub judged_load : History → World → ℕ → Name → Txt → Checked Deed
+judged_load history world number table text = do
+  console ← by_console number
+  schema ← ok_or (table_of (known_at history) table) (Meaningless (faults.UnknownTable table))
+  row ← loaded_row schema text
+  judged_change history world number (stmt.Insert table row)
+
+-- the text of a question, from its first byte to its last
+abbrev pub text_between : Txt → ℕ → ℕ → Txt
+text_between text start end = take (end - start) (drop start text)
+
+-- an authorized question that means something
+abbrev pub question_in : History → World → ℕ → RawSelect → Txt → Checked Question
+question_in history world number select text = do
+  session ← open_session world number
+  allowed ← authorized history session.user session.pair
+  query ← meant (select_refused (known_at history) select) (query_of (known_at history) select)
+  Ok (record { session = number; user = session.user; pair = session.pair; text = text; query = query })
+
+abbrev pub judged_select : History → World → ℕ → RawSelect → Txt → Checked Deed
+judged_select history world number select text = do
+  question ← question_in history world number select text
+  room ← has_room history world
+  Ok (deeds.answer question)
+
+abbrev pub judged_open : History → World → ℕ → RawSelect → Txt → Checked Deed
+judged_open history world number select text = do
+  question ← question_in history world number select text
+  session ← open_session world number
+  free ← ok_or (free_number session.cursors) CursorLimit
+  room ← has_room history world
+  Ok (deeds.open_cursor session free question)
+
+abbrev pub judged_extract : History → World → ℕ → RawSelect → Txt → Checked Deed
+judged_extract history world number select text = do
+  question ← question_in history world number select text
+  room ← has_room history world
+  Ok (deeds.extract question)
+
+abbrev pub judged_explain : History → ℕ → ℤ → Checked Deed
+judged_explain history number question = do
+  console ← by_console number
+  entry ← ok_or (question_at history question) (NoSuchQuery question)
+  Ok (deeds.explain entry)
+
+-- an audit expression that means something
+abbrev pub audit_in : History → ℕ → RawAudit → Checked Audit
+audit_in history number audit = do
+  console ← by_console number
+  meant (audit_refused (known_at history) (period_in audit) audit) (audit_of (known_at history) (period_in audit) audit)
+
+abbrev pub judged_audit : History → ℕ → RawAudit → Checked Deed
+judged_audit history number written = audit_in history number written >>= λ audit. Ok (deeds.audit audit)
+
+abbrev pub judged_begin : History → World → ℕ → RawAudit → Checked Deed
+judged_begin history world number written = do
+  audit ← audit_in history number written
+  free ← ok_or (free_number world.jobs) JobLimit
+  Ok (deeds.begin_audit free audit)
+
+abbrev pub judged_watch : History → World → ℕ → RawAudit → Checked Deed
+judged_watch history world number written = do
+  audit ← audit_in history number written
+  free ← ok_or (free_number world.watches) WatchLimit
+  Ok (deeds.watch free audit)
+
+abbrev pub judged_statement : History → World → ℕ → Stmt → Txt → Checked Deed
+judged_statement history world number (stmt.Select select start end) text =
+    judged_select history world number select (text_between text start end)
+judged_statement history world number (stmt.Ask select start end) text =
+    judged_open history world number select (text_between text start end)
+judged_statement history world number (stmt.Extract select start end) text =
+    judged_extract history world number select (text_between text start end)
+judged_statement history world number (stmt.Explain question) text = judged_explain history number question
+judged_statement history world number (stmt.Audit audit) text = judged_audit history number audit
+judged_statement history world number (stmt.BeginAudit audit) text = judged_begin history world number audit
+judged_statement history world number (stmt.Watch audit) text = judged_watch history world number audit
+judged_statement history world number statement text = judged_change history world number statement
+
+-- what is carried out so far
+abbrev pub is_plain : RawForm → Bool
+is_plain forms.Plain = true
+is_plain form = false
+
+abbrev pub is_statement_built : Stmt → Bool
+is_statement_built (stmt.Select select start end) = is_plain select.form
+is_statement_built (stmt.Ask select start end) = is_plain select.form
+is_statement_built (stmt.Extract select start end) = false
+is_statement_built (stmt.Explain question) = false
+is_statement_built (stmt.Audit audit) = false
+is_statement_built (stmt.BeginAudit audit) = false
+is_statement_built (stmt.Watch audit) = false
+is_statement_built statement = true
+
+abbrev pub is_request_built : Request → Bool
+is_request_built (steps job count) = false
+is_request_built (drops job) = false
+is_request_built (unwatches watch) = false
+is_request_built (loads table text) = false
+is_request_built request = true
+
+abbrev pub is_built : Command → Bool
+is_built (ask number request) = is_request_built request
+is_built (state number statement text) = is_statement_built statement
+is_built command = true
+
+abbrev pub judged_request : History → World → ℕ → Request → Checked Deed
+judged_request history world number (logs_in user purpose recipient) =
+    judged_login history world number user (record { purpose = purpose; recipient = recipient })
+judged_request history world number logs_out = judged_logout world number
+judged_request history world number (fetches cursor count) = judged_fetch world number cursor count
+judged_request history world number (closes cursor) = judged_close world number cursor
+judged_request history world number (steps job count) = judged_step world number job count
+judged_request history world number (drops job) = judged_drop world number job
+judged_request history world number (unwatches watch) = judged_unwatch world number watch
+judged_request history world number (loads table text) = judged_load history world number table text
+
+-- what is to be done once all is carried out
+abbrev pub deed_of : History → World → Command → Checked Deed
+deed_of history world nothing = Ok deeds.do_nothing
+deed_of history world (wrong who refusal) = Err refusal
+deed_of history world (commands.set_clock moment) = judged_clock world moment
+deed_of history world (ask number request) = judged_request history world number request
+deed_of history world (state number statement text) = judged_statement history world number statement text
+
+-- what is to be done for a command, or why not
+abbrev pub judged : History → World → Command → Checked Deed
+judged history world command = if is_built command then deed_of history world command else Err NotBuilt

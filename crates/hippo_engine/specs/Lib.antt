@@ -1,0 +1,7 @@
+pub mod Deeds
+pub mod Checks
+pub mod Records
+pub mod Judging
+pub mod Effects
+pub mod Runs
+pub mod EffectLaws

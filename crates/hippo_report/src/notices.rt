@@ -1,0 +1,45 @@
+//! Replies that say that a line was carried out, or how many rows or flags there were.
+ghost use Rattle.std.specs.Prelude.{◌≡◌, ◌+◌, ◌≤◌, ◌++◌, length, codes, IsOk, OnOk, OnErr};
+ghost use Rattle.hippo_report.specs.Notices.{done_line, number_line};
+
+use crate::pieces::append_pieces;
+use hippo_values::{Memory, RoomyTxt};
+use itoa::Buffer;
+
+/// Adds the reply to a line that was carried out: `N ok`, where N is the session's number, 0 for the console, and `-`
+/// where the line is nobody's. The text is unchanged where memory is short, which it never is within the room.
+pub fn done_line<const ROOM: usize>(who: Option<u8>, out: &mut RoomyTxt<ROOM>) -> Result<(), Memory>
+    ensures ok { OnOk result (out.new ≡ out.old ++ done_line who) }
+    ensures err { OnErr result (out.new ≡ out.old) }
+    ensures room { length out.old + length (done_line who) ≤ ROOM → IsOk result }
+{
+    match who {
+        None => append_pieces(&["-", " ok\n"], out),
+        Some(number) => append_pieces(&[Buffer::new().format(number), " ok\n"], out),
+    }
+}
+
+/// Adds a word and a number, to a session or to the console: `N WORD NUMBER`. The text is unchanged where memory is
+/// short, which it never is within the room.
+pub fn number_line<const ROOM: usize>(
+    session: u8,
+    word: &str,
+    number: u64,
+    out: &mut RoomyTxt<ROOM>,
+) -> Result<(), Memory>
+    ensures ok { OnOk result (out.new ≡ out.old ++ number_line session word.now number) }
+    ensures err { OnErr result (out.new ≡ out.old) }
+    ensures room { length out.old + length (number_line session word.now number) ≤ ROOM → IsOk result }
+{
+    append_pieces(
+        &[
+            Buffer::new().format(session),
+            " ",
+            word,
+            " ",
+            Buffer::new().format(number),
+            "\n",
+        ],
+        out,
+    )
+}

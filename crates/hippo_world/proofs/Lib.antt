@@ -1,0 +1,2 @@
+mod WorldsExamples
+pub mod NumberLemmas

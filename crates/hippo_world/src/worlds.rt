@@ -1,0 +1,120 @@
+//! What a run holds beside the history.
+ghost use Rattle.std.specs.Prelude.{◌≡◌, Some, None, option_copied, IfOk, OnOk, OnErr};
+ghost use Rattle.hippo_world.specs.declared.cursors.Cursor.{Cursor as KeptCursor};
+ghost use Rattle.hippo_world.specs.declared.sessions.Session.{Session as KeptSession};
+ghost use Rattle.hippo_world.specs.Worlds.{at_number, session_at, with_session, with_cursor, new_session, new_cursor, moved_on, opening};
+ghost use Rattle.hippo_world.specs.Holding.{world_of};
+
+use crate::cursors::Cursor;
+use crate::numbered::Numbered;
+use crate::sessions::Session;
+use hippo_lines::SESSION_LIMIT;
+use hippo_model::{Answer, Pair};
+use hippo_report::Format;
+use hippo_values::{Memory, Moment, Name};
+use std::alloc::Global;
+
+/// The clock, how many entries the history may have, the format of flags, and the open sessions.
+#[derive(Debug, Drop)]
+pub struct World {
+    pub clock: Moment,
+    pub limit: u32,
+    pub format: Format,
+    pub sessions: Numbered<Session>,
+}
+
+impl World {
+    /// The world in which a run begins, or want of memory.
+    pub fn new(alloc: Global, clock: Moment, limit: u32, format: Format) -> Result<World, Memory>
+        ensures { IfOk result (λ world. world_of world ≡ opening clock limit format) }
+    {
+        let sessions = Numbered::none(alloc, usize::from(SESSION_LIMIT))?;
+        Ok(World {
+            clock,
+            limit,
+            format,
+            sessions,
+        })
+    }
+
+    /// The open session with a number.
+    pub fn session(&self, number: u8) -> Option<&Session>
+        ensures { option_copied result ≡ session_at (world_of self.now) number }
+    {
+        self.sessions.at(usize::from(number))
+    }
+
+    /// Opens the session with a number anew, without cursors; or want of memory, and nothing changes.
+    pub fn log_in(
+        &mut self,
+        alloc: Global,
+        number: u8,
+        user: Name,
+        pair: Pair,
+    ) -> Result<(), Memory>
+        ensures ok { OnOk result (world_of self.new
+            ≡ with_session (world_of self.old) number (Some (new_session user pair))) }
+        ensures err { OnErr result (self.new ≡ self.old) }
+    {
+        let session = Session::new(alloc, user, pair)?;
+        self.sessions.put(usize::from(number), Some(session));
+        Ok(())
+    }
+
+    /// Closes the session with a number, and its cursors.
+    pub fn log_out(&mut self, number: u8)
+        ensures { world_of self.new ≡ with_session (world_of self.old) number None }
+    {
+        self.sessions.put(usize::from(number), None);
+    }
+
+    // Lets a cursor's number of an open session hold this, or nothing.
+    #[tactic(auto, using(crate::proofs::NumberLemmas::put_back, crate::proofs::NumberLemmas::put_again))]
+    fn put_cursor(&mut self, number: u8, cursor: u8, held: Option<Cursor>)
+        ensures open { (session : KeptSession) → session_at (world_of self.old) number ≡ Some session
+            → world_of self.new ≡ with_session (world_of self.old) number (Some (with_cursor session cursor held)) }
+        ensures closed { session_at (world_of self.old) number ≡ None → self.new ≡ self.old }
+    {
+        if let Some(mut session) = self.sessions.take(usize::from(number)) {
+            session.put_cursor(cursor, held);
+            self.sessions.put(usize::from(number), Some(session));
+        }
+    }
+
+    /// Lets a cursor of an open session hold an answer, of which no row was handed out. Takes no memory.
+    pub fn open_cursor(&mut self, number: u8, cursor: u8, answer: Answer)
+        ensures open { (session : KeptSession) → session_at (world_of self.old) number ≡ Some session
+            → world_of self.new
+            ≡ with_session (world_of self.old) number (Some (with_cursor session cursor (Some (new_cursor answer)))) }
+        ensures closed { session_at (world_of self.old) number ≡ None → self.new ≡ self.old }
+    {
+        self.put_cursor(number, cursor, Some(Cursor::new(answer)));
+    }
+
+    /// Closes a cursor of an open session.
+    pub fn close_cursor(&mut self, number: u8, cursor: u8)
+        ensures open { (session : KeptSession) → session_at (world_of self.old) number ≡ Some session
+            → world_of self.new ≡ with_session (world_of self.old) number (Some (with_cursor session cursor None)) }
+        ensures closed { session_at (world_of self.old) number ≡ None → self.new ≡ self.old }
+    {
+        self.put_cursor(number, cursor, None);
+    }
+
+    /// Notes that at most so many further rows of a session's cursor were handed out.
+    #[tactic(auto, using(crate::proofs::NumberLemmas::put_back, crate::proofs::NumberLemmas::put_again))]
+    pub fn move_on(&mut self, number: u8, cursor: u8, count: u32)
+        ensures held { (session : KeptSession) (held : KeptCursor)
+            → session_at (world_of self.old) number ≡ Some session
+            → at_number session.cursors cursor ≡ Some held
+            → world_of self.new
+            ≡ with_session (world_of self.old) number (Some (with_cursor session cursor (Some (moved_on held count)))) }
+        ensures missing { (session : KeptSession) → session_at (world_of self.old) number ≡ Some session
+            → at_number session.cursors cursor ≡ None → self.new ≡ self.old }
+        ensures closed { session_at (world_of self.old) number ≡ None → self.new ≡ self.old }
+    {
+        if let Some(mut session) = self.sessions.take(usize::from(number)) {
+            session.move_on(cursor, count);
+            self.sessions.put(usize::from(number), Some(session));
+        }
+    }
+}
