@@ -20,8 +20,8 @@ question_of (stmt.Ask select start end) = Some (select, start, end)
 question_of (stmt.Extract select start end) = Some (select, start, end)
 question_of statement = None
 
--- a text is a question: it has tokens, which are neither too deep nor words that are refused, and by the grammar they are
--- a statement with this select, whose text stands between these places
+-- a text is a question: it has tokens, which are neither too deep nor words that are refused, and by the grammar they
+-- are a statement with this select, whose text stands between these places
 pub record IsQuestion (text : Txt) (select : RawSelect) (start end : ℕ) : Type 0 where
   pub tokens : List Token
   pub statement : Stmt

@@ -7,8 +7,7 @@ pub fn questions_read_by_themselves()
     ensures { QuestionsReadByThemselves }
 {}
 
-/// The same where the readers find the question: of the tokens that are found, and of the statement that they are found to
-/// be.
+/// The same where the readers find the question: these are the tokens that they find, and this is the statement.
 pub fn found_questions_read_by_themselves()
     ensures { FoundQuestionsReadByThemselves }
 {}
