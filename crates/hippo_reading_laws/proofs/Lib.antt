@@ -1,0 +1,5 @@
+pub mod TextParts
+pub mod FitWords
+pub mod SelectFronts
+pub mod QuestionTheorem
+mod QuestionExamples
