@@ -1,6 +1,6 @@
 -- What the look-ups of a state say of its history.
-use Rattle.std.proofs.Common.{◌≡◌, ◌∙◌, sym, ap, refl, arith, ℕ, ◌+◌, ◌-◌, Bool, true, false, not, ◌&&◌, List, [], ◌∷◌, length, take, Option, Some, None, is_some, is_none}
-use Rattle.std.specs.Prelude.{option_map, option_and_then, nat_lt, ◌==◌, bytes_eq, unwrap_or, int_le, if◌then◌else◌}
+use Rattle.std.proofs.Common.{◌≡◌, ◌∙◌, sym, ap, refl, arith, ℕ, ◌+◌, ◌-◌, Bool, true, false, not, ◌&&◌, length, take, Option, Some, None, is_some, is_none}
+use Rattle.std.specs.Prelude.{option_map, option_and_then, nat_lt, ◌==◌, bytes_eq, unwrap_or, int_le}
 use Rattle.std.specs.Option.{option_map_or}
 use Rattle.std.specs.Cmp.Lexicographic.{nat_list_eq_equiv}
 use Rattle.std.proofs.Math.Seq.{take-length}
@@ -11,25 +11,22 @@ use Rattle.hippo_values.specs.Moments.{first_moment}
 use Rattle.hippo_values.specs.declared.moments.Moment.{Moment}
 use Rattle.hippo_values.specs.declared.names.Name.{Name}
 use Rattle.hippo_model.specs.declared.entry.Act.TheVariants.{Insert, Update, Delete}
-use Rattle.hippo_model.specs.declared.entry.Entry.{Entry}
 use Rattle.hippo_model.specs.declared.schema.Schema.{Schema}
 use Rattle.hippo_model.specs.Terms.{History, Key, Row}
 use Rattle.hippo_model.specs.Histories.{schema_at, item_at, last_word}
-use Rattle.hippo_model.specs.Keepable.{is_keepable, act_is_keepable}
-use Rattle.hippo_model.specs.Rows.{key_of, row_at, table_rows}
+use Rattle.hippo_model.specs.Rows.{key_of, row_at}
 use Rattle.hippo_model.specs.RowSets.{KeyedRows, kept_at, find_row}
-use Rattle.hippo_model.specs.Rules.{authorized_at}
 use Rattle.hippo_model.specs.Versions.{row_fits, key_fits, is_live, version_fits}
 use Rattle.hippo_model.specs.Validity.{is_purpose, is_recipient, table_passes, create_fits, is_well_formed, is_table_version, keeps_order}
 use Rattle.hippo_model.proofs.ChangesOfRows.{is_live-found}
-use Rattle.hippo_catalog.specs.Catalogs.{KnownNames, known_at, table_of, has_purpose, has_recipient, item_of}
+use Rattle.hippo_catalog.specs.Catalogs.{KnownNames, table_of, has_purpose, has_recipient, item_of}
 use Rattle.hippo_tables.specs.Finished.{live_row}
 use Rattle.hippo_tables.proofs.StandingLemmas.{schema_at-named}
 use Rattle.hippo_typing.specs.Meanings.{meaning}
 use Rattle.hippo_typing.specs.ResolutionLaws.{NamesAreThoseOf}
 use Rattle.hippo_typing.proofs.CatalogTheorem.{valid_names}
 use Rattle.hippo_replay.specs.declared.state.State.{State}
-use Rattle.hippo_replay.specs.Standing.{latest_moment, StandsFor}
+use Rattle.hippo_replay.specs.Standing.{StandsFor}
 
 module _ (state : State) (history : History) (stands : StandsFor state history) where
   names_are : NamesAreThoseOf history

@@ -1,21 +1,20 @@
 -- What a keeper keeps, from one call to the next.
-use Rattle.std.proofs.Common.{◌≡◌, ◌∙◌, sym, ap, refl, arith, subst, ℕ, zero, suc, ◌+◌, ◌-◌, ◌<◌, ◌≤◌, ◌⊎◌, Bool, true, false, List, [], ◌∷◌, ◌++◌, map, length, take, drop, filter, nat_lt, Result, Ok, length-append}
+use Rattle.std.proofs.Common.{◌≡◌, ◌∙◌, sym, ap, refl, arith, subst, ℕ, zero, suc, ◌+◌, ◌<◌, ◌≤◌, Bool, true, false, [], ◌∷◌, ◌++◌, map, length, take, filter, nat_lt, Result, length-append}
 use mathlib.Core.Logic.{∥∥₁_map}
 use Rattle.std.proofs.lemmas.Bool.{false≢true}
 use Rattle.std.proofs.lemmas.Bool.Decides.{nat_tests}
 use Rattle.std.proofs.lemmas.List.{map-append}
 use Rattle.hippo_io.specs.Faults.{HasRisen}
 use Rattle.hippo_model.specs.declared.entry.Entry.{Entry}
-use Rattle.hippo_model.specs.declared.stored.StoredEntry.{StoredEntry}
 use Rattle.hippo_model.specs.Terms.{History, Meaning}
 use Rattle.hippo_model.specs.StoredForms.{stored}
-use Rattle.hippo_model.specs.Validity.{may_follow, is_valid}
+use Rattle.hippo_model.specs.Validity.{is_valid}
 use Rattle.hippo_laws.proofs.ValidFronts.{holds_of_each_valid, next_number}
 use Rattle.hippo_keeper.specs.declared.faults.KeeperFault.{KeeperFault}
 use Rattle.hippo_keeper.specs.Answering.{has_failed}
-use Rattle.hippo_keeper.specs.Keeping.{Store, Survivors, RisesAbove, last_number, next_number as next_kept, KeeperState, IsReady, CountsFaults, IsAfterCall, HasFound, Stays}
+use Rattle.hippo_keeper.specs.Keeping.{Store, Survivors, RisesAbove, last_number, next_number as next_kept, KeeperState, IsReady, IsAfterCall, HasFound, Stays}
 use Rattle.hippo_keeper.specs.Selecting.{is_any, handed_over}
-use Rattle.hippo_keeper.proofs.RisingLemmas.{next_number-append, RisesAbove-lower}
+use Rattle.hippo_keeper.proofs.RisingLemmas.{next_number-append}
 use Rattle.hippo_replay.specs.Loading.{KeepsFound, KeepsSame}
 use Rattle.hippo_replay.proofs.Results.{well}
 
@@ -26,9 +25,9 @@ next_kept-stored meaning history valid =
     (λ h entry good so_far may.
     ap next_kept (map-append stored h (entry ∷ [])) ∙ next_number-append (map stored h) (stored entry) ∙ ap (λ n. n + 1) (next_number meaning h entry may ∙ longer h entry))
     refl history valid
-    where
-      longer : (h : History) (entry : Entry) → length h + 1 ≡ length (h ++ entry ∷ [])
-      longer h entry = omega (arith, length-append h (entry ∷ []))
+  where
+    longer : (h : History) (entry : Entry) → length h + 1 ≡ length (h ++ entry ∷ [])
+    longer h entry = omega (arith, length-append h (entry ∷ []))
 
 below_is : (low number : ℕ) → low < number → nat_lt low number ≡ true
 below_is low number below = grind (arith, nat_tests)
@@ -98,9 +97,9 @@ KeepsFound-after finds started now found keeps =
       alone = alone;
       survives_stop = still now alone (keeps.some ∣ (started.kept, found.stop.survives_stop) ∣₁);
     }
-    where
-      still : (now : KeeperState) → ((store : Store) → now.survives store → store ≡ now.kept) → ∥ ((store : Store) × now.survives store) ∥₁ → ∥ now.survives now.kept ∥₁
-      still now alone some = ∥∥₁_map some (λ (store, survives). subst now.survives (alone store survives) survives)
+  where
+    still : (now : KeeperState) → ((store : Store) → now.survives store → store ≡ now.kept) → ∥ ((store : Store) × now.survives store) ∥₁ → ∥ now.survives now.kept ∥₁
+    still now alone some = ∥∥₁_map some (λ (store, survives). subst now.survives (alone store survives) survives)
 
 -- a call that did not fail, and then another
 pub IsAfterCall-then : {A B : Type 0} (closed : Bool) (first : Result A KeeperFault) (second : Result B KeeperFault) (before mid after : KeeperState) → has_failed first ≡ false → IsAfterCall true false first before mid → IsAfterCall true closed second mid after → IsAfterCall true closed second before after

@@ -7,3 +7,4 @@ pub mod TakingInLemmas
 pub mod KeeperLemmas
 pub mod ReadingLemmas
 pub mod LoadingLemmas
+mod StandingExamples

@@ -1,17 +1,16 @@
 -- A load, from its start to its answer.
-use Rattle.std.proofs.Common.{◌≡◌, ◌∙◌, sym, ap, refl, arith, subst, ℕ, ◌+◌, ◌≤◌, Bool, true, false, not, ◌&&◌, List, [], ◌∷◌, ◌++◌, map, Result, Ok, Err, IfOk}
+use Rattle.std.proofs.Common.{◌≡◌, ◌∙◌, sym, ap, refl, arith, subst, ℕ, ◌+◌, ◌≤◌, Bool, true, false, not, ◌&&◌, List, map, Result, Ok, Err, IfOk}
 use Rattle.std.specs.Result.{result_map_both}
 use Rattle.std.proofs.lemmas.Bool.{false≢true}
 use Rattle.std.proofs.lemmas.Result.{IfOk-weaker, IfOk-at_ok}
 use Rattle.hippo_model.specs.Terms.{History}
 use Rattle.hippo_model.specs.StoredForms.{stored}
 use Rattle.hippo_model.specs.Stores.{IsStoreOf, IsDamagedAt}
-use Rattle.hippo_model.specs.Versions.{versions}
 use Rattle.hippo_laws.proofs.OneStore.{one_history, of_none}
 use Rattle.hippo_keeper.specs.declared.faults.KeeperFault.{KeeperFault}
 use Rattle.hippo_keeper.specs.declared.faults.KeeperFault.TheVariants as keeper_faults
 use Rattle.hippo_keeper.specs.Answering.{has_failed, wants_memory}
-use Rattle.hippo_keeper.specs.Keeping.{Store, RisesAbove, KeeperState, IsAfterCall, Starts, HasFound}
+use Rattle.hippo_keeper.specs.Keeping.{Store, KeeperState, IsReady, IsAfterCall, Starts}
 use Rattle.hippo_keeper.specs.Selecting.{stored_versions}
 use Rattle.hippo_keeper.proofs.StoredLemmas.{stored_versions-stored}
 use Rattle.hippo_typing.specs.Meanings.{meaning}
@@ -19,10 +18,9 @@ use Rattle.hippo_replay.specs.declared.faults.LoadFault.{LoadFault}
 use Rattle.hippo_replay.specs.declared.faults.LoadFault.TheVariants.{Keeper, Damaged, Memory}
 use Rattle.hippo_replay.specs.declared.state.State.{State}
 use Rattle.hippo_replay.specs.Standing.{StandsFor}
-use Rattle.hippo_replay.specs.TakingIn.{HasLoaded}
-use Rattle.hippo_replay.specs.Loading.{as_call, judges, KeepsFound, KeepsSame, IsLoaded, Loads}
+use Rattle.hippo_replay.specs.Loading.{as_call, judges, KeepsFound, IsLoaded, Loads}
 use Rattle.hippo_replay.specs.Reading.{fault_of, ReadsAll}
-use Rattle.hippo_replay.proofs.KeeperLemmas.{KeepsFound-after, IsAfterCall-then, IsAfterCall-as}
+use Rattle.hippo_replay.proofs.KeeperLemmas.{KeepsFound-after, IsAfterCall-then}
 use Rattle.hippo_replay.proofs.ReadingLemmas.{versions-append, same_Err}
 use Rattle.hippo_replay.proofs.Results.{err_of, well}
 
@@ -103,6 +101,23 @@ module _ (name : List ℕ) (before mid after : KeeperState) (steps_before steps_
       by_fault Keeper call = call_by (Err keeper_faults.Failed) true false before after (IsAfterCall-then false (well KeeperFault) (err_of (Unit {0}) keeper_faults.Failed) before mid after refl starts.call call) refl
       by_fault (Damaged place) call = call_by (Ok tt) true false before after (IsAfterCall-then false (well KeeperFault) (well KeeperFault) before mid after refl starts.call call) refl
       by_fault Memory call = call_by (Err keeper_faults.Memory) true false before after (IsAfterCall-then false (well KeeperFault) (err_of (Unit {0}) keeper_faults.Memory) before mid after refl starts.call call) refl
+
+judged_well : {A : Type 0} (result : Result A LoadFault) → judges result ≡ true → (has_failed (as_call result) ≡ false) × (wants_memory (as_call result) ≡ false)
+judged_well (Ok value) judged = (refl, refl)
+judged_well (Err Keeper) judged = absurd (false≢true judged)
+judged_well (Err (Damaged place)) judged = (refl, refl)
+judged_well (Err Memory) judged = absurd (false≢true judged)
+
+-- a load that says what is kept leaves the keeper ready
+pub Loads-ready : (name : List ℕ) (result : Result State LoadFault) (before after : KeeperState) (steps_before steps_after : ℕ) → Loads name result before after steps_before steps_after → judges result ≡ true → IsReady true after
+Loads-ready name result before after steps_before steps_after loads judged =
+    let started = loads.started judged in
+    record {
+      is_sound = loads.call.is_sound;
+      started_is = started;
+      not_closed = loads.call.closed_is ∙ (λ i. not (started i) && (judged_well result judged).1 i);
+      not_spent = loads.call.spent_is ∙ (judged_well result judged).0;
+    }
 
 module _ (name : List ℕ) (result : Result State LoadFault) (before after : KeeperState) (steps_before steps_after : ℕ) (loads : Loads name result before after steps_before steps_after) (tells : after.tells) where
   -- the stored forms of a valid history are not called damaged

@@ -1,30 +1,26 @@
 -- The kept entries read piece by piece.
-use Rattle.std.proofs.Common.{◌≡◌, ◌≢◌, ◌∙◌, sym, ap, refl, arith, subst, ℕ, zero, ◌+◌, ◌^◌, ◌<◌, ◌≤◌, ◌↔◌, Bool, true, false, not, List, [], ◌∷◌, ◌++◌, map, length, take, drop, cond, Result, Ok, Err, IfOk, OnOk, IsTrue, length-append, append_assoc}
+use Rattle.std.proofs.Common.{◌≡◌, ◌≢◌, ◌∙◌, sym, ap, refl, arith, subst, ℕ, ◌+◌, ◌^◌, ◌<◌, ◌↔◌, Bool, true, false, not, [], ◌∷◌, ◌++◌, map, length, take, drop, cond, Result, Ok, Err, IfOk, OnOk, IsTrue, length-append, append_assoc}
 use Rattle.std.specs.Result.{result_map_both}
 use Rattle.std.proofs.lemmas.Bool.{false≢true}
-use Rattle.std.proofs.lemmas.List.{length-map, take-append-drop, append-nil}
+use Rattle.std.proofs.lemmas.List.{take-append-drop}
 use Rattle.std.proofs.lemmas.List.Sums.{sum_by-append}
-use Rattle.hippo_model.specs.Terms.{History}
 use Rattle.hippo_model.specs.StoredForms.{stored}
-use Rattle.hippo_model.specs.Stores.{IsStoreOf, IsDamagedAt}
-use Rattle.hippo_model.specs.Versions.{versions}
-use Rattle.hippo_laws.proofs.OneStore.{one_history}
+use Rattle.hippo_model.specs.Stores.{IsDamagedAt}
 use Rattle.hippo_keeper.specs.declared.faults.KeeperFault.{KeeperFault}
 use Rattle.hippo_keeper.specs.declared.faults.KeeperFault.TheVariants as keeper_faults
-use Rattle.hippo_keeper.specs.Answering.{has_failed, wants_memory}
-use Rattle.hippo_keeper.specs.Keeping.{Store, RisesAbove, last_number, next_number as next_kept, KeeperState, IsReady, IsAfterCall, Starts, HasFound}
-use Rattle.hippo_keeper.specs.Selecting.{is_any, is_stored_version, stored_versions, handed_over, IsHandedOver, Reads}
-use Rattle.hippo_keeper.proofs.StoredLemmas.{stored_versions-stored}
+use Rattle.hippo_keeper.specs.Answering.{has_failed}
+use Rattle.hippo_keeper.specs.Keeping.{Store, RisesAbove, last_number, next_number as next_kept, KeeperState, IsReady, IsAfterCall}
+use Rattle.hippo_keeper.specs.Selecting.{is_any, is_stored_version, stored_versions, handed_over, Reads}
 use Rattle.hippo_typing.specs.Meanings.{meaning}
 use Rattle.hippo_replay.specs.declared.faults.LoadFault.{LoadFault}
 use Rattle.hippo_replay.specs.declared.faults.LoadFault.TheVariants.{Keeper, Damaged, Memory}
 use Rattle.hippo_replay.specs.declared.state.State.{State}
 use Rattle.hippo_replay.specs.Standing.{StandsFor, IsSound}
 use Rattle.hippo_replay.specs.TakingIn.{HasLoaded, TakesIn}
-use Rattle.hippo_replay.specs.Loading.{as_call, KeepsFound, KeepsSame, IsLoaded, Loads}
+use Rattle.hippo_replay.specs.Loading.{as_call, KeepsSame}
 use Rattle.hippo_replay.specs.Reading.{fault_of, IsUpTo, ReadsOn, IsReading, ReadsAll}
-use Rattle.hippo_replay.proofs.TakingInLemmas.{its_store, loaded_count}
-use Rattle.hippo_replay.proofs.KeeperLemmas.{next_kept-stored, handed_over-behind, nothing_taken, KeepsSame-here, KeepsSame-then, KeepsSame-Stays, KeepsFound-after, IsAfterCall-then, IsAfterCall-as, IsAfterCall-none, IsReady-after}
+use Rattle.hippo_replay.proofs.TakingInLemmas.{loaded_count}
+use Rattle.hippo_replay.proofs.KeeperLemmas.{next_kept-stored, handed_over-behind, nothing_taken, KeepsSame-here, KeepsSame-then, KeepsSame-Stays, IsAfterCall-then, IsAfterCall-as, IsAfterCall-none}
 use Rattle.hippo_replay.proofs.Results.{err_of, ok_of, well}
 
 pub versions-append : (first second : Store) → stored_versions (first ++ second) ≡ stored_versions first + stored_versions second

@@ -1,5 +1,5 @@
 -- Members from a place on, and columns whose names differ.
-use Rattle.std.proofs.Common.{◌≡◌, ◌∙◌, sym, ap, refl, ℕ, zero, suc, ◌+◌, ◌<◌, not, ◌||◌, ◌&&◌, List, [], ◌∷◌, length, get_or, drop, map, add-one, bytes_eq}
+use Rattle.std.proofs.Common.{◌≡◌, ◌∙◌, sym, ap, refl, ℕ, suc, ◌+◌, ◌<◌, not, ◌||◌, ◌&&◌, List, [], ◌∷◌, length, get_or, drop, map, add-one, bytes_eq}
 use Rattle.std.proofs.Math.Seq.{drop-cons}
 use Rattle.std.specs.List.{list_any}
 use Rattle.hippo_values.specs.declared.names.Name.{Name}

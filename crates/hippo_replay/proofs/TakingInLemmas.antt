@@ -1,5 +1,5 @@
 -- Stored entries taken in one after the other, up to the first that is damaged.
-use Rattle.std.proofs.Common.{◌≡◌, ◌≢◌, ◌∙◌, sym, ap, refl, arith, subst, ℕ, zero, suc, ◌+◌, ◌-◌, ◌<◌, true, false, List, [], ◌∷◌, ◌++◌, map, length, get_or, take, drop, Option, Some, None, Result, Ok, Err, OnOk, append_assoc, add-one}
+use Rattle.std.proofs.Common.{◌≡◌, ◌≢◌, ◌∙◌, sym, ap, refl, arith, subst, ℕ, zero, suc, ◌+◌, ◌-◌, ◌<◌, true, false, List, [], ◌∷◌, ◌++◌, map, length, get_or, take, drop, Some, None, Result, Err, OnOk, append_assoc, add-one}
 use Rattle.std.proofs.Math.Seq.{take-append_seam, take-append-add}
 use Rattle.std.proofs.lemmas.Bool.{and_parts, false≢true}
 use Rattle.std.proofs.lemmas.List.{length-map, map-append, take-append-drop}
@@ -12,7 +12,7 @@ use Rattle.hippo_model.specs.Keepable.{is_keepable}
 use Rattle.hippo_model.specs.StoredForms.{stored}
 use Rattle.hippo_model.specs.Stores.{IsStoreOf, IsDamagedAt}
 use Rattle.hippo_model.specs.Validity.{may_follow, is_valid}
-use Rattle.hippo_laws.proofs.OneStore.{one_history, all_can_be_kept}
+use Rattle.hippo_laws.proofs.OneStore.{one_history}
 use Rattle.hippo_laws.proofs.ValidFronts.{is_valid-append}
 use Rattle.hippo_entry.specs.Forms.{HasForm, IsEntryOf}
 use Rattle.hippo_keeper.specs.Keeping.{Store, RisesAbove}
@@ -48,9 +48,9 @@ ends_so image (member ∷ members) (first ∷ front) last same =
       before = λ i. one same i ∷ rest.before i;
       at_end = rest.at_end;
     }
-    where
-      one : image member ∷ map image members ≡ first ∷ (front ++ last ∷ []) → image member ≡ first
-      one same = cc
+  where
+    one : image member ∷ map image members ≡ first ∷ (front ++ last ∷ []) → image member ≡ first
+    one same = cc
 
 -- the history of a state that has loaded these
 pub its_store : (state : State) (store : Store) (loaded : HasLoaded state store) → IsStoreOf meaning store loaded.history

@@ -31,7 +31,7 @@ pub record ReadsOn (result : Result Bool LoadFault) (before after : KeeperState)
   pub stays : after.tells → KeepsSame before after
   pub piece : Store
   pub steps : steps_new ≡ steps_old + stored_versions piece
-  pub told : after.tells → (store rest : Store) → IsUpTo old before store rest 
+  pub told : after.tells → (store rest : Store) → IsUpTo old before store rest
       → ((behind : Store) × (rest ≡ piece ++ behind))
   pub taken : OnOk result ((store : Store) → HasLoaded old store → HasLoaded new (store ++ piece))
   pub ended : result ≡ Ok false → after.tells → (store rest : Store) → IsUpTo old before store rest → rest ≡ []

@@ -18,7 +18,7 @@ use crate::rows::{key_fits, row_fits};
 use crate::schemas::{days_fit, has_columns, is_well_formed};
 use crate::state::State;
 use hippo_catalog::{Catalog, TABLE_LIMIT};
-use hippo_model::{Act, Authorization, Cells, Entry, ItemKind, Places, Schema};
+use hippo_model::{Act, Authorization, Cells, Entry, Places, Schema};
 use hippo_typing::read_meaning;
 use hippo_values::{Memory, Moment, Name, Txt};
 use std::alloc::Global;
@@ -163,7 +163,9 @@ impl State {
         ensures { (history : History) → StandsFor self.now history
             → result ≡ is_authorized (authorized_at history user.now purpose.now recipient.now) }
     {
-        let word = self.book.authorized_at(self.count, user, purpose, recipient);
+        let word = self
+            .book
+            .authorized_at(self.count, user, purpose, recipient);
         matches!(word, Authorization::Yes)
     }
 
@@ -206,10 +208,14 @@ impl State {
             Act::Recipient(recipient) => Ok(!self.has_recipient(recipient)),
             Act::Item { item, .. } => Ok(!self.has_item(item)),
             Act::Authorize {
-                purpose, recipient, ..
+                purpose,
+                recipient,
+                ..
             } => Ok(self.has_pair(purpose, recipient)),
             Act::Deauthorize {
-                purpose, recipient, ..
+                purpose,
+                recipient,
+                ..
             } => Ok(self.has_pair(purpose, recipient)),
             Act::Allow {
                 purpose,
@@ -218,9 +224,11 @@ impl State {
                 columns,
                 item,
                 days,
-            } => Ok(self.may_rule(purpose, recipient, table, columns)
-                && self.item_fits(table, item)
-                && days_fit(*days)),
+            } => Ok(
+                self.may_rule(purpose, recipient, table, columns)
+                    && self.item_fits(table, item)
+                    && days_fit(*days),
+            ),
             Act::Revoke {
                 purpose,
                 recipient,

@@ -17,12 +17,11 @@ use std::alloc::Global;
 pub(crate) fn let_fall<T: Drop>(_used: T) {}
 
 impl State {
-    // The next entry's place is that of the damage. Its number is above that of the last entry.
-    fn damage(&self, number: u64) -> LoadFault
-        requires room { self.now.count < number }
+    // The place of the damage, where the next entry, whose number is above that of the last one, may not follow.
+    fn damage(&self, _number: u64) -> LoadFault
+        requires room { self.now.count < _number }
         ensures { result ≡ Damaged (self.now.count + 1) }
     {
-        let _ = number;
         LoadFault::Damaged(self.count + 1)
     }
 

@@ -1,6 +1,5 @@
 -- Piece by piece, until nothing is left or something is wrong.
-use Rattle.std.proofs.Common.{◌≡◌, ◌∙◌, refl, ap, Ok, arith}
-use Rattle.hippo_replay.proofs.KeeperLemmas.{IsReady-after}
+use Rattle.std.proofs.Common.{◌∙◌, ap, Ok}
 use Rattle.hippo_replay.proofs.ReadingLemmas.{IsReading-first, IsReading-on, ReadsAll-end, ReadsAll-fault}
 use Rattle.hippo_replay.proofs.loading.read_all.Goals as goal
 

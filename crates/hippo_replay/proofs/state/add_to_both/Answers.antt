@@ -1,5 +1,5 @@
 -- What the book took in is taken back.
-use Rattle.std.proofs.Common.{◌≡◌, ◌+◌, length, Result, Ok, Err, OnErr}
+use Rattle.std.proofs.Common.{◌≡◌, ◌+◌, length}
 use Rattle.hippo_model.specs.Terms.{History}
 use Rattle.hippo_policy.specs.Books.{StandsFor}
 use Rattle.hippo_replay.proofs.Results.{on_err_from}

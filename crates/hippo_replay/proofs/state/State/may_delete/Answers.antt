@@ -1,4 +1,4 @@
-use Rattle.std.proofs.Common.{◌≡◌, ◌∙◌, ap, sym, not, ◌&&◌, Some}
+use Rattle.std.proofs.Common.{◌≡◌, ◌∙◌, ap, sym, ◌&&◌, Some}
 use Rattle.hippo_model.specs.Histories.{schema_at}
 use Rattle.hippo_model.specs.Versions.{key_fits}
 use Rattle.hippo_replay.proofs.AcceptanceLemmas.{delete_is}

@@ -1,5 +1,5 @@
 -- Each part takes back what it took in.
-use Rattle.std.proofs.Common.{arith, refl}
+use Rattle.std.proofs.Common.{refl}
 use Rattle.hippo_replay.proofs.StateLemmas.{StandsFor-before}
 use Rattle.hippo_replay.proofs.state.State.take_back.Goals as goal
 

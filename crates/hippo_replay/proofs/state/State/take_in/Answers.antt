@@ -1,7 +1,4 @@
 -- The entry that has the form, or none.
-use Rattle.std.proofs.Common.{arith, ap, ◌≡◌, ◌<◌}
-use Rattle.hippo_entry.specs.Forms.{IsEntryOf}
-use Rattle.hippo_model.specs.declared.stored.StoredEntry.{StoredEntry}
 use Rattle.hippo_replay.proofs.TakingInLemmas.{taken_in, sound_still, same_number, none_taken}
 use Rattle.hippo_replay.proofs.state.State.take_in.Goals as goal
 
