@@ -1,0 +1,154 @@
+-- What a keeper keeps, from one call to the next.
+use Rattle.std.proofs.Common.{◌≡◌, ◌∙◌, sym, ap, refl, arith, subst, ℕ, zero, suc, ◌+◌, ◌<◌, ◌≤◌, Bool, true, false, [], ◌∷◌, ◌++◌, map, length, take, filter, nat_lt, Result, length-append}
+use mathlib.Core.Logic.{∥∥₁_map}
+use Rattle.std.proofs.lemmas.Bool.{false≢true}
+use Rattle.std.proofs.lemmas.Bool.Decides.{nat_tests}
+use Rattle.std.proofs.lemmas.List.{map-append}
+use Rattle.hippo_io.specs.Faults.{HasRisen}
+use Rattle.hippo_model.specs.declared.entry.Entry.{Entry}
+use Rattle.hippo_model.specs.Terms.{History, Meaning}
+use Rattle.hippo_model.specs.StoredForms.{stored}
+use Rattle.hippo_model.specs.Validity.{is_valid}
+use Rattle.hippo_laws.proofs.ValidFronts.{holds_of_each_valid, next_number}
+use Rattle.hippo_keeper.specs.declared.faults.KeeperFault.{KeeperFault}
+use Rattle.hippo_keeper.specs.Answering.{has_failed}
+use Rattle.hippo_keeper.specs.Keeping.{Store, Survivors, RisesAbove, last_number, next_number as next_kept, KeeperState, IsReady, IsAfterCall, HasFound, Stays}
+use Rattle.hippo_keeper.specs.Selecting.{is_any, handed_over}
+use Rattle.hippo_keeper.proofs.RisingLemmas.{next_number-append}
+use Rattle.hippo_replay.specs.Loading.{KeepsFound, KeepsSame}
+use Rattle.hippo_replay.proofs.Results.{well}
+
+-- the number of the next entry behind the stored forms of a valid history
+pub next_kept-stored : (meaning : Meaning) (history : History) → is_valid meaning history ≡ true → next_kept (map stored history) ≡ length history + 1
+next_kept-stored meaning history valid =
+    holds_of_each_valid meaning (λ h. next_kept (map stored h) ≡ length h + 1)
+    (λ h entry good so_far may.
+    ap next_kept (map-append stored h (entry ∷ [])) ∙ next_number-append (map stored h) (stored entry) ∙ ap (λ n. n + 1) (next_number meaning h entry may ∙ longer h entry))
+    refl history valid
+  where
+    longer : (h : History) (entry : Entry) → length h + 1 ≡ length (h ++ entry ∷ [])
+    longer h entry = omega (arith, length-append h (entry ∷ []))
+
+below_is : (low number : ℕ) → low < number → nat_lt low number ≡ true
+below_is low number below = grind (arith, nat_tests)
+
+not_below : (last number : ℕ) → number ≤ last → nat_lt last number ≡ false
+not_below last number within = grind (arith, nat_tests)
+
+-- entries whose numbers rise from above one are all above it
+all_above : (number low : ℕ) (entries : Store) → low ≤ number → RisesAbove number entries → filter (λ e. nat_lt low e.seq) entries ≡ entries
+all_above number low [] le rises = refl
+all_above number low (entry ∷ rest) le rises =
+    let above : number < entry.seq = rises.0 in
+    let passes = below_is low entry.seq (omega arith) in
+    rw passes (ap (λ later. entry ∷ later) (all_above entry.seq low rest (omega arith) rises.1))
+
+-- and none is above the last one
+last_above : (number : ℕ) (entries rest : Store) → RisesAbove number (entries ++ rest) → number ≤ last_number number entries
+last_above number [] rest rises = omega arith
+last_above number (entry ∷ entries) rest rises =
+    let above : number < entry.seq = rises.0 in
+    let later = last_above entry.seq entries rest rises.1 in
+    omega arith
+
+-- the entries above the last one of a front are those behind it
+pub entries_behind : (number last : ℕ) (front rest : Store) → last_number number front ≡ last → RisesAbove number (front ++ rest) → filter (λ e. nat_lt last e.seq) (front ++ rest) ≡ rest
+entries_behind number last [] rest is rises = all_above number last rest (omega (arith, is)) rises
+entries_behind number last (entry ∷ front) rest is rises =
+    let below = last_above entry.seq front rest rises.1 in
+    let fails = not_below last entry.seq (omega arith) in
+    rw fails (entries_behind entry.seq last front rest is rises.1)
+
+any : (entries : Store) → filter is_any entries ≡ entries
+any [] = refl
+any (entry ∷ rest) = ap (λ later. entry ∷ later) (any rest)
+
+-- what is handed over behind a front is the front of the rest
+pub handed_over-behind : (max last : ℕ) (front rest : Store) → last_number 0 front ≡ last → RisesAbove 0 (front ++ rest) → handed_over is_any last max (front ++ rest) ≡ take max rest
+handed_over-behind max last front rest is rises = ap (take max) (any _ ∙ entries_behind 0 last front rest is rises)
+
+-- where nothing is handed over, there is nothing
+pub nothing_taken : (max : ℕ) (rest : Store) → 0 < max → take max rest ≡ [] → rest ≡ []
+nothing_taken zero rest some none = absurd (omega arith)
+nothing_taken (suc max) [] some none = refl
+nothing_taken (suc max) (entry ∷ rest) some none = absurd cc
+
+-- a keeper keeps the same as long as nothing happens
+pub KeepsSame-here : (keeper : KeeperState) → KeepsSame keeper keeper
+KeepsSame-here keeper = record { same = refl; stop = λ store survives. survives; some = λ some. some }
+
+pub KeepsSame-then : (first second third : KeeperState) → KeepsSame first second → KeepsSame second third → KeepsSame first third
+KeepsSame-then first second third one other = record {
+  same = other.same ∙ one.same;
+  stop = λ store survives. one.stop store (other.stop store survives);
+  some = λ some. other.some (one.some some);
+}
+
+pub KeepsSame-Stays : (before after : KeeperState) → Stays before after → KeepsSame before after
+KeepsSame-Stays before after stays = record { same = stays.same; stop = stays.stop; some = λ some. stays.some }
+
+-- what a start found is kept and alone survives
+pub KeepsFound-after : (finds : Survivors) (started now : KeeperState) → HasFound finds started → KeepsSame started now → KeepsFound finds now
+KeepsFound-after finds started now found keeps =
+    let alone : (store : Store) → now.survives store → store ≡ now.kept = λ store survives. found.stop.alone store (keeps.stop store survives) ∙ sym keeps.same in
+    record {
+      found = subst finds (sym keeps.same) found.found;
+      order = subst (λ (kept : Store). RisesAbove 0 kept) (sym keeps.same) found.order;
+      alone = alone;
+      survives_stop = still now alone (keeps.some ∣ (started.kept, found.stop.survives_stop) ∣₁);
+    }
+  where
+    still : (now : KeeperState) → ((store : Store) → now.survives store → store ≡ now.kept) → ∥ ((store : Store) × now.survives store) ∥₁ → ∥ now.survives now.kept ∥₁
+    still now alone some = ∥∥₁_map some (λ (store, survives). subst now.survives (alone store survives) survives)
+
+-- a call that did not fail, and then another
+pub IsAfterCall-then : {A B : Type 0} (closed : Bool) (first : Result A KeeperFault) (second : Result B KeeperFault) (before mid after : KeeperState) → has_failed first ≡ false → IsAfterCall true false first before mid → IsAfterCall true closed second mid after → IsAfterCall true closed second before after
+IsAfterCall-then closed first second before mid after good one other =
+    let same : mid.faults ≡ before.faults = one.faults.unfailed good in
+    record {
+      is_sound = other.is_sound;
+      started_is = other.started_is;
+      closed_is = other.closed_is;
+      spent_is = other.spent_is;
+      told = λ tells. one.told (other.told tells);
+      faults = record {
+        cause = λ failed. subst (λ (n : ℕ). HasRisen n after.faults) same (other.faults.cause failed);
+        unfailed = λ fine. other.faults.unfailed fine ∙ same;
+        rises = omega (arith, same, other.faults.rises);
+      };
+    }
+
+-- a call's answer counts as another, where both failed or neither
+pub IsAfterCall-as : {A B : Type 0} (started closed : Bool) (one : Result A KeeperFault) (other : Result B KeeperFault) (before after : KeeperState) → has_failed other ≡ has_failed one → IsAfterCall started closed one before after → IsAfterCall started closed other before after
+IsAfterCall-as started closed one other before after same call = record {
+  is_sound = call.is_sound;
+  started_is = call.started_is;
+  closed_is = call.closed_is;
+  spent_is = call.spent_is ∙ sym same;
+  told = call.told;
+  faults = record {
+    cause = λ failed. call.faults.cause (sym same ∙ failed);
+    unfailed = λ fine. call.faults.unfailed (sym same ∙ fine);
+    rises = call.faults.rises;
+  };
+}
+
+-- a ready keeper is as after a call that did nothing
+pub IsAfterCall-none : (keeper : KeeperState) → IsReady true keeper → IsAfterCall true false (well KeeperFault) keeper keeper
+IsAfterCall-none keeper ready = record {
+  is_sound = ready.is_sound;
+  started_is = ready.started_is;
+  closed_is = ready.not_closed;
+  spent_is = ready.not_spent;
+  told = λ tells. tells;
+  faults = record { cause = λ failed. absurd (false≢true failed); unfailed = λ fine. refl; rises = omega arith };
+}
+
+-- and ready again after one that did not fail
+pub IsReady-after : {A : Type 0} (result : Result A KeeperFault) (before after : KeeperState) → has_failed result ≡ false → IsAfterCall true false result before after → IsReady true after
+IsReady-after result before after good call = record {
+  is_sound = call.is_sound;
+  started_is = call.started_is;
+  not_closed = call.closed_is;
+  not_spent = call.spent_is ∙ good;
+}

@@ -1,0 +1,10 @@
+pub mod Results
+pub mod SchemaLemmas
+pub mod RowLemmas
+pub mod StateLemmas
+pub mod AcceptanceLemmas
+pub mod TakingInLemmas
+pub mod KeeperLemmas
+pub mod ReadingLemmas
+pub mod LoadingLemmas
+mod StandingExamples

@@ -1,0 +1,101 @@
+-- A state with one entry more, and with its last entry taken back.
+use Rattle.std.proofs.Common.{◌≡◌, ◌∙◌, sym, ap, refl, arith, ◌+◌, ◌-◌, true, false, ◌&&◌, [], ◌∷◌, ◌++◌, length, Some, length-append, Option}
+use Rattle.std.specs.Prelude.{◌==◌, unwrap_or}
+use Rattle.std.proofs.lemmas.Bool.{and_parts, false≢true}
+use Rattle.hippo_values.specs.Moments.{first_moment}
+use Rattle.hippo_values.specs.declared.moments.Moment.{Moment}
+use Rattle.hippo_model.specs.declared.entry.Act.{Act}
+use Rattle.hippo_model.specs.declared.entry.Act.TheVariants.{Delete}
+use Rattle.hippo_model.specs.declared.entry.Entry.{Entry}
+use Rattle.hippo_model.specs.Terms.{History}
+use Rattle.hippo_model.specs.Keepable.{is_keepable}
+use Rattle.hippo_model.specs.Validity.{keeps_order, is_acceptable, may_follow, is_valid}
+use Rattle.hippo_model.proofs.LastWords.{last_word-append}
+use Rattle.hippo_laws.proofs.ValidFronts.{is_valid-append, next_number}
+use Rattle.hippo_catalog.specs.Catalogs.{KnownNames, known_at, known_after, creates_anew}
+use Rattle.hippo_catalog.specs.NewestNames.{Remembers as RemembersNames, creates_nothing}
+use Rattle.hippo_policy.specs.declared.book.PolicyBook.{PolicyBook}
+use Rattle.hippo_policy.specs.Books.{StandsFor as BookStandsFor, Remembers as RemembersMatter, Adds as BookAdds, is_silent}
+use Rattle.hippo_tables.specs.Standing.{is_delete, StandsFor as TablesStandFor, IsAsBefore as TablesAreAsBefore}
+use Rattle.hippo_tables.proofs.NextLemmas.{IsNext-valid}
+use Rattle.hippo_typing.specs.Meanings.{meaning}
+use Rattle.hippo_typing.proofs.CatalogTheorem.{names_grow, entries_create_anew}
+use Rattle.hippo_replay.specs.declared.state.State.{State}
+use Rattle.hippo_replay.specs.Standing.{latest_moment, StandsFor, IsNext, PartsAdd, Remembers}
+
+-- the moment of the last entry is the latest
+pub latest_moment-append : (history : History) (entry : Entry) → latest_moment (history ++ entry ∷ []) ≡ entry.moment
+latest_moment-append history entry = ap (λ (word : Option Moment). unwrap_or word first_moment) (last_word-append (λ e. Some e.moment) history entry)
+
+-- an entry that may come next creates anew
+pub creates_anew-next : (state : State) (entry : Entry) → IsNext state entry → creates_anew state.catalog.names entry.act ≡ true
+creates_anew-next state entry next =
+    ap (λ (known : KnownNames). creates_anew known entry.act) next.stands.names ∙ entries_create_anew meaning next.history entry next.stands.valid next.follows
+
+module _ (history : History) (entry : Entry) (may : may_follow meaning history entry ≡ true) where
+  pub acceptable : is_acceptable meaning history entry.act ≡ true
+  acceptable = (and_parts (is_keepable entry && entry.seq == length history + 1 && keeps_order history entry.moment) (is_acceptable meaning history entry.act) may).1
+
+  -- with an entry more, the state stands for the history with it behind
+  pub StandsFor-append : (old new : State) → StandsFor old history → PartsAdd old new entry → new.count ≡ entry.seq → new.last ≡ entry.moment → StandsFor new (history ++ entry ∷ [])
+  StandsFor-append old new stands adds count last =
+      let number : entry.seq ≡ length history + 1 = next_number meaning history entry may in
+      record {
+        valid = rw (is_valid-append meaning history entry, stands.valid) may;
+        names = adds.names ∙ ap (λ (known : KnownNames). known_after known entry.act) stands.names ∙ sym (names_grow history entry);
+        book = adds.book.stands history entry refl refl number stands.book;
+        tables = adds.tables.stands history (IsNext-valid meaning history entry.act stands.valid acceptable) stands.tables;
+        count = omega (arith, count, number, length-append history (entry ∷ []));
+        last = last ∙ sym (latest_moment-append history entry);
+      }
+
+  -- and knows what it was before
+  pub Remembers-append : (old new : State) → is_delete entry.act ≡ false → StandsFor old history → PartsAdd old new entry → new.count ≡ entry.seq → new.last ≡ entry.moment → new.earlier ≡ old.last → Remembers new history entry
+  Remembers-append old new kept stands adds count last earlier = record {
+    stands = StandsFor-append old new stands adds count last;
+    names = adds.newest;
+    matter = adds.book.remembers;
+    rows = adds.tables.remembers kept history (IsNext-valid meaning history entry.act stands.valid acceptable) stands.tables;
+    moment = earlier ∙ stands.last;
+  }
+
+  -- where memory was short, it stands for what it stood for
+  pub StandsFor-same : (old new : State) → StandsFor old history → new.catalog.names ≡ old.catalog.names → (entry.seq ≡ length history + 1 → BookStandsFor old.book history → BookStandsFor new.book history) → TablesAreAsBefore old.tables new.tables → new.count ≡ old.count → new.last ≡ old.last → StandsFor new history
+  StandsFor-same old new stands names book tables count last = record {
+    valid = stands.valid;
+    names = names ∙ stands.names;
+    book = book (next_number meaning history entry may) stands.book;
+    tables = record { kept = λ name. tables.kept name ∙ stands.tables.kept name };
+    count = count ∙ stands.count;
+    last = last ∙ stands.last;
+  }
+
+-- a Delete creates nothing, and says nothing that a book keeps
+pub delete_creates_nothing : (act : Act) → is_delete act ≡ true → creates_nothing act ≡ true
+delete_creates_nothing (Delete table key) is = refl
+delete_creates_nothing act is = absurd (false≢true is)
+
+pub delete_is_silent : (act : Act) → is_delete act ≡ true → is_silent act ≡ true
+delete_is_silent (Delete table key) is = refl
+delete_is_silent act is = absurd (false≢true is)
+
+-- a book that has taken in an entry, and takes it back
+pub book_again : (old mid new : PolicyBook) (entry : Entry) → BookAdds old mid entry.seq entry.act → ((history : History) (entry : Entry) → RemembersMatter mid entry.act → BookStandsFor mid (history ++ entry ∷ []) → BookStandsFor new history) → (history : History) → entry.seq ≡ length history + 1 → BookStandsFor old history → BookStandsFor new history
+book_again old mid new entry adds taken history number stands = taken history entry adds.remembers (adds.stands history entry refl refl number stands)
+
+-- a state with its last entry taken back
+pub StandsFor-before : (old new : State) (history : History) (entry : Entry) → Remembers old history entry
+    → ((known : KnownNames) → RemembersNames old.catalog.newest entry.act → old.catalog.names ≡ known_after known entry.act → new.catalog.names ≡ known)
+    → (RemembersMatter old.book entry.act → BookStandsFor old.book (history ++ entry ∷ []) → BookStandsFor new.book history)
+    → TablesStandFor new.tables history → new.count ≡ old.count - 1 → new.last ≡ old.earlier → StandsFor new history
+StandsFor-before old new history entry knows names book tables count last =
+    let valid = and_parts (is_valid meaning history) (may_follow meaning history entry) (sym (is_valid-append meaning history entry) ∙ knows.stands.valid) in
+    let grown : old.count ≡ length (history ++ entry ∷ []) = knows.stands.count in
+    record {
+      valid = valid.0;
+      names = names (known_at history) knows.names (knows.stands.names ∙ names_grow history entry);
+      book = book knows.matter knows.stands.book;
+      tables = tables;
+      count = omega (arith, count, grown, length-append history (entry ∷ []));
+      last = last ∙ knows.moment;
+    }

@@ -1,0 +1,4 @@
+pub mod Standing
+pub mod TakingIn
+pub mod Loading
+pub mod Reading

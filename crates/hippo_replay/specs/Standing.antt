@@ -1,0 +1,54 @@
+-- What a state says of a history.
+use Rattle.std.specs.Prelude.{◌≡◌, true, [], ◌∷◌, ◌++◌, length, Some, unwrap_or}
+use Rattle.hippo_values.specs.Moments.{first_moment}
+use Rattle.hippo_values.specs.declared.moments.Moment.{Moment}
+use Rattle.hippo_model.specs.declared.entry.Entry.{Entry}
+use Rattle.hippo_model.specs.Terms.{History}
+use Rattle.hippo_model.specs.Histories.{last_word}
+use Rattle.hippo_model.specs.Validity.{may_follow, is_valid}
+use Rattle.hippo_catalog.specs.Catalogs.{known_at, known_after}
+use Rattle.hippo_catalog.specs.NewestNames.{Remembers as RemembersNames}
+use Rattle.hippo_policy.specs.Books.{StandsFor as BookStandsFor, Remembers as RemembersMatter, Adds as BookAdds}
+use Rattle.hippo_tables.specs.Standing.{StandsFor as TablesStandFor, Remembers as RemembersRows, Adds as TablesAdd}
+use Rattle.hippo_typing.specs.Meanings.{meaning}
+use Rattle.hippo_replay.specs.declared.state.State.{State}
+
+-- the moment of the last entry, or the least moment where there is none
+abbrev pub latest_moment : History → Moment
+latest_moment history = unwrap_or (last_word (λ entry. Some entry.moment) history) first_moment
+
+-- the history is valid, and the state holds what it says: its names, rules, rows, the number of its entries, and the
+-- moment of the last one
+pub record StandsFor (state : State) (history : History) : Type 0 where
+  pub valid : is_valid meaning history ≡ true
+  pub names : state.catalog.names ≡ known_at history
+  pub book : BookStandsFor state.book history
+  pub tables : TablesStandFor state.tables history
+  pub count : state.count ≡ length history
+  pub last : state.last ≡ latest_moment history
+
+-- there is a history for which the state stands
+pub record IsSound (state : State) : Type 0 where
+  pub history : History
+  pub stands : StandsFor state history
+
+-- and one that this entry may follow
+pub record IsNext (state : State) (entry : Entry) : Type 0 where
+  pub history : History
+  pub stands : StandsFor state history
+  pub follows : may_follow meaning history entry ≡ true
+
+-- catalog, book and tables have taken in an entry
+pub record PartsAdd (old new : State) (entry : Entry) : Type 0 where
+  pub names : new.catalog.names ≡ known_after old.catalog.names entry.act
+  pub newest : RemembersNames new.catalog.newest entry.act
+  pub book : BookAdds old.book new.book entry.seq entry.act
+  pub tables : TablesAdd old.tables new.tables entry
+
+-- the state stands for a history with an entry behind, and knows what it was before that entry
+pub record Remembers (state : State) (history : History) (entry : Entry) : Type 0 where
+  pub stands : StandsFor state (history ++ entry ∷ [])
+  pub names : RemembersNames state.catalog.newest entry.act
+  pub matter : RemembersMatter state.book entry.act
+  pub rows : RemembersRows state.tables history
+  pub moment : state.earlier ≡ latest_moment history

@@ -1,0 +1,105 @@
+//! Loading a kept history from its keeper, piece by piece.
+ghost use Rattle.std.specs.Prelude.{◌≡◌, true, false, [], IfOk};
+ghost use Rattle.std.specs.Result.{result_map_both};
+ghost use Rattle.hippo_keeper.specs.Keeping.{RisesAbove, IsReady};
+ghost use Rattle.hippo_replay.specs.Standing.{StandsFor, IsSound};
+ghost use Rattle.hippo_replay.specs.Loading.{Loads};
+ghost use Rattle.hippo_replay.specs.Reading.{fault_of, ReadsOn, ReadsAll};
+
+use crate::faults::LoadFault;
+use crate::state::State;
+use crate::taking_in::let_fall;
+use hippo_keeper::{Keeper, KeeperFault, Steps};
+use std::alloc::Global;
+use std::sync::ledger::Ledger;
+
+// How many entries are read at once.
+const PIECE: u64 = 1000;
+
+fn fault_of(fault: KeeperFault) -> LoadFault
+    ensures { result ≡ fault_of fault }
+{
+    match fault {
+        KeeperFault::Failed => LoadFault::Keeper,
+        KeeperFault::Memory => LoadFault::Memory,
+    }
+}
+
+// The value, where all was taken in.
+fn only_if<T: Drop>(taken: Result<(), LoadFault>, value: T) -> Result<T, LoadFault>
+    ensures { result ≡ result_map_both (λ _. value) (λ fault. fault) taken }
+{
+    match taken {
+        Ok(()) => Ok(value),
+        Err(fault) => Err(fault),
+    }
+}
+
+// Reads the next entries and takes them in; whether there were any.
+fn read_on<P: Keeper, L: Ledger>(
+    keeper: &mut P,
+    alloc: Global,
+    state: &mut State,
+    steps: &mut Steps<L>,
+) -> Result<bool, LoadFault>
+    requires ready { IsReady true (P.state keeper.old) }
+    requires sound { IsSound state.old }
+    ensures reads { ReadsOn result (P.state keeper.old) (P.state keeper.new) state.old state.new steps.old steps.new }
+    ensures sound { IfOk result (λ any. IsSound state.new) }
+{
+    match keeper.read_all(alloc, state.count, PIECE, steps) {
+        Ok(piece) => {
+            let any = !piece.is_empty();
+            let taken = state.take_in_all(alloc, piece.as_slice());
+            let_fall(piece);
+            only_if(taken, any)
+        }
+        Err(fault) => Err(fault_of(fault)),
+    }
+}
+
+// Reads and takes in all entries.
+fn read_all<P: Keeper, L: Ledger>(
+    keeper: &mut P,
+    alloc: Global,
+    state: &mut State,
+    steps: &mut Steps<L>,
+) -> Result<(), LoadFault>
+    requires ready { IsReady true (P.state keeper.old) }
+    requires order { (P.state keeper.old).tells → RisesAbove 0 (P.state keeper.old).kept }
+    requires empty { StandsFor state.old [] }
+    ensures reads { ReadsAll result (P.state keeper.old) (P.state keeper.new) state.new steps.old steps.new }
+{
+    loop {
+        match read_on(keeper, alloc, state, steps) {
+            Ok(true) => {}
+            Ok(false) => return Ok(()),
+            Err(fault) => return Err(fault),
+        }
+    }
+}
+
+/// Starts a keeper, which must be neither started nor spent nor closed, and loads the history that it keeps under this name.
+///
+/// Ok gives the state of a valid history, which is the kept one where the keeper tells what it keeps, and the keeper is
+/// then started. `Damaged` gives the place, counted from 1, of the first entry up to which the kept entries are those of no
+/// valid history. `Keeper` comes only where the keeper's count of faults rose; it is then spent. Whatever the answer, the
+/// kept entries stay as they were found. A load that answers Ok takes as many steps as there are versions in the history.
+pub fn load<P: Keeper, L: Ledger>(
+    keeper: &mut P,
+    alloc: Global,
+    name: &str,
+    steps: &mut Steps<L>,
+) -> Result<State, LoadFault>
+    requires ready { IsReady false (P.state keeper.old) }
+    ensures loads { Loads name.now result (P.state keeper.old) (P.state keeper.new) steps.old steps.new }
+{
+    match keeper.start(alloc, name) {
+        Ok(()) => {
+            let mut state = State::new(alloc);
+            let all = read_all(keeper, alloc, &mut state, steps);
+            only_if(all, state)
+        }
+        Err(fault) => Err(fault_of(fault)),
+    }
+}

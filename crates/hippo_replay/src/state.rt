@@ -1,0 +1,133 @@
+//! The state of a history.
+ghost use Rattle.std.specs.Prelude.{◌≡◌, ◌+◌, true, false, [], ◌∷◌, ◌++◌, length, IsOk, OnOk, OnErr};
+ghost use Rattle.hippo_values.specs.Moments.{first_moment};
+ghost use Rattle.hippo_model.specs.Terms.{History};
+ghost use Rattle.hippo_model.specs.declared.entry.Entry.{Entry as HistoryEntry};
+ghost use Rattle.hippo_model.specs.Validity.{may_follow};
+ghost use Rattle.hippo_policy.specs.Books.{StandsFor as BookStandsFor, Adds as BookAdds};
+ghost use Rattle.hippo_tables.specs.Standing.{is_delete, Adds as TablesAdd, IsAsBefore as TablesAreAsBefore};
+ghost use Rattle.hippo_typing.specs.Meanings.{meaning};
+ghost use Rattle.hippo_replay.specs.Standing.{StandsFor, IsNext, PartsAdd, Remembers};
+
+use hippo_catalog::Catalog;
+use hippo_model::Entry;
+use hippo_policy::PolicyBook;
+use hippo_tables::Tables;
+use hippo_values::{Memory, Moment};
+use std::alloc::Global;
+
+/// What a valid history says: its names, rules and rows, and how far it goes.
+#[derive(Drop)]
+pub struct State {
+    pub catalog: Catalog,
+    pub book: PolicyBook,
+    pub tables: Tables,
+    /// The number of entries.
+    pub count: u64,
+    /// The moment of the last entry, the least moment where there is none.
+    pub last: Moment,
+    /// The same without the last entry.
+    pub earlier: Moment,
+}
+
+fn least_moment() -> Moment
+    ensures { result ≡ first_moment }
+{
+    Moment::new(Moment::FIRST).unwrap()
+}
+
+// Book and tables take in an entry, both of them or none.
+fn add_to_both(
+    book: &mut PolicyBook,
+    tables: &mut Tables,
+    alloc: Global,
+    entry: &Entry,
+) -> Result<(), Memory>
+    ensures book { OnOk result (BookAdds book.old book.new entry.now.seq entry.now.act) }
+    ensures tables { OnOk result (TablesAdd tables.old tables.new entry.now) }
+    ensures same_book { OnErr result ((history : History) → entry.now.seq ≡ length history + 1
+        → BookStandsFor book.old history → BookStandsFor book.new history) }
+    ensures same_tables { OnErr result (TablesAreAsBefore tables.old tables.new) }
+    ensures deletes { is_delete entry.now.act ≡ true → IsOk result }
+{
+    book.add(alloc, entry)?;
+    match tables.apply(alloc, entry) {
+        Ok(()) => Ok(()),
+        Err(Memory) => {
+            book.take_back();
+            Err(Memory)
+        }
+    }
+}
+
+impl State {
+    /// The state of the empty history; takes no memory.
+    pub fn new(alloc: Global) -> State
+        ensures { StandsFor result [] }
+    {
+        let catalog = Catalog::new(alloc);
+        let book = PolicyBook::new(alloc);
+        let tables = Tables::new(alloc);
+        let last = least_moment();
+        State {
+            catalog,
+            book,
+            tables,
+            count: 0,
+            last,
+            earlier: last,
+        }
+    }
+
+    // Catalog, book and tables take in an entry, all of them or none.
+    fn add_to_parts(&mut self, alloc: Global, entry: &Entry) -> Result<(), Memory>
+        requires next { IsNext self.old entry.now }
+        ensures ok { OnOk result (PartsAdd self.old self.new entry.now) }
+        ensures last { OnOk result (self.new.last ≡ self.old.last) }
+        ensures err { OnErr result ((history : History) → StandsFor self.old history
+            → may_follow meaning history entry.now ≡ true → StandsFor self.new history) }
+        ensures deletes { is_delete entry.now.act ≡ true → IsOk result }
+    {
+        self.catalog.add(alloc, entry)?;
+        match add_to_both(&mut self.book, &mut self.tables, alloc, entry) {
+            Ok(()) => Ok(()),
+            Err(Memory) => {
+                self.catalog.take_back();
+                Err(Memory)
+            }
+        }
+    }
+
+    /// Takes in the entry that comes next: the state then stands for the history with the entry behind. It stands for
+    /// what it stood for where memory is short, which it never is for a Delete.
+    pub fn add(&mut self, alloc: Global, entry: &Entry) -> Result<(), Memory>
+        requires next { IsNext self.old entry.now }
+        ensures stands { OnOk result ((history : History) → StandsFor self.old history
+            → may_follow meaning history entry.now ≡ true → StandsFor self.new (history ++ entry.now ∷ [])) }
+        ensures remembers { OnOk result (is_delete entry.now.act ≡ false → (history : History) → StandsFor self.old history
+            → may_follow meaning history entry.now ≡ true → Remembers self.new history entry.now) }
+        ensures count { OnOk result (self.new.count ≡ entry.now.seq) }
+        ensures err { OnErr result ((history : History) → StandsFor self.old history
+            → may_follow meaning history entry.now ≡ true → StandsFor self.new history) }
+        ensures deletes { is_delete entry.now.act ≡ true → IsOk result }
+    {
+        self.add_to_parts(alloc, entry)?;
+        self.earlier = self.last;
+        self.last = entry.moment;
+        self.count = entry.seq;
+        Ok(())
+    }
+
+    /// Takes back the entry that was added last, which must be no Delete: the state then stands for the history before
+    /// it. Takes no memory.
+    pub fn take_back(&mut self)
+        ensures { (history : History) (entry : HistoryEntry) → Remembers self.old history entry
+            → StandsFor self.new history }
+    {
+        self.catalog.take_back();
+        self.book.take_back();
+        self.tables.take_back();
+        self.count = self.count.saturating_sub(1);
+        self.last = self.earlier;
+    }
+}

@@ -1,0 +1,84 @@
+//! Stored entries, taken in one after the other.
+ghost use Rattle.std.specs.Prelude.{◌≡◌, ◌<◌, ◌+◌, true, [], ◌∷◌, OnOk};
+ghost use Rattle.hippo_model.specs.Keepable.{is_keepable};
+ghost use Rattle.hippo_keeper.specs.Keeping.{RisesAbove};
+ghost use Rattle.hippo_replay.specs.declared.faults.LoadFault.TheVariants.{Damaged};
+ghost use Rattle.hippo_replay.specs.Standing.{IsSound};
+ghost use Rattle.hippo_replay.specs.TakingIn.{Follows, TakesIn};
+
+use crate::faults::LoadFault;
+use crate::state::State;
+use hippo_entry::decode;
+use hippo_model::{Entry, StoredEntry};
+use hippo_values::Memory;
+use std::alloc::Global;
+
+/// Lets what was used fall.
+pub(crate) fn let_fall<T: Drop>(_used: T) {}
+
+impl State {
+    // The place of the damage, where the next entry, whose number is above that of the last one, may not follow.
+    fn damage(&self, _number: u64) -> LoadFault
+        requires room { self.now.count < _number }
+        ensures { result ≡ Damaged (self.now.count + 1) }
+    {
+        LoadFault::Damaged(self.count + 1)
+    }
+
+    // Takes in an entry that can be kept, if it may come next.
+    fn follow(&mut self, alloc: Global, entry: &Entry) -> Result<(), LoadFault>
+        requires sound { IsSound self.old }
+        requires keepable { is_keepable entry.now ≡ true }
+        requires room { self.old.count < entry.now.seq }
+        ensures follows { Follows entry.now result self.old self.new }
+        ensures count { OnOk result (self.new.count ≡ entry.now.seq) }
+    {
+        match self.accepts(alloc, entry) {
+            Ok(true) => match self.add(alloc, entry) {
+                Ok(()) => Ok(()),
+                Err(Memory) => Err(LoadFault::Memory),
+            },
+            Ok(false) => Err(self.damage(entry.seq)),
+            Err(Memory) => Err(LoadFault::Memory),
+        }
+    }
+
+    // Takes in the entry that has a stored form, if there is one and it may come next.
+    fn take_in(&mut self, alloc: Global, kept: &StoredEntry) -> Result<(), LoadFault>
+        requires sound { IsSound self.old }
+        requires room { self.old.count < kept.now.seq }
+        ensures taken { TakesIn (kept.now ∷ []) result self.old self.new }
+        ensures sound { OnOk result (IsSound self.new) }
+        ensures count { OnOk result (self.new.count ≡ kept.now.seq) }
+    {
+        match decode(alloc, kept) {
+            Ok(Some(entry)) => {
+                let result = self.follow(alloc, &entry);
+                let_fall(entry);
+                result
+            }
+            Ok(None) => Err(self.damage(kept.seq)),
+            Err(Memory) => Err(LoadFault::Memory),
+        }
+    }
+
+    /// Takes in stored entries, one after the other, up to the first that is damaged.
+    pub(crate) fn take_in_all(
+        &mut self,
+        alloc: Global,
+        piece: &[StoredEntry],
+    ) -> Result<(), LoadFault>
+        requires sound { IsSound self.old }
+        requires room { RisesAbove self.old.count piece.now }
+        ensures taken { TakesIn piece.now result self.old self.new }
+        ensures sound { OnOk result (IsSound self.new) }
+    {
+        for kept in piece {
+            match self.take_in(alloc, kept) {
+                Ok(()) => {}
+                Err(fault) => return Err(fault),
+            }
+        }
+        Ok(())
+    }
+}
