@@ -1,6 +1,7 @@
 //! Planned joins, and the first rows that a query and an audit share.
 #![tactic(auto)]
 
+mod existence;
 mod finding;
 mod joins;
 mod known;

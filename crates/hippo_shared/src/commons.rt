@@ -1,0 +1,97 @@
+//! The tables that a query and an audit have in common.
+ghost use Rattle.std.specs.Prelude.{◌≡◌, ◌<◌, ◌≤◌, List, IfOk, length, map, take};
+ghost use Rattle.std.specs.List.{All, Contains};
+ghost use Rattle.hippo_model.specs.Terms.{Place};
+ghost use Rattle.hippo_shared.specs.Sharing.{common_tables, place_in};
+
+use hippo_join::Step;
+use hippo_values::{Memory, Name};
+use std::alloc::Global;
+
+// The places of the common tables in the query's FROM list, and in the audit's; both in the audit's order.
+#[derive(Drop)]
+pub(crate) struct CommonPlaces {
+    pub query: Vec<usize>,
+    pub audit: Vec<usize>,
+}
+
+// The steps of a common table.
+pub(crate) struct CommonSteps<'s> {
+    pub query: &'s Step,
+    pub audit: &'s Step,
+}
+
+// The place of a table among others, or their number where it is not among them.
+fn place_in(tables: &[Name], table: &Name) -> usize
+    ensures { result ≡ place_in tables.now table.now }
+{
+    tables
+        .iter()
+        .position(|other| *table == *other)
+        .unwrap_or(tables.len())
+}
+
+pub(crate) fn common_places(
+    alloc: Global,
+    query: &[Name],
+    audit: &[Name],
+) -> Result<CommonPlaces, Memory>
+    ensures query { IfOk result (λ common. common.query.items ≡ map (place_in query.now) (common_tables query.now audit.now)) }
+    ensures audit { IfOk result (λ common. common.audit.items ≡ map (place_in audit.now) (common_tables query.now audit.now)) }
+{
+    let mut query_places = Vec::new(alloc);
+    let mut audit_places = Vec::new(alloc);
+    for table in audit {
+        let place = place_in(query, table);
+        if place < query.len() {
+            query_places.push(place)?;
+            audit_places.push(place_in(audit, table))?;
+        }
+    }
+    Ok(CommonPlaces {
+        query: query_places,
+        audit: audit_places,
+    })
+}
+
+// The places of all tables, these first.
+pub(crate) fn order_from(
+    alloc: Global,
+    first: &[usize],
+    tables: usize,
+) -> Result<Vec<usize>, Memory>
+    requires { All (λ table. table < tables) first.now }
+    ensures below { IfOk result (λ order. All (λ table. table < tables) order.items) }
+    ensures whole { IfOk result (λ order. (table : Place) → table < tables → Contains order.items table) }
+    ensures front { IfOk result (λ order. take (length first.now) order.items ≡ first.now) }
+{
+    let mut order = Vec::from_slice(alloc, first)?;
+    for table in 0..tables {
+        if !first.contains(&table) {
+            order.push(table)?;
+        }
+    }
+    Ok(order)
+}
+
+// The first so many steps of both sides, side by side.
+pub(crate) fn common_steps<'s>(
+    alloc: Global,
+    count: usize,
+    query: &'s [Step],
+    audit: &'s [Step],
+) -> Result<Vec<CommonSteps<'s>>, Memory>
+    requires query { count ≤ length query.now }
+    requires audit { count ≤ length audit.now }
+    ensures query { IfOk result (λ common. map (λ steps. steps.query.now) common.items ≡ take count query.now) }
+    ensures audit { IfOk result (λ common. map (λ steps. steps.audit.now) common.items ≡ take count audit.now) }
+{
+    let mut common = Vec::with_capacity(alloc, count)?;
+    for place in 0..count {
+        common.push(CommonSteps {
+            query: &query[place],
+            audit: &audit[place],
+        })?;
+    }
+    Ok(common)
+}

@@ -1,0 +1,9 @@
+//! The first rows that a query and an audit share.
+#![tactic(auto)]
+
+mod commons;
+mod searching;
+mod sharing;
+mod tuples;
+
+pub use sharing::first_shared;
