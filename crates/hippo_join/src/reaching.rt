@@ -35,7 +35,8 @@ fn numbers_below(alloc: Global, count: usize) -> Result<Vec<usize>, Memory>
     Ok(numbers)
 }
 
-fn push_if(test: bool, places: &mut Vec<usize>, place: usize) -> Result<(), Memory>
+/// Adds a place at the end where a test holds.
+pub fn push_if(test: bool, places: &mut Vec<usize>, place: usize) -> Result<(), Memory>
     ensures { OnOk result (places.new.items ≡ if test then places.old.items ++ place ∷ [] else places.old.items) }
 {
     if test {

@@ -15,17 +15,22 @@ same_name a b same = (bytes_eq-Decides a b).0 same
 same_as_itself : (a : Name) → bytes_eq a a ≡ true
 same_as_itself a = (bytes_eq-Decides a a).1 refl
 
+one_behind : (first : Name) (tables : List Name) (place : ℕ) → get_or (first ∷ tables) (1 + place) [] ≡ get_or tables place []
+one_behind first tables place = let next : 1 + place ≡ suc place = omega arith in rw next refl
+
+abbrev Found : Name → List Name → Name → ℕ → Type 0
+Found first tables table place = (place < suc (length tables)) × (get_or (first ∷ tables) place [] ≡ table)
+
 -- a table that stands among others stands at its place
 pub place-found : (tables : List Name) (table : Name) → list_any (bytes_eq table) tables ≡ true → (place_in tables table < length tables) × (get_or tables (place_in tables table) [] ≡ table)
 place-found [] table has = absurd (false≢true has)
-place-found (first ∷ tables) table has = by (bytes_eq table first) refl has
+place-found (first ∷ tables) table has = by (bytes_eq table first) refl has (place-found tables table)
   where
-    Found : ℕ → Type 0
-    Found place = (place < suc (length tables)) × (get_or (first ∷ tables) place [] ≡ table)
-
-    by : (b : Bool) → bytes_eq table first ≡ b → (b || list_any (bytes_eq table) tables) ≡ true → Found (cond (not b) (1 + place_in tables table) 0)
-    by true e has = (omega arith, sym (same_name table first e))
-    by false e has = let later = place-found tables table has in (omega (arith, later.0), later.1)
+    by : (b : Bool) → bytes_eq table first ≡ b → (b || list_any (bytes_eq table) tables) ≡ true
+        → (list_any (bytes_eq table) tables ≡ true → (place_in tables table < length tables) × (get_or tables (place_in tables table) [] ≡ table))
+        → Found first tables table (cond (not b) (1 + place_in tables table) 0)
+    by true e has later = (omega arith, sym (same_name table first e))
+    by false e has later = let found = later has in (omega (arith, found.0), one_behind first tables (place_in tables table) ∙ found.1)
 
 -- what is said of both tables' lists
 abbrev pub InBoth : List Name → List Name → Name → Type 0
@@ -55,8 +60,14 @@ in_filter query audit (name ∷ names) all = by (list_any (bytes_eq name) query)
     by true e rest = ((e, all.0), rest)
     by false e rest = rest
 
-pub common-in-both : (query audit : List Name) → AllByRecursion (InBoth query audit) (common_tables query audit)
+common-in-both : (query audit : List Name) → AllByRecursion (InBoth query audit) (common_tables query audit)
 common-in-both query audit = in_filter query audit audit (each_stands audit)
+
+pub common-in-query : (query audit : List Name) → AllByRecursion (λ table. list_any (bytes_eq table) query ≡ true) (common_tables query audit)
+common-in-query query audit = all_more (InBoth query audit) (λ table. list_any (bytes_eq table) query ≡ true) (λ name both. both.0) (common_tables query audit) (common-in-both query audit)
+
+pub common-in-audit : (query audit : List Name) → AllByRecursion (λ table. list_any (bytes_eq table) audit ≡ true) (common_tables query audit)
+common-in-audit query audit = all_more (InBoth query audit) (λ table. list_any (bytes_eq table) audit ≡ true) (λ name both. both.1) (common_tables query audit) (common-in-both query audit)
 
 -- different tables stand at different places
 kept_apart : (query : List Name) (name : Name) (names : List Name) → AllByRecursion (λ other. bytes_eq name other ≡ false) names → AllByRecursion (λ other. bytes_eq name other ≡ false) (common_tables query names)
@@ -68,6 +79,7 @@ kept_apart query name (other ∷ names) apart = by (list_any (bytes_eq other) qu
     by false rest = rest
 
 pub common-distinct : (query audit : List Name) → IsDistinct bytes_eq audit → IsDistinct bytes_eq (common_tables query audit)
+unfolding IsDistinct
 common-distinct query [] distinct = tt
 common-distinct query (name ∷ names) distinct = by (list_any (bytes_eq name) query) (common-distinct query names distinct.1)
   where
@@ -100,6 +112,7 @@ still_open tables slots table slot (other ∷ common) has apart all = (
 )
 
 open_at : (tables : List Name) (slots : List (Option Place)) (common : List Name) → IsDistinct bytes_eq common → AreAt tables slots common → AreOpen (map (place_in tables) common) slots
+unfolding IsDistinct
 open_at tables slots [] distinct all = tt
 open_at tables slots (table ∷ common) distinct all =
     (all.0.1, λ place. open_at tables (slice_set slots (place_in tables table) (Some place)) common distinct.1 (still_open tables slots table (Some place) common all.0.0 distinct.0 all.1))

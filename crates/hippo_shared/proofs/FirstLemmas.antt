@@ -1,6 +1,7 @@
 -- The first places of a product that pass a test.
 use Rattle.std.proofs.Common.{◌≡◌, ℕ, zero, suc, ◌+◌, ◌<◌, ◌≤◌, Bool, true, false, ◌&&◌, cond, List, [], ◌∷◌, ◌++◌, map, length, refl, sym, ap, ◌∙◌, Option, Some, None, option_map, nat_lt, inl, inr, ◌⊎◌, arith, add-one, ltb-true}
-use Rattle.std.specs.Prelude.{find, option_or}
+use Rattle.std.specs.Prelude.{find}
+use Rattle.std.specs.Option.{option_or}
 use Rattle.std.specs.List.{flat_map, range_with_len}
 use Rattle.std.proofs.lemmas.Bool.{and_parts, false≢true}
 use Rattle.std.proofs.lemmas.Bool.Decides.{nat_tests}
@@ -12,11 +13,11 @@ use Rattle.hippo_shared.specs.FirstPlaces.{AreFirst}
 
 pub find-map : {A B : Type 0} (test : B → Bool) (f : A → B) (xs : List A) → find test (map f xs) ≡ option_map f (find (λ x. test (f x)) xs)
 find-map test f [] = refl
-find-map {A} {B} test f (x ∷ xs) = by (test (f x)) (find-map test f xs)
+find-map {A} {B} test f (x ∷ xs) = by (test (f x)) (find test (map f xs)) (find (λ y. test (f y)) xs) (find-map test f xs)
   where
-    by : (b : Bool) {found : Option B} {other : Option A} → found ≡ option_map f other → cond b (Some (f x)) found ≡ option_map f (cond b (Some x) other)
-    by true e = refl
-    by false e = e
+    by : (b : Bool) (found : Option B) (other : Option A) → found ≡ option_map f other → cond b (Some (f x)) found ≡ option_map f (cond b (Some x) other)
+    by true found other e = refl
+    by false found other e = e
 
 abbrev behind : Place → List (List Place) → List (List Place)
 behind place some = map (λ others. place ∷ others) some

@@ -1,10 +1,10 @@
 //! The tables that a query and an audit have in common.
-ghost use Rattle.std.specs.Prelude.{◌≡◌, ◌<◌, ◌≤◌, List, IfOk, length, map, take};
-ghost use Rattle.std.specs.List.{All, Contains};
+ghost use Rattle.std.specs.Prelude.{◌≡◌, ◌<◌, ◌≤◌, List, IfOk, length, map, nat_eq, take};
+ghost use Rattle.std.specs.List.{All, Contains, list_any};
 ghost use Rattle.hippo_model.specs.Terms.{Place};
 ghost use Rattle.hippo_shared.specs.Sharing.{common_tables, place_in};
 
-use hippo_join::Step;
+use hippo_join::{Step, push_if};
 use hippo_values::{Memory, Name};
 use std::alloc::Global;
 
@@ -16,6 +16,7 @@ pub(crate) struct CommonPlaces {
 }
 
 // The steps of a common table.
+#[derive(Clone, Copy)]
 pub(crate) struct CommonSteps<'s> {
     pub query: &'s Step,
     pub audit: &'s Step,
@@ -25,10 +26,14 @@ pub(crate) struct CommonSteps<'s> {
 fn place_in(tables: &[Name], table: &Name) -> usize
     ensures { result ≡ place_in tables.now table.now }
 {
-    tables
-        .iter()
-        .position(|other| *table == *other)
-        .unwrap_or(tables.len())
+    let mut place = 0;
+    for other in tables {
+        if table == other {
+            return place;
+        }
+        place += 1;
+    }
+    place
 }
 
 pub(crate) fn common_places(
@@ -43,15 +48,25 @@ pub(crate) fn common_places(
     let mut audit_places = Vec::new(alloc);
     for table in audit {
         let place = place_in(query, table);
-        if place < query.len() {
-            query_places.push(place)?;
-            audit_places.push(place_in(audit, table))?;
-        }
+        let is_common = place < query.len();
+        push_if(is_common, &mut query_places, place)?;
+        push_if(is_common, &mut audit_places, place_in(audit, table))?;
     }
     Ok(CommonPlaces {
         query: query_places,
         audit: audit_places,
     })
+}
+
+fn is_among(places: &[usize], place: usize) -> bool
+    ensures { result ≡ list_any (nat_eq place) places.now }
+{
+    for other in places {
+        if place == *other {
+            return true;
+        }
+    }
+    false
 }
 
 // The places of all tables, these first.
@@ -67,9 +82,8 @@ pub(crate) fn order_from(
 {
     let mut order = Vec::from_slice(alloc, first)?;
     for table in 0..tables {
-        if !first.contains(&table) {
-            order.push(table)?;
-        }
+        let is_new = !is_among(&order, table);
+        push_if(is_new, &mut order, table)?;
     }
     Ok(order)
 }

@@ -1,7 +1,7 @@
 //! The first places of the common tables' rows with which both sides have a combination.
-ghost use Rattle.std.specs.Prelude.{◌≡◌, [], ◌∷◌, ◌<◌, ◌≤◌, None, Some, List, Option, OnOk, IfOk, length, map, option_map, replicate, slice_set, take, true};
+ghost use Rattle.std.specs.Prelude.{◌≡◌, [], ◌∷◌, ◌<◌, ◌≤◌, None, Some, List, Option, OnOk, IfOk, length, map, option_map, replicate, slice_set, take, true, ◌⊎◌};
 ghost use Rattle.std.specs.List.{All, Contains};
-ghost use Rattle.std.specs.List.Sorted.{IsNonDecreasing};
+ghost use Rattle.std.specs.List.Sorted.{IsNonDecreasing, IsPermutation};
 ghost use Rattle.hippo_model.specs.Terms.{Place};
 ghost use Rattle.hippo_join.specs.Existence.{HasOne};
 ghost use Rattle.hippo_join.specs.Steps.{IsStep, ReachesFrom};
@@ -14,6 +14,7 @@ use hippo_values::Memory;
 use std::alloc::Global;
 
 // A query and an audit, the steps of each, and what is to be seen of the query's rows.
+#[derive(Drop)]
 struct Search<'a, C> {
     query: &'a Side<'a, C>,
     audit: &'a Side<'a, C>,

@@ -32,11 +32,12 @@ pub(crate) fn tuple_at(
 ) -> Result<SharedTuple, Memory>
     requires names { All (λ table. table < length names.now) tables.now }
     requires sets { All (λ table. table < length sets.now) tables.now }
+    requires places { length places.now ≡ length tables.now }
     ensures { IfOk result (λ tuple. tuple ≡ tuple_at names.now sets.now tables.now places.now) }
 {
     let mut tuple = Sequence::new(alloc);
-    for (table, place) in tables.iter().zip(places) {
-        let key = key_at(alloc, sets.get(*table), *place)?;
+    for (index, table) in tables.iter().enumerate() {
+        let key = key_at(alloc, sets.get(*table), places[index])?;
         let table = names[*table].copy(alloc)?;
         tuple.push(SharedRow { table, key })?;
     }
