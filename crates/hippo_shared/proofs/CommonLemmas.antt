@@ -49,7 +49,7 @@ each_stands [] = tt
 each_stands (first ∷ names) = (
   ap (λ b. b || list_any (bytes_eq first) names) (same_as_itself first),
   all_more (λ name. list_any (bytes_eq name) names ≡ true) (λ name. list_any (bytes_eq name) (first ∷ names) ≡ true)
-  (λ name. or_right (bytes_eq name first) (list_any (bytes_eq name) names)) names (each_stands names),
+      (λ name. or_right (bytes_eq name first) (list_any (bytes_eq name) names)) names (each_stands names),
 )
 
 in_filter : (query audit names : List Name) → AllByRecursion (λ name. list_any (bytes_eq name) audit ≡ true) names → AllByRecursion (InBoth query audit) (common_tables query names)

@@ -82,9 +82,9 @@ find-first (set ∷ sets) test holds within so back (place ∷ places) first =
     let lower_than : place < length set.rows = ltb-true _ _ below in
     first-behind test (places_of sets) 0 (length set.rows) place (place ∷ places) (omega arith) (omega arith)
     (λ lower above less.
-      find-behind test (places_of sets) lower
-      ∙ ap (option_map (λ others. lower ∷ others)) (find-none sets (λ others. test (lower ∷ others)) (λ others in_others.
-      not_so (test (lower ∷ others)) (λ passes. first.1 lower less others (back (lower ∷ others) (in_front lower others (omega arith) in_others) passes)))))
+    find-behind test (places_of sets) lower
+    ∙ ap (option_map (λ others. lower ∷ others)) (find-none sets (λ others. test (lower ∷ others)) (λ others in_others.
+    not_so (test (lower ∷ others)) (λ passes. first.1 lower less others (back (lower ∷ others) (in_front lower others (omega arith) in_others) passes)))))
     (find-behind test (places_of sets) place
     ∙ ap (option_map (λ others. place ∷ others)) (find-first sets (λ others. test (place ∷ others)) (λ others. holds (place ∷ others))
     (λ others held. (and_parts (nat_lt place (length set.rows)) (in_range sets others) (within (place ∷ others) held)).1)

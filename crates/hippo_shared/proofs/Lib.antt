@@ -6,3 +6,4 @@ pub mod TupleLemmas
 pub mod SideLemmas
 pub mod SearchLemmas
 pub mod SharedTheorem
+mod SharingExamples

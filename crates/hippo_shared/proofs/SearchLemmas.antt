@@ -83,12 +83,12 @@ module _ (choices : Choices) (query : Masked) (seen : List Expr) (sets : List Ke
     first-tried i within so_far given first = (
       first,
       λ lower less later share.
-      let has = reached lower later share in
-      let at = named lower has.0 has.1 has.2 in
-      elim (below_or_from has.0 i) as (λ _. ⊥) [
-        | inl before ↦ so_far has.0 before later (subst (λ (place : Place). Shares (place ∷ later)) (sym at) share)
-        | inr behind ↦ let up : get_or some i 0 ≤ get_or some has.0 0 = rises i has.0 0 behind has.1 in absurd (omega (arith, up, at, less))
-      ],
+          let has = reached lower later share in
+          let at = named lower has.0 has.1 has.2 in
+          elim (below_or_from has.0 i) as (λ _. ⊥) [
+            | inl before ↦ so_far has.0 before later (subst (λ (place : Place). Shares (place ∷ later)) (sym at) share)
+            | inr behind ↦ let up : get_or some i 0 ≤ get_or some has.0 0 = rises i has.0 0 behind has.1 in absurd (omega (arith, up, at, less))
+          ],
     )
       where
         below_or_from : (k n : ℕ) → (k < n) ⊎ (n ≤ k)

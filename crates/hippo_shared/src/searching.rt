@@ -26,7 +26,11 @@ struct Search<'a, C> {
 fn shorter<'s>(some: &'s [usize], others: &'s [usize]) -> &'s [usize]
     ensures { (result.now ≡ some.now) ⊎ (result.now ≡ others.now) }
 {
-    if others.len() < some.len() { others } else { some }
+    if others.len() < some.len() {
+        others
+    } else {
+        some
+    }
 }
 
 fn in_order(alloc: Global, places: &[usize]) -> Result<Vec<usize>, Memory>
@@ -59,9 +63,9 @@ impl<'a, C: ChoiceView> Search<'a, C> {
         ensures order { IfOk result (λ places. IsNonDecreasing places.items) }
         ensures reach { IfOk result (λ places.
             ReachesFrom (C.choices self.now.query.now.choices.now) self.now.query.now.query.now self.now.query.now.sets.now
-                query.now steps.now.query.now.table places.items
+            query.now steps.now.query.now.table places.items
             ⊎ ReachesFrom (C.choices self.now.audit.now.choices.now) self.now.audit.now.query.now self.now.audit.now.sets.now
-                audit.now steps.now.audit.now.table places.items) }
+            audit.now steps.now.audit.now.table places.items) }
     {
         let places = self.query.places_of(steps.query, query);
         let others = self.audit.places_of(steps.audit, audit);
@@ -81,8 +85,10 @@ impl<'a, C: ChoiceView> Search<'a, C> {
             → HasOne (C.choices self.now.audit.now.choices.now) self.now.audit.now.query.now [] self.now.audit.now.sets.now audit.now
             → may ≡ true) }
     {
-        Ok(self.query.may_count(alloc, &steps.query.tests, query)?
-            && self.audit.may_count(alloc, &steps.audit.tests, audit)?)
+        Ok(
+            self.query.may_count(alloc, &steps.query.tests, query)?
+                && self.audit.may_count(alloc, &steps.audit.tests, audit)?,
+        )
     }
 
     // No place, where both sides have a combination with the rows that are chosen.

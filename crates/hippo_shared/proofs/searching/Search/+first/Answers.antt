@@ -52,19 +52,19 @@ first-loop-place-preserved g t c = record {
   same_query = c.in_ok-others.ensures.query ∙ c.loop-place.invariant.same_query;
   same_audit = c.in_ok-others.ensures.audit ∙ c.loop-place.invariant.same_audit;
   so_far =
-    none-so-far (g.C.ChoiceView.choices c.args.self.now.query.now.choices.now) c.args.self.now.query.now.query.now c.args.self.now.seen.now c.args.self.now.query.now.sets.now (g.C.ChoiceView.choices c.args.self.now.audit.now.choices.now) c.args.self.now.audit.now.query.now c.args.self.now.audit.now.sets.now
-    c.in-Some.steps.now.query.now.table c.in-Some.steps.now.audit.now.table (map (λ (steps : CommonSteps). steps.query.now.table) c.in-Some.rest.now) (map (λ (steps : CommonSteps). steps.audit.now.table) c.in-Some.rest.now) c.args.query.now c.args.audit.now (length-maps (λ (steps : CommonSteps). steps.query.now.table) (λ (steps : CommonSteps). steps.audit.now.table) c.in-Some.rest.now)
-    (open-first (λ (steps : CommonSteps). steps.query.now.table) (λ (steps : CommonSteps). steps.audit.now.table) c.args.common.now c.in-Some.steps.now c.in-Some.rest.now c.args.query.now c.requires.query_open c.in-Some.ensures.cases.0)
-    (open-first (λ (steps : CommonSteps). steps.audit.now.table) (λ (steps : CommonSteps). steps.query.now.table) c.args.common.now c.in-Some.steps.now c.in-Some.rest.now c.args.audit.now c.requires.audit_open c.in-Some.ensures.cases.0)
-    c.deref-place-items.result.now c.in_ok-places.places.items c.deref-place-items.ensures.value c.in_ok-places.ensures.order c.in_ok-places.ensures.reach
-    c.loop-place.place-index
-    (none-made (g.C.ChoiceView.choices c.args.self.now.query.now.choices.now) c.args.self.now.query.now.query.now c.args.self.now.seen.now c.args.self.now.query.now.sets.now (g.C.ChoiceView.choices c.args.self.now.audit.now.choices.now) c.args.self.now.audit.now.query.now c.args.self.now.audit.now.sets.now
-    c.in-Some.steps.now.query.now.table c.in-Some.steps.now.audit.now.table (map (λ (steps : CommonSteps). steps.query.now.table) c.in-Some.rest.now) (map (λ (steps : CommonSteps). steps.audit.now.table) c.in-Some.rest.now) c.args.query.now c.args.audit.now (length-maps (λ (steps : CommonSteps). steps.query.now.table) (λ (steps : CommonSteps). steps.audit.now.table) c.in-Some.rest.now)
-    (open-first (λ (steps : CommonSteps). steps.query.now.table) (λ (steps : CommonSteps). steps.audit.now.table) c.args.common.now c.in-Some.steps.now c.in-Some.rest.now c.args.query.now c.requires.query_open c.in-Some.ensures.cases.0)
-    (open-first (λ (steps : CommonSteps). steps.audit.now.table) (λ (steps : CommonSteps). steps.query.now.table) c.args.common.now c.in-Some.steps.now c.in-Some.rest.now c.args.audit.now c.requires.audit_open c.in-Some.ensures.cases.0)
-    c.deref-place-items.result.now c.in_ok-places.places.items c.deref-place-items.ensures.value c.in_ok-places.ensures.order c.in_ok-places.ensures.reach
-    c.loop-place.query c.loop-place.audit c.loop-place.invariant.same_query c.loop-place.invariant.same_audit (λ (places : Vec ℕ Global). places.items) c.in_ok-others.field-0 c.loop-place.place-index c.in_ok-others.ensures.first c.in_default-2.is)
-    c.loop-place.invariant.so_far;
+      none-so-far (g.C.ChoiceView.choices c.args.self.now.query.now.choices.now) c.args.self.now.query.now.query.now c.args.self.now.seen.now c.args.self.now.query.now.sets.now (g.C.ChoiceView.choices c.args.self.now.audit.now.choices.now) c.args.self.now.audit.now.query.now c.args.self.now.audit.now.sets.now
+      c.in-Some.steps.now.query.now.table c.in-Some.steps.now.audit.now.table (map (λ (steps : CommonSteps). steps.query.now.table) c.in-Some.rest.now) (map (λ (steps : CommonSteps). steps.audit.now.table) c.in-Some.rest.now) c.args.query.now c.args.audit.now (length-maps (λ (steps : CommonSteps). steps.query.now.table) (λ (steps : CommonSteps). steps.audit.now.table) c.in-Some.rest.now)
+      (open-first (λ (steps : CommonSteps). steps.query.now.table) (λ (steps : CommonSteps). steps.audit.now.table) c.args.common.now c.in-Some.steps.now c.in-Some.rest.now c.args.query.now c.requires.query_open c.in-Some.ensures.cases.0)
+      (open-first (λ (steps : CommonSteps). steps.audit.now.table) (λ (steps : CommonSteps). steps.query.now.table) c.args.common.now c.in-Some.steps.now c.in-Some.rest.now c.args.audit.now c.requires.audit_open c.in-Some.ensures.cases.0)
+      c.deref-place-items.result.now c.in_ok-places.places.items c.deref-place-items.ensures.value c.in_ok-places.ensures.order c.in_ok-places.ensures.reach
+      c.loop-place.place-index
+      (none-made (g.C.ChoiceView.choices c.args.self.now.query.now.choices.now) c.args.self.now.query.now.query.now c.args.self.now.seen.now c.args.self.now.query.now.sets.now (g.C.ChoiceView.choices c.args.self.now.audit.now.choices.now) c.args.self.now.audit.now.query.now c.args.self.now.audit.now.sets.now
+      c.in-Some.steps.now.query.now.table c.in-Some.steps.now.audit.now.table (map (λ (steps : CommonSteps). steps.query.now.table) c.in-Some.rest.now) (map (λ (steps : CommonSteps). steps.audit.now.table) c.in-Some.rest.now) c.args.query.now c.args.audit.now (length-maps (λ (steps : CommonSteps). steps.query.now.table) (λ (steps : CommonSteps). steps.audit.now.table) c.in-Some.rest.now)
+      (open-first (λ (steps : CommonSteps). steps.query.now.table) (λ (steps : CommonSteps). steps.audit.now.table) c.args.common.now c.in-Some.steps.now c.in-Some.rest.now c.args.query.now c.requires.query_open c.in-Some.ensures.cases.0)
+      (open-first (λ (steps : CommonSteps). steps.audit.now.table) (λ (steps : CommonSteps). steps.query.now.table) c.args.common.now c.in-Some.steps.now c.in-Some.rest.now c.args.audit.now c.requires.audit_open c.in-Some.ensures.cases.0)
+      c.deref-place-items.result.now c.in_ok-places.places.items c.deref-place-items.ensures.value c.in_ok-places.ensures.order c.in_ok-places.ensures.reach
+      c.loop-place.query c.loop-place.audit c.loop-place.invariant.same_query c.loop-place.invariant.same_audit (λ (places : Vec ℕ Global). places.items) c.in_ok-others.field-0 c.loop-place.place-index c.in_ok-others.ensures.first c.in_default-2.is)
+      c.loop-place.invariant.so_far;
 }
 
 pub first-returns-clause-query : goal.first-returns-clause-query
