@@ -15,7 +15,7 @@ mod ties;
 
 pub use joins::{blank_row, run};
 pub use lookups::value_at;
-pub use orders::plan;
+pub use orders::{order_behind, plan};
 pub use reaching::{open_slots, push_if};
 pub use sides::Side;
 pub use steps::Step;

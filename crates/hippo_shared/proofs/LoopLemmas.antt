@@ -1,10 +1,11 @@
 -- One member more in loops.
-use Rattle.std.proofs.Common.{◌≡◌, ℕ, zero, suc, ◌+◌, ◌<◌, ◌≤◌, Bool, true, false, ◌||◌, not, cond, List, [], ◌∷◌, ◌++◌, map, length, get_or, drop, take, refl, sym, ap, subst, ◌∙◌, Option, Some, inl, inr, ◌⊎◌, nat_eq, nat_lt, if◌then◌else◌, arith, append_assoc}
+use Rattle.std.proofs.Common.{◌≡◌, ℕ, zero, suc, ◌+◌, ◌-◌, ◌<◌, ◌≤◌, Bool, true, false, ◌||◌, not, cond, List, [], ◌∷◌, ◌++◌, map, length, get_or, drop, take, refl, sym, ap, subst, ◌∙◌, Option, Some, inl, inr, ◌⊎◌, nat_eq, nat_lt, if◌then◌else◌, arith, append_assoc}
 use Rattle.std.specs.Prelude.{slice_get, bytes_eq}
 use Rattle.std.specs.List.{All, Contains, list_any}
+use Rattle.std.specs.List.Sorted.{IsPermutation}
 use Rattle.std.proofs.lemmas.Bool.{false≢true}
 use Rattle.std.proofs.lemmas.Bool.Decides.{nat_tests}
-use Rattle.std.proofs.lemmas.List.{drop_more, take_more, take_all, take-append-le}
+use Rattle.std.proofs.lemmas.List.{drop_more, take_more, take_all, take-append-le, take-append-drop, length-drop}
 use Rattle.std.proofs.lemmas.List.Elements.{All-push, Contains-append_left, Contains-push}
 use Rattle.hippo_values.specs.declared.names.Name.{Name}
 use Rattle.hippo_model.specs.Terms.{Place}
@@ -125,3 +126,12 @@ module _ (tables : ℕ) (first order more : List Place) (table : Place) (new : B
       by : (b : Bool) → take (length first) (if b then order ++ table ∷ [] else order) ≡ first
       by true = take-append-le (length first) order (table ∷ []) long_enough ∙ front
       by false = front
+
+-- the order of all tables, those behind the first ones moved
+pub whole-again : (first here tables order : List Place) → here ≡ tables → take (length first) tables ≡ first → IsPermutation (first ++ take (length here - length first) (drop (length first) here)) order → IsPermutation tables order
+whole-again first here tables order is front moved =
+    let rest : take (length here - length first) (drop (length first) here) ≡ drop (length first) here =
+    take_all (length here - length first) (drop (length first) here) (omega (arith, length-drop (length first) here)) in
+    let same : first ++ take (length here - length first) (drop (length first) here) ≡ tables =
+    ap (λ l. first ++ l) rest ∙ ap (λ l. first ++ drop (length first) l) is ∙ ap (λ l. l ++ drop (length first) tables) (sym front) ∙ take-append-drop (length first) tables in
+    subst (λ (l : List Place). IsPermutation l order) same moved

@@ -4,8 +4,9 @@ ghost use Rattle.std.specs.List.{All, Contains, list_any};
 ghost use Rattle.hippo_model.specs.Terms.{Place};
 ghost use Rattle.hippo_shared.specs.Sharing.{common_tables, place_in};
 
-use hippo_join::{Step, push_if};
-use hippo_values::{Memory, Name};
+use hippo_join::{Side, Step, order_behind, push_if};
+use hippo_model::{ChoiceView, Sets, Sizes};
+use hippo_values::{Memory, Name, Sequence};
 use std::alloc::Global;
 
 // The places of the common tables in the query's FROM list, and in the audit's; both in the audit's order.
@@ -70,11 +71,7 @@ fn is_among(places: &[usize], place: usize) -> bool
 }
 
 // The places of all tables, these first.
-pub(crate) fn order_from(
-    alloc: Global,
-    first: &[usize],
-    tables: usize,
-) -> Result<Vec<usize>, Memory>
+fn tables_from(alloc: Global, first: &[usize], tables: usize) -> Result<Vec<usize>, Memory>
     requires { All (λ table. table < tables) first.now }
     ensures below { IfOk result (λ order. All (λ table. table < tables) order.items) }
     ensures whole { IfOk result (λ order. (table : Place) → table < tables → Contains order.items table) }
@@ -86,6 +83,30 @@ pub(crate) fn order_from(
         push_if(is_new, &mut order, table)?;
     }
     Ok(order)
+}
+
+fn sizes_of(alloc: Global, sets: &Sets<'_>) -> Result<Sizes, Memory> {
+    let mut sizes = Sequence::new(alloc);
+    for table in 0..sets.len() {
+        sizes.push(sets.get(table).len() as u64)?;
+    }
+    Ok(sizes)
+}
+
+// An order in which a side's tables are joined, these first.
+pub(crate) fn order_from<C: ChoiceView>(
+    alloc: Global,
+    side: &Side<'_, C>,
+    first: &[usize],
+) -> Result<Vec<usize>, Memory>
+    requires { All (λ table. table < length side.now.sets.now) first.now }
+    ensures below { IfOk result (λ order. All (λ table. table < length side.now.sets.now) order.items) }
+    ensures whole { IfOk result (λ order. (table : Place) → table < length side.now.sets.now → Contains order.items table) }
+    ensures front { IfOk result (λ order. take (length first.now) order.items ≡ first.now) }
+{
+    let sizes = sizes_of(alloc, side.sets)?;
+    let tables = tables_from(alloc, first, side.sets.len())?;
+    order_behind(alloc, side.query, &sizes, first, &tables[first.len()..])
 }
 
 // The first so many steps of both sides, side by side.

@@ -241,8 +241,8 @@ pub(crate) fn first_places<C: ChoiceView>(
         (replicate (length query.now.sets.now) None) (replicate (length audit.now.sets.now) None))
         (option_map (λ places. places.items) found)) }
 {
-    let query_order = order_from(alloc, &common.query, query.sets.len())?;
-    let audit_order = order_from(alloc, &common.audit, audit.sets.len())?;
+    let query_order = order_from(alloc, query, &common.query)?;
+    let audit_order = order_from(alloc, audit, &common.audit)?;
     let query_steps = query.steps(alloc, &query_order)?;
     let audit_steps = audit.steps(alloc, &audit_order)?;
     let steps = common_steps(alloc, common.query.len(), &query_steps, &audit_steps)?;

@@ -2,7 +2,7 @@
 use Rattle.std.proofs.Common.{◌≡◌, ◌<◌, take, length}
 use Rattle.std.specs.List.{All, Contains}
 use Rattle.hippo_model.specs.Terms.{Place}
-use Rattle.hippo_shared.proofs.commons.order_from.Given as goal
+use Rattle.hippo_shared.proofs.commons.tables_from.Given as goal
 
 abbrev pub invariant-loop-table : goal.invariant-loop-table
 invariant-loop-table l = record {
