@@ -1,7 +1,7 @@
 -- The tables that two sides have in common, and their places.
-use Rattle.std.proofs.Common.{◌≡◌, ℕ, zero, suc, ◌+◌, ◌<◌, Bool, true, false, ◌&&◌, ◌||◌, not, cond, List, [], ◌∷◌, map, length, get_or, refl, sym, ap, subst, ◌∙◌, Option, Some, None, arith, replicate}
-use Rattle.std.specs.Prelude.{filter, slice_get, slice_set, bytes_eq}
-use Rattle.std.specs.List.{list_any, AllByRecursion, IsDistinct, position_or_len}
+use Rattle.std.proofs.Common.{◌≡◌, ℕ, zero, suc, ◌+◌, ◌<◌, Bool, true, false, ◌||◌, not, cond, List, [], ◌∷◌, map, length, get_or, refl, sym, ap, subst, ◌∙◌, Option, Some, None, arith, replicate}
+use Rattle.std.specs.Prelude.{slice_get, slice_set, bytes_eq}
+use Rattle.std.specs.List.{list_any, AllByRecursion, IsDistinct}
 use Rattle.std.proofs.lemmas.Bool.{false≢true}
 use Rattle.std.proofs.lemmas.Slice.Eq.{bytes_eq-Decides}
 use Rattle.hippo_values.specs.declared.names.Name.{Name}

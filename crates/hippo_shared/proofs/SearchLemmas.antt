@@ -1,16 +1,15 @@
 -- The first places of the common tables that are left.
-use Rattle.std.proofs.Common.{◌≡◌, ℕ, zero, suc, ◌+◌, ◌<◌, ◌≤◌, Bool, true, false, List, [], ◌∷◌, map, length, get_or, refl, sym, ap, subst, ◌∙◌, Option, Some, None, unwrap_or, option_map, replicate, take, inl, inr, ◌⊎◌, arith}
+use Rattle.std.proofs.Common.{◌≡◌, ℕ, zero, suc, ◌+◌, ◌<◌, ◌≤◌, false, List, [], ◌∷◌, map, length, get_or, refl, sym, ap, subst, ◌∙◌, Option, Some, None, unwrap_or, option_map, replicate, take, inl, inr, ◌⊎◌, arith}
 use Rattle.std.specs.Prelude.{slice_get, slice_set, is_some}
 use Rattle.std.specs.List.{All, Contains}
 use Rattle.std.specs.List.Sorted.{IsPermutation, IsNonDecreasing}
-use Rattle.std.proofs.lemmas.Bool.{false≢true}
 use Rattle.std.proofs.lemmas.List.Sorted.{Contains-permutation}
 use Rattle.hippo_model.specs.declared.query.Expr.{Expr}
 use Rattle.hippo_model.specs.declared.query.Masked.{Masked}
 use Rattle.hippo_model.specs.Terms.{Place}
 use Rattle.hippo_model.specs.RowSets.{KeyedRows}
 use Rattle.hippo_model.specs.Masking.{Choices}
-use Rattle.hippo_join.specs.Places.{Fits, slot_at}
+use Rattle.hippo_join.specs.Places.{slot_at}
 use Rattle.hippo_join.specs.Known.{is_chosen}
 use Rattle.hippo_join.specs.Existence.{HasOne}
 use Rattle.hippo_join.specs.Steps.{ReachesFrom, IsStep, AreSteps}

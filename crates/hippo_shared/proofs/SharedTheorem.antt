@@ -1,8 +1,8 @@
 -- The first places with which both sides have a combination are those of the first shared tuple.
-use Rattle.std.proofs.Common.{◌≡◌, ℕ, zero, suc, ◌<◌, Bool, true, false, ◌&&◌, List, [], ◌∷◌, map, length, get_or, refl, sym, ap, subst, ◌∙◌, Option, Some, None, option_map, replicate, arith}
+use Rattle.std.proofs.Common.{◌≡◌, ℕ, zero, suc, ◌<◌, Bool, true, false, ◌&&◌, List, [], ◌∷◌, map, length, refl, sym, ap, subst, ◌∙◌, Option, Some, None, option_map, replicate, arith}
 use Rattle.std.specs.Prelude.{bytes_eq, find}
 use Rattle.std.specs.List.{All, AllByRecursion, IsDistinct, list_any}
-use Rattle.std.proofs.lemmas.Bool.{and_parts, false≢true}
+use Rattle.std.proofs.lemmas.Bool.{and_parts}
 use Rattle.hippo_values.specs.declared.names.Name.{Name}
 use Rattle.hippo_model.specs.declared.audit.Audit.{Audit}
 use Rattle.hippo_model.specs.declared.audit.SharedRow.{SharedRow}
@@ -23,7 +23,7 @@ use Rattle.hippo_shared.specs.FirstPlaces.{AreOpen, ShareAt, IsFirst}
 use Rattle.hippo_shared.proofs.CommonLemmas.{place-found, common-in-query, common-in-audit, common-distinct, common-open}
 use Rattle.hippo_shared.proofs.FirstLemmas.{find-map, find-first, find-none, first-holds}
 use Rattle.hippo_shared.proofs.SideLemmas.{one-of-product, any-of-product, with_rows, share-both, both-share, one-agrees, agrees-one, counts-parts, parts-counted, unmasked_query, passes-unmasked}
-use Rattle.hippo_shared.proofs.TupleLemmas.{AllStandIn, tuples-by-places, AgreeAt, agrees-from-tuple, tuple-from-agrees, agrees-in-range}
+use Rattle.hippo_shared.proofs.TupleLemmas.{AllStandIn, tuples-by-places, agrees-from-tuple, tuple-from-agrees, agrees-in-range}
 
 length_map : {A B : Type 0} (f : A → B) (xs : List A) → length (map f xs) ≡ length xs
 length_map f [] = refl

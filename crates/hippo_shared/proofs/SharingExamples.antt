@@ -1,5 +1,5 @@
 -- Shared tuples, computed on small tables. Each example is named by what it shows.
-use Rattle.std.proofs.Common.{◌≡◌, ℕ, ℤ, pos, int_le, List, [], ◌∷◌, Option, Some, None, Bool, false, refl, codes}
+use Rattle.std.proofs.Common.{◌≡◌, ℕ, ℤ, pos, int_le, List, [], ◌∷◌, Some, None, false, codes}
 use Rattle.std.specs.Bool.{then_some}
 use Rattle.hippo_values.specs.declared.values.Value.{Value}
 use Rattle.hippo_values.specs.declared.values.Value.TheVariants.{Int, Text}

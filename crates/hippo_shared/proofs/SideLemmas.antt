@@ -1,5 +1,5 @@
 -- Whether a side has a combination with given rows of the common tables.
-use Rattle.std.proofs.Common.{◌≡◌, ℕ, zero, suc, Bool, true, false, ◌&&◌, ◌||◌, List, [], ◌∷◌, map, length, refl, sym, ap, subst, ◌∙◌, Option, Some, None, unwrap_or, arith}
+use Rattle.std.proofs.Common.{◌≡◌, zero, suc, Bool, true, false, ◌&&◌, ◌||◌, List, [], ◌∷◌, map, length, refl, sym, ap, ◌∙◌, Option, Some, None, unwrap_or, arith}
 use Rattle.std.specs.Prelude.{slice_get, slice_set, is_some}
 use Rattle.std.specs.List.{list_any}
 use Rattle.std.specs.Ordering.{is_eq, nat_cmp}
@@ -22,13 +22,13 @@ use Rattle.hippo_eval.specs.MaskedTruth.{masked_value}
 use Rattle.hippo_eval.specs.Unmasked.{unmasked, unmasked_condition, all_shown}
 use Rattle.hippo_eval.specs.Walks.{rows_of}
 use Rattle.hippo_eval.proofs.UnmaskedLemmas.{value_is}
-use Rattle.hippo_join.specs.Places.{Fits, slot_at, chosen, in_range, places_of, stays, stands}
+use Rattle.hippo_join.specs.Places.{slot_at, chosen, in_range, places_of, stays, stands}
 use Rattle.hippo_join.specs.Known.{is_chosen}
-use Rattle.hippo_join.specs.Existence.{are_shown, HasOne}
+use Rattle.hippo_join.specs.Existence.{HasOne}
 use Rattle.hippo_join.specs.Finding.{has_places}
 use Rattle.hippo_join.proofs.ProductLemmas.{product-rows, has-places_of}
 use Rattle.hippo_join.proofs.FoundLemmas.{same_places}
-use Rattle.hippo_join.proofs.SlotLemmas.{Fits-at, Fits-open, Fits-set}
+use Rattle.hippo_join.proofs.SlotLemmas.{Fits-at, Fits-set}
 use Rattle.hippo_join.proofs.ExistenceLemmas.{Fits-unset}
 use Rattle.hippo_shared.specs.FirstPlaces.{AreOpen, ShareAt}
 use Rattle.hippo_shared.proofs.TupleLemmas.{AgreeAt}

@@ -1,5 +1,5 @@
 -- Virtual tuples by the places of their rows, and the combinations that have them.
-use Rattle.std.proofs.Common.{◌≡◌, ℕ, zero, suc, ◌<◌, Bool, true, false, ◌&&◌, List, [], ◌∷◌, ◌++◌, map, length, get_or, drop, ◌+◌, append_assoc, refl, sym, ap, subst, ◌∙◌, Option, Some, unwrap_or, nat_lt, ltb-true, arith}
+use Rattle.std.proofs.Common.{◌≡◌, ℕ, zero, suc, ◌<◌, true, ◌&&◌, List, [], ◌∷◌, ◌++◌, map, length, get_or, drop, ◌+◌, append_assoc, refl, sym, ap, subst, ◌∙◌, Option, Some, unwrap_or, nat_lt, ltb-true, arith}
 use Rattle.std.specs.Prelude.{slice_get, bytes_eq}
 use Rattle.std.specs.List.{All, AllByRecursion, flat_map, list_any, range_with_len}
 use Rattle.std.specs.Cmp.{eq_by_cmp_equiv}

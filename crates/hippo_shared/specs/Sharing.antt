@@ -1,6 +1,6 @@
 -- The first rows that a query and an audit share, over the rows of their tables (after the indispensable tuples of Agrawal
 -- and others, Auditing Compliance with a Hippocratic Database, VLDB 2004).
-use Rattle.std.specs.Prelude.{◌≡◌, Bool, ◌&&◌, List, [], ◌∷◌, map, filter, find, Option, slice_index_or, bytes_eq}
+use Rattle.std.specs.Prelude.{◌≡◌, Bool, ◌&&◌, List, [], map, filter, find, Option, slice_index_or, bytes_eq}
 use Rattle.std.specs.List.{All, list_any, list_all, position_or_len}
 use Rattle.hippo_values.specs.declared.names.Name.{Name}
 use Rattle.hippo_values.specs.Order.{same_cells}

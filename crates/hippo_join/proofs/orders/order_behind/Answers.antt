@@ -1,5 +1,5 @@
 -- One of the tables that are left comes next.
-use Rattle.std.proofs.Common.{◌≡◌, ℕ, ◌<◌, ◌++◌, List, length, ap, subst, sym, arith}
+use Rattle.std.proofs.Common.{◌≡◌, ℕ, ◌<◌, ◌++◌, List, length, ap, subst, arith}
 use Rattle.hippo_join.proofs.OrderLemmas.{ordered-more, long-more, front-more, front-first, same-first}
 use Rattle.hippo_join.proofs.orders.order_behind.Goals as goal
 

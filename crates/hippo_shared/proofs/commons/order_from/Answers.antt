@@ -1,5 +1,5 @@
 -- What is moved has the tables that it had.
-use Rattle.std.proofs.Common.{ℕ, List, ◌<◌, length, subst, sym}
+use Rattle.std.proofs.Common.{ℕ, ◌<◌, length, subst, sym}
 use Rattle.std.specs.List.{All}
 use Rattle.std.proofs.lemmas.List.Sorted.{All-permutation, Contains-permutation}
 use Rattle.hippo_model.specs.Terms.{Place}

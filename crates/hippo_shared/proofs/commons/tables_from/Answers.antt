@@ -1,5 +1,5 @@
 -- One table more.
-use Rattle.std.proofs.Common.{List, ℕ, ap, ◌∙◌, nat_eq, not, arith}
+use Rattle.std.proofs.Common.{List, ap, ◌∙◌, nat_eq, not, arith}
 use Rattle.std.specs.List.{list_any}
 use Rattle.hippo_model.specs.Terms.{Place}
 use Rattle.hippo_shared.proofs.LoopLemmas.{below-more, whole-more, front-more}

@@ -1,11 +1,11 @@
 -- The steps of the common tables come first in each side's order, and no row is chosen.
-use Rattle.std.proofs.Common.{ℕ, List, [], refl, ap, sym, ◌∙◌, length, map, None, Option, option_map, replicate, Vec, Global}
+use Rattle.std.proofs.Common.{ℕ, [], refl, ap, sym, ◌∙◌, length, map, None, Option, option_map, replicate, Vec, Global}
 use Rattle.std.specs.Prelude.{IfOk}
 use Rattle.hippo_model.specs.Terms.{Place}
 use Rattle.hippo_join.specs.Existence.{HasOne}
 use Rattle.hippo_join.specs.Steps.{IsStep}
 use Rattle.hippo_shared.specs.declared.commons.CommonSteps.{CommonSteps}
-use Rattle.hippo_shared.specs.FirstPlaces.{AreOpen, ShareAt, IsFirst}
+use Rattle.hippo_shared.specs.FirstPlaces.{ShareAt, IsFirst}
 use Rattle.hippo_shared.proofs.SearchLemmas.{whole-steps, common-are-steps, common-tables-are, four, open-by}
 use Rattle.hippo_shared.proofs.searching.first_places.Goals as goal
 

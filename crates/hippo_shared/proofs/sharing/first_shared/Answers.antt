@@ -1,7 +1,5 @@
 -- The places that are found first are those of the first shared tuple.
-use Rattle.std.proofs.Common.{ℕ, List, Option, map, length, sym, ap, ◌∙◌, Vec, Global}
-use Rattle.std.specs.List.{All}
-use Rattle.hippo_model.specs.Terms.{Place}
+use Rattle.std.proofs.Common.{ℕ, map, length, sym, ap, ◌∙◌, Vec, Global}
 use Rattle.hippo_shared.specs.Sharing.{common_tables, place_in}
 use Rattle.hippo_shared.specs.Tuples.{tuple_at}
 use Rattle.hippo_shared.proofs.SharedTheorem.{open-query, open-audit, below-query, below-audit, below-names, found-long, some-shared, none-shared}

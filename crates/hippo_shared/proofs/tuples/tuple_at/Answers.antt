@@ -1,5 +1,5 @@
 -- One row more.
-use Rattle.std.proofs.Common.{get_or, arith, ap, ◌∙◌}
+use Rattle.std.proofs.Common.{get_or, arith, ◌∙◌}
 use Rattle.hippo_shared.specs.Tuples.{tuple_at}
 use Rattle.hippo_shared.proofs.TupleLemmas.{tuple-more, row-made, name-read}
 use Rattle.hippo_shared.proofs.tuples.tuple_at.Goals as goal

@@ -1,5 +1,5 @@
 -- The steps that are left are steps too, and cover the tables whose rows are not chosen.
-use Rattle.std.proofs.Common.{◌≡◌, suc, true, List, ◌∷◌, length, get_or, None, Some, Option, subst, sym, ap, ◌∙◌, arith}
+use Rattle.std.proofs.Common.{◌≡◌, suc, List, ◌∷◌, length, get_or, None, Some, Option, subst, sym, ap, ◌∙◌, arith}
 use Rattle.std.specs.Prelude.{slice_set}
 use Rattle.std.proofs.lemmas.List.{set-set}
 use Rattle.hippo_model.specs.Terms.{Place}

@@ -1,8 +1,7 @@
 -- Only one combination has all of these rows.
 use Rattle.std.proofs.Common.{List, map, Some, ap, ◌∙◌, sym}
 use Rattle.hippo_model.specs.Terms.{Place}
-use Rattle.hippo_join.specs.Places.{rows_at, stands}
-use Rattle.hippo_join.specs.Existence.{are_shown}
+use Rattle.hippo_join.specs.Places.{rows_at}
 use Rattle.hippo_join.proofs.ExistenceLemmas.{all-chosen, one-chosen}
 use Rattle.hippo_join.proofs.sides.Side.has_chosen.Goals as goal
 

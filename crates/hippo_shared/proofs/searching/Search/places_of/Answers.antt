@@ -1,8 +1,6 @@
 -- What is sorted has the places that it had.
-use Rattle.std.proofs.Common.{inl, inr, ◌⊎◌}
-use Rattle.hippo_join.specs.Steps.{ReachesFrom}
 use Rattle.hippo_join.proofs.ReachLemmas.{ok-then}
-use Rattle.hippo_shared.proofs.SearchLemmas.{reaches-moved, in-either}
+use Rattle.hippo_shared.proofs.SearchLemmas.{in-either}
 use Rattle.hippo_shared.proofs.searching.Search.places_of.Goals as goal
 
 pub returns-clause-reach : goal.returns-clause-reach
