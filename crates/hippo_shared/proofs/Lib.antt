@@ -6,4 +6,5 @@ pub mod TupleLemmas
 pub mod SideLemmas
 pub mod SearchLemmas
 pub mod SharedTheorem
+pub mod HistoryLemmas
 mod SharingExamples

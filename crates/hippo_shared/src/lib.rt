@@ -2,6 +2,7 @@
 #![tactic(auto)]
 
 mod commons;
+pub mod laws;
 mod searching;
 mod sharing;
 mod tuples;
