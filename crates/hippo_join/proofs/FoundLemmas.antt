@@ -33,7 +33,7 @@ by_order Greater a b c = c refl
 same_as_itself : (c : List Place) → is_eq (slice_cmp nat_cmp c c) ≡ true
 same_as_itself c = (eq_by_cmp_equiv total).refl c
 
-same_places : (c d : List Place) → is_eq (slice_cmp nat_cmp c d) ≡ true → c ≡ d
+pub same_places : (c d : List Place) → is_eq (slice_cmp nat_cmp c d) ≡ true → c ≡ d
 same_places c d same = by_order (slice_cmp nat_cmp c d) (λ e. absurd (false≢true (sym (ap is_eq e) ∙ same))) (λ e. exact_bytes c d e) (λ e. absurd (false≢true (sym (ap is_eq e) ∙ same)))
 
 or_left : (x y : Bool) → x ≡ true → (x || y) ≡ true

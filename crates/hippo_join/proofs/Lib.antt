@@ -7,5 +7,6 @@ pub mod PartLemmas
 pub mod PruneLemmas
 pub mod ReachLemmas
 pub mod FindingLemmas
+pub mod ExistenceLemmas
 pub mod AnswerLemmas
 pub mod OrderLemmas

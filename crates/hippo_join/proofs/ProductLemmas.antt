@@ -47,7 +47,7 @@ shifted : {X : Type 0} (f : ℕ → X) (a n : ℕ) → map f (range_with_len (a 
 shifted f a zero = refl
 shifted f a (suc n) = rw add-one (ap (λ l. f (suc a) ∷ l) (rw (← add-one a) (shifted f (a + 1) n)))
 
-each_row : (rows : List BornRow) → map (row_at rows) (range_with_len 0 (length rows)) ≡ rows
+pub each_row : (rows : List BornRow) → map (row_at rows) (range_with_len 0 (length rows)) ≡ rows
 each_row [] = refl
 each_row (row ∷ rows) = ap (λ l. row ∷ l) (shifted (row_at (row ∷ rows)) 0 (length rows) ∙ each_row rows)
 

@@ -4,5 +4,6 @@ pub mod Lookups
 pub mod Ties
 pub mod Steps
 pub mod Finding
+pub mod Existence
 pub mod Plans
 pub mod Joining

@@ -18,7 +18,7 @@ use std::alloc::Global;
 use std::collections::BTreeSet;
 
 // The places that are chosen, in the order of FROM.
-fn chosen_places(alloc: Global, slots: &[Option<usize>]) -> Result<Places, Memory>
+pub(crate) fn chosen_places(alloc: Global, slots: &[Option<usize>]) -> Result<Places, Memory>
     ensures { IfOk result (λ places. places ≡ map (λ slot. unwrap_or slot 0) slots.now) }
 {
     let places = slots.iter().map(|slot| slot.unwrap_or(0)).collect(alloc)?;
@@ -67,7 +67,7 @@ impl<'a, C: ChoiceView> Side<'a, C> {
     }
 
     // Whether a combination counts.
-    fn counts(&self, places: &[usize], rows: &Combo<'_>) -> bool
+    pub(crate) fn counts(&self, places: &[usize], rows: &Combo<'_>) -> bool
         requires long { length places.now ≡ length self.now.sets.now }
         requires rows { rows.now ≡ rows_at self.now.sets.now (map Some places.now) }
         ensures { result ≡ stands (C.choices self.now.choices.now) self.now.query.now self.now.sets.now places.now }

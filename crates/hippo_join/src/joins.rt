@@ -21,8 +21,8 @@ use hippo_values::{Memory, Moment, Sequence};
 use std::alloc::Global;
 use std::collections::BTreeSet;
 
-// A row that is not chosen yet.
-pub(crate) fn blank_row(alloc: Global) -> Result<BornRow, Memory>
+/// What stands for a row that is not chosen yet.
+pub fn blank_row(alloc: Global) -> Result<BornRow, Memory>
     ensures { IfOk result (λ row. row ≡ blank) }
 {
     match Moment::new(Moment::FIRST) {

@@ -1,6 +1,7 @@
-//! Planned joins, and the first rows that a query and an audit share.
+//! Planned joins, and whether some combination of rows counts.
 #![tactic(auto)]
 
+mod existence;
 mod finding;
 mod joins;
 mod known;
@@ -12,5 +13,10 @@ mod steps;
 mod stops;
 mod ties;
 
-pub use joins::run;
-pub use orders::plan;
+pub use joins::{blank_row, run};
+pub use lookups::value_at;
+pub use orders::{order_behind, plan};
+pub use reaching::{open_slots, push_if};
+pub use sides::Side;
+pub use steps::Step;
+pub use ties::Tie;

@@ -14,8 +14,8 @@ use hippo_model::RowSet;
 use hippo_values::Value;
 use std::cmp::Ordering;
 
-// The value in a column of the row at a place, if one stands there.
-pub(crate) fn value_at<'a>(set: &'a RowSet, column: usize, place: usize) -> Option<&'a Value>
+/// The value in a column of the row at a place, if one stands there.
+pub fn value_at<'a>(set: &'a RowSet, column: usize, place: usize) -> Option<&'a Value>
     ensures { unwrap_or (option_copied result) Null ≡ value_at set.now column place }
 {
     if place < set.len() {

@@ -1,6 +1,7 @@
 //! In which order the tables of a query are joined.
-ghost use Rattle.std.specs.Prelude.{◌≡◌, ◌<◌, ℕ, IfOk, length};
+ghost use Rattle.std.specs.Prelude.{◌≡◌, ◌<◌, ◌++◌, ℕ, IfOk, length, take};
 ghost use Rattle.std.specs.List.{range_with_len};
+ghost use Rattle.std.specs.List.Sorted.{IsPermutation};
 ghost use Rattle.hippo_join.specs.Plans.{IsPlanOf};
 
 use crate::reaching::open_slots;
@@ -55,21 +56,41 @@ fn mark(slots: &mut [Option<usize>], table: usize) {
     }
 }
 
-/// An order in which the tables of a query can be joined, each once, for tables of these sizes: next comes a table that an
-/// equality ties to one before it, if there is one, and of several the smallest. `run` gives the same answer for every
-/// order; this one is chosen to be fast.
-pub fn plan(alloc: Global, query: &Masked, sizes: &Sizes) -> Result<Plan, Memory>
-    ensures { IfOk result (λ plan. IsPlanOf query.now plan) }
+/// Some tables of a query, and then the others that are left, in an order in which they can be joined behind the first: next
+/// comes a table that an equality ties to one before it, if there is one, and of several the smallest.
+pub fn order_behind(
+    alloc: Global,
+    query: &Masked,
+    sizes: &Sizes,
+    first: &[usize],
+    others: &[usize],
+) -> Result<Vec<usize>, Memory>
+    ensures permutation { IfOk result (λ order. IsPermutation (first.now ++ others.now) order.items) }
+    ensures front { IfOk result (λ order. take (length first.now) order.items ≡ first.now) }
 {
-    let mut left = tables_below(alloc, query.tables.len())?;
     let mut slots = open_slots(alloc, query.tables.len())?;
-    let mut order = Vec::with_capacity(alloc, query.tables.len())?;
+    for table in first {
+        mark(&mut slots, *table);
+    }
+    let mut order = Vec::from_slice(alloc, first)?;
+    let mut left = Vec::from_slice(alloc, others)?;
     while !left.is_empty() {
         let place = next_place(query, sizes, &left, &slots);
         let table = left.remove(place);
         mark(&mut slots, table);
         order.push(table)?;
     }
+    Ok(order)
+}
+
+/// An order in which the tables of a query can be joined, each once, for tables of these sizes: next comes a table that an
+/// equality ties to one before it, if there is one, and of several the smallest. `run` gives the same answer for every
+/// order; this one is chosen to be fast.
+pub fn plan(alloc: Global, query: &Masked, sizes: &Sizes) -> Result<Plan, Memory>
+    ensures { IfOk result (λ plan. IsPlanOf query.now plan) }
+{
+    let tables = tables_below(alloc, query.tables.len())?;
+    let order = order_behind(alloc, query, sizes, &[], &tables)?;
     Ok(Plan {
         order: Sequence::from_vec(order),
     })

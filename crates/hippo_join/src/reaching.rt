@@ -17,8 +17,8 @@ use hippo_model::{ChoiceView, RowSet};
 use hippo_values::Memory;
 use std::alloc::Global;
 
-// No row of any table is chosen.
-pub(crate) fn open_slots(alloc: Global, tables: usize) -> Result<Vec<Option<usize>>, Memory>
+/// A slot for the row of each table, none of which is chosen.
+pub fn open_slots(alloc: Global, tables: usize) -> Result<Vec<Option<usize>>, Memory>
     ensures { IfOk result (λ slots. slots.items ≡ replicate tables None) }
 {
     Ok(vec![in alloc; None; tables]?)
@@ -35,7 +35,8 @@ fn numbers_below(alloc: Global, count: usize) -> Result<Vec<usize>, Memory>
     Ok(numbers)
 }
 
-fn push_if(test: bool, places: &mut Vec<usize>, place: usize) -> Result<(), Memory>
+/// Adds a place at the end where a test holds.
+pub fn push_if(test: bool, places: &mut Vec<usize>, place: usize) -> Result<(), Memory>
     ensures { OnOk result (places.new.items ≡ if test then places.old.items ++ place ∷ [] else places.old.items) }
 {
     if test {
@@ -163,8 +164,8 @@ impl<'a, C: ChoiceView> Side<'a, C> {
         }
     }
 
-    // The places of a step that may follow the rows that are chosen.
-    pub(crate) fn places_of<'s>(&self, step: &'s Step, slots: &[Option<usize>]) -> &'s [usize]
+    /// The places of a step that may follow the rows that are chosen.
+    pub fn places_of<'s>(&self, step: &'s Step, slots: &[Option<usize>]) -> &'s [usize]
         requires { IsStep (C.choices self.now.choices.now) self.now.query.now self.now.sets.now step.now }
         ensures { ReachesFrom (C.choices self.now.choices.now) self.now.query.now self.now.sets.now slots.now step.now.table result.now }
     {
@@ -211,8 +212,8 @@ impl<'a, C: ChoiceView> Side<'a, C> {
         self.tests_after(alloc, slots, &after, &alone)
     }
 
-    // The steps of a join, in an order of tables.
-    pub(crate) fn steps(&self, alloc: Global, order: &[usize]) -> Result<Vec<Step>, Memory>
+    /// The steps of a join, in an order of tables.
+    pub fn steps(&self, alloc: Global, order: &[usize]) -> Result<Vec<Step>, Memory>
         requires { All (λ table. table < length self.now.sets.now) order.now }
         ensures { IfOk result (λ steps. AreSteps (C.choices self.now.choices.now) self.now.query.now self.now.sets.now order.now steps.items) }
     {

@@ -15,11 +15,13 @@ use hippo_model::{BornRow, ChoiceView, Combo, CondOf, Expr, Guard, Masked, RowSe
 use hippo_values::{Memory, Truth};
 use std::alloc::Global;
 
-// A query over tables, by the choices of patients.
-pub(crate) struct Side<'a, C> {
+/// A query over tables, by the choices of patients. It wants the rows of each of the query's tables, in the order of FROM.
+#[derive(Drop)]
+pub struct Side<'a, C> {
     pub query: &'a Masked,
     pub sets: &'a Sets<'a>,
     pub choices: &'a C,
+    /// Stands for a row that is not chosen yet.
     pub blank: &'a BornRow,
     ghost is_blank: { blank.now ≡ blank_row },
 }
@@ -111,8 +113,8 @@ impl<'a, C: ChoiceView> Side<'a, C> {
         true
     }
 
-    // Whether a combination may count that has the rows that are chosen, by some parts of the condition.
-    pub(crate) fn may_count(
+    /// Whether a combination may count that has the rows that are chosen, by some parts of the condition.
+    pub fn may_count(
         &self,
         alloc: Global,
         tests: &[usize],

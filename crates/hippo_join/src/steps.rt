@@ -1,13 +1,13 @@
 //! The steps of a join, a table at a time.
 use crate::ties::Tie;
 
-// A table, the tie of its rows to a row that is chosen before, and its rows that can count.
+/// A table, by its place in FROM, the tie of its rows to a row that is chosen before, and its rows that can count.
 #[derive(Drop)]
-pub(crate) struct Step {
+pub struct Step {
     pub table: usize,
     pub tie: Option<Tie>,
-    // Places in the table, in the order of the tie's column.
+    /// Places in the table, in the order of the tie's column.
     pub places: Vec<usize>,
-    // The parts of the condition that are tested here.
+    /// The parts of the condition that are tested here.
     pub tests: Vec<usize>,
 }

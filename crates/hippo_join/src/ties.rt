@@ -10,9 +10,9 @@ use crate::known::is_chosen;
 use hippo_model::{CondOf, Expr, Ref};
 use hippo_values::CompareOp;
 
-// A column of a table, and the column of another one that it is equal to.
+/// A column of a table, and the column of another one that it is equal to.
 #[derive(Clone, Copy)]
-pub(crate) struct Tie {
+pub struct Tie {
     pub column: usize,
     pub other: Ref,
 }

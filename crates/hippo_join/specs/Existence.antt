@@ -1,0 +1,27 @@
+-- Whether some combination counts that has the rows that are chosen.
+use Rattle.std.specs.Prelude.{◌≡◌, Bool, true, false, List, Option, Result, Ok, Err}
+use Rattle.std.specs.List.{list_all}
+use Rattle.hippo_values.specs.declared.memory.Memory.{Memory}
+use Rattle.hippo_model.specs.declared.query.Expr.{Expr}
+use Rattle.hippo_model.specs.declared.query.Masked.{Masked}
+use Rattle.hippo_model.specs.Terms.{Combination, Place}
+use Rattle.hippo_model.specs.RowSets.{KeyedRows}
+use Rattle.hippo_model.specs.Masking.{Choices, masked_cell, is_shown_cell}
+use Rattle.hippo_join.specs.Places.{chosen, Fits, stands}
+
+-- whether each of some expressions is a shown cell
+abbrev pub are_shown : Choices → List Expr → Combination → Bool
+are_shown choices seen rows = list_all (λ expr. is_shown_cell (masked_cell choices rows expr)) seen
+
+-- a combination that has the rows that are chosen and counts, in which all that is to be seen is shown
+pub record HasOne (choices : Choices) (query : Masked) (seen : List Expr) (sets : List KeyedRows) (slots : List (Option Place)) : Type 0 where
+  pub places : List Place
+  pub fits : Fits slots places
+  pub counts : stands choices query sets places ≡ true
+  pub shows : are_shown choices seen (chosen sets places) ≡ true
+
+-- what a test says: that a fact is so, or that it is not; or want of memory
+abbrev pub Decides : Type 0 → Result Bool Memory → Type 0
+Decides fact (Ok true) = fact
+Decides fact (Ok false) = ¬ fact
+Decides fact (Err wanted) = Unit {0}

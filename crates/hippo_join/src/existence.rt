@@ -1,0 +1,144 @@
+//! Whether some combination of rows counts, with an end at the first that is found.
+ghost use Rattle.std.specs.Prelude.{◌≡◌, [], ◌∷◌, ◌&&◌, None, Some, slice_set, ◌<◌, OnOk, length, map};
+ghost use Rattle.std.specs.List.{All};
+ghost use Rattle.hippo_model.specs.Masking.{masked_cell, is_shown_cell};
+ghost use Rattle.hippo_join.specs.Places.{rows_at, stands};
+ghost use Rattle.hippo_join.specs.Finding.{Covers};
+ghost use Rattle.hippo_join.specs.Steps.{IsStep};
+ghost use Rattle.hippo_join.specs.Existence.{are_shown, HasOne, Decides};
+
+use crate::finding::chosen_places;
+use crate::known::is_chosen;
+use crate::sides::Side;
+use crate::steps::Step;
+use hippo_eval::cell;
+use hippo_model::{ChoiceView, Combo, Expr};
+use hippo_values::Memory;
+use std::alloc::Global;
+
+impl<'a, C: ChoiceView> Side<'a, C> {
+    fn shows(&self, expr: &Expr, rows: &Combo<'_>) -> bool
+        ensures { result ≡ is_shown_cell (masked_cell (C.choices self.now.choices.now) rows.now expr.now) }
+    {
+        cell(expr, rows, self.choices).is_shown()
+    }
+
+    // Whether each of some expressions is a shown cell.
+    fn are_shown(&self, seen: &[Expr], rows: &Combo<'_>) -> bool
+        ensures { result ≡ are_shown (C.choices self.now.choices.now) seen.now rows.now }
+    {
+        for expr in seen {
+            if !self.shows(expr, rows) {
+                return false;
+            }
+        }
+        true
+    }
+
+    // Whether a combination counts and shows what is to be seen.
+    fn counts_seen(&self, places: &[usize], rows: &Combo<'_>, seen: &[Expr]) -> bool
+        requires long { length places.now ≡ length self.now.sets.now }
+        requires rows { rows.now ≡ rows_at self.now.sets.now (map Some places.now) }
+        ensures { result ≡ (stands (C.choices self.now.choices.now) self.now.query.now self.now.sets.now places.now
+            && are_shown (C.choices self.now.choices.now) seen.now rows.now) }
+    {
+        self.counts(places, rows) && self.are_shown(seen, rows)
+    }
+
+    // Whether the combination whose rows are all chosen counts and shows what is to be seen.
+    fn has_chosen(
+        &self,
+        alloc: Global,
+        seen: &[Expr],
+        slots: &[Option<usize>],
+    ) -> Result<bool, Memory>
+        requires long { length slots.now ≡ length self.now.sets.now }
+        requires whole { Covers [] slots.now }
+        ensures { Decides (HasOne (C.choices self.now.choices.now) self.now.query.now seen.now self.now.sets.now slots.now) result }
+    {
+        let places = chosen_places(alloc, slots)?;
+        let rows = self.rows(alloc, slots)?;
+        Ok(self.counts_seen(places.as_slice(), &rows, seen))
+    }
+
+    // Whether some combination counts that has the rows that are chosen, where a place of a step's table is chosen too.
+    #[cycle(has)]
+    fn has_with(
+        &self,
+        alloc: Global,
+        step: &Step,
+        rest: &[Step],
+        place: usize,
+        seen: &[Expr],
+        slots: &mut [Option<usize>],
+    ) -> Result<bool, Memory>
+        requires long { length slots.old ≡ length self.now.sets.now }
+        requires table { step.now.table < length slots.old }
+        requires steps { All (IsStep (C.choices self.now.choices.now) self.now.query.now self.now.sets.now) rest.now }
+        requires covers { Covers (step.now ∷ rest.now) slots.old }
+        ensures slots { OnOk result (slots.new ≡ slice_set slots.old step.now.table None) }
+        ensures one { Decides (HasOne (C.choices self.now.choices.now) self.now.query.now seen.now self.now.sets.now
+            (slice_set slots.old step.now.table (Some place))) result }
+    {
+        slots[step.table] = Some(place);
+        let found = self.has_behind(alloc, &step.tests, rest, seen, slots)?;
+        slots[step.table] = None;
+        Ok(found)
+    }
+
+    // Whether some combination counts that has the rows that are chosen, if some parts of the condition allow it.
+    #[cycle(has)]
+    fn has_behind(
+        &self,
+        alloc: Global,
+        tests: &[usize],
+        rest: &[Step],
+        seen: &[Expr],
+        slots: &mut [Option<usize>],
+    ) -> Result<bool, Memory>
+        requires long { length slots.old ≡ length self.now.sets.now }
+        requires steps { All (IsStep (C.choices self.now.choices.now) self.now.query.now self.now.sets.now) rest.now }
+        requires covers { Covers rest.now slots.old }
+        ensures slots { OnOk result (slots.new ≡ slots.old) }
+        ensures one { Decides (HasOne (C.choices self.now.choices.now) self.now.query.now seen.now self.now.sets.now slots.old) result }
+    {
+        if self.may_count(alloc, tests, slots)? {
+            self.has(alloc, rest, seen, slots)
+        } else {
+            Ok(false)
+        }
+    }
+
+    /// Whether some combination counts that has the rows that are chosen, and shows each cell that is to be seen. Wants steps
+    /// for all tables whose row is not chosen; leaves the slots as they are, but where memory is short.
+    #[cycle(has)]
+    pub fn has(
+        &self,
+        alloc: Global,
+        steps: &[Step],
+        seen: &[Expr],
+        slots: &mut [Option<usize>],
+    ) -> Result<bool, Memory>
+        requires long { length slots.old ≡ length self.now.sets.now }
+        requires steps { All (IsStep (C.choices self.now.choices.now) self.now.query.now self.now.sets.now) steps.now }
+        requires covers { Covers steps.now slots.old }
+        ensures slots { OnOk result (slots.new ≡ slots.old) }
+        ensures one { Decides (HasOne (C.choices self.now.choices.now) self.now.query.now seen.now self.now.sets.now slots.old) result }
+    {
+        let Some((step, rest)) = steps.split_first() else {
+            return self.has_chosen(alloc, seen, slots);
+        };
+        if step.table >= slots.len() {
+            return self.has(alloc, rest, seen, slots);
+        }
+        if is_chosen(slots, step.table) {
+            return self.has(alloc, rest, seen, slots);
+        }
+        for place in self.places_of(step, slots) {
+            if self.has_with(alloc, step, rest, *place, seen, slots)? {
+                return Ok(true);
+            }
+        }
+        Ok(false)
+    }
+}

@@ -1,0 +1,10 @@
+pub mod FirstLemmas
+pub mod KeyLemmas
+pub mod CommonLemmas
+pub mod LoopLemmas
+pub mod TupleLemmas
+pub mod SideLemmas
+pub mod SearchLemmas
+pub mod SharedTheorem
+pub mod HistoryLemmas
+mod SharingExamples

@@ -1,0 +1,226 @@
+-- The first places with which both sides have a combination are those of the first shared tuple.
+use Rattle.std.proofs.Common.{◌≡◌, ℕ, zero, suc, ◌<◌, Bool, true, false, ◌&&◌, List, [], ◌∷◌, map, length, refl, sym, ap, subst, ◌∙◌, Option, Some, None, option_map, replicate, arith}
+use Rattle.std.specs.Prelude.{bytes_eq, find}
+use Rattle.std.specs.List.{All, AllByRecursion, IsDistinct, list_any}
+use Rattle.std.proofs.lemmas.Bool.{and_parts}
+use Rattle.hippo_values.specs.declared.names.Name.{Name}
+use Rattle.hippo_model.specs.declared.audit.Audit.{Audit}
+use Rattle.hippo_model.specs.declared.audit.SharedRow.{SharedRow}
+use Rattle.hippo_model.specs.declared.query.Expr.{Expr}
+use Rattle.hippo_model.specs.declared.query.Masked.{Masked}
+use Rattle.hippo_model.specs.Terms.{Combination, Place}
+use Rattle.hippo_model.specs.RowSets.{KeyedRows, IsAscending, key_in}
+use Rattle.hippo_model.specs.Answers.{product, passes}
+use Rattle.hippo_model.specs.Masking.{Choices, is_guarded, masked_passes}
+use Rattle.hippo_eval.specs.Unmasked.{all_shown}
+use Rattle.hippo_eval.specs.Walks.{rows_of}
+use Rattle.hippo_join.specs.Places.{chosen, in_range, places_of}
+use Rattle.hippo_join.specs.Existence.{are_shown, HasOne}
+use Rattle.hippo_join.proofs.SlotLemmas.{Fits-open, length-in_range}
+use Rattle.hippo_shared.specs.Sharing.{common_tables, place_in, rows_named, HaveSameRows, has_tuple, query_has, audit_has, first_shared}
+use Rattle.hippo_shared.specs.Tuples.{tuple_at}
+use Rattle.hippo_shared.specs.FirstPlaces.{AreOpen, ShareAt, IsFirst}
+use Rattle.hippo_shared.proofs.CommonLemmas.{place-found, common-in-query, common-in-audit, common-distinct, common-open}
+use Rattle.hippo_shared.proofs.FirstLemmas.{find-map, find-first, find-none, first-holds}
+use Rattle.hippo_shared.proofs.SideLemmas.{one-of-product, any-of-product, with_rows, share-both, both-share, one-agrees, agrees-one, counts-parts, parts-counted, unmasked_query, passes-unmasked}
+use Rattle.hippo_shared.proofs.TupleLemmas.{AllStandIn, tuples-by-places, agrees-from-tuple, tuple-from-agrees, agrees-in-range}
+
+length_map : {A B : Type 0} (f : A → B) (xs : List A) → length (map f xs) ≡ length xs
+length_map f [] = refl
+length_map f (x ∷ xs) = ap suc (length_map f xs)
+
+from_all : {X : Type 0} (P : X → Type 0) (xs : List X) → All P xs → AllByRecursion P xs
+from_all P [] all = tt
+from_all P (x ∷ xs) all = (all 0 x (omega arith), from_all P xs (λ k d within. all (suc k) d (omega arith)))
+
+each_itself : {X Y : Type 0} (f : X → Y) (xs : List X) → AllByRecursion (λ x. f x ≡ f x) xs
+each_itself f [] = tt
+each_itself f (x ∷ xs) = (refl, each_itself f xs)
+
+all_places : (tables : List Name) (n : ℕ) → length tables ≡ n → (common : List Name) → AllStandIn tables common → All (λ place. place < n) (map (place_in tables) common)
+all_places tables n long [] all = λ k d within. absurd (omega arith)
+all_places tables n long (table ∷ common) all = by (all_places tables n long common all.1)
+  where
+    by : All (λ place. place < n) (map (place_in tables) common) → All (λ place. place < n) (place_in tables table ∷ map (place_in tables) common)
+    by later zero d within = subst (λ (m : ℕ). place_in tables table < m) long (place-found tables table all.0).0
+    by later (suc k) d within = later k d (omega arith)
+
+-- one side: it has a combination with the rows at given places exactly where it has one with their keys
+module _ (choices : Choices) (query : Masked) (seen : List Expr) (tables : List Name) (sets : List KeyedRows) (names : List Name) (others : List KeyedRows) (common : List Name)
+    (long : length sets ≡ length tables) (long_others : length others ≡ length names) (here : AllStandIn tables common) (there : AllStandIn names common) (distinct : IsDistinct bytes_eq common)
+    (same : AllByRecursion (λ table. rows_named tables sets table ≡ rows_named names others table) common)
+    (counted : Combination → Bool) (counted_is : (rows : Combination) → counted rows ≡ (is_guarded choices query rows && masked_passes choices query rows && are_shown choices seen rows)) where
+  abbrev slots : List (Option Place)
+  slots = replicate (length sets) None
+
+  abbrev tuple : List Place → List SharedRow
+  tuple given = tuple_at names others (map (place_in names) common) given
+
+  abbrev has_one_with : List SharedRow → Bool
+  has_one_with shared = list_any (λ rows. has_tuple tables sets shared rows && counted rows) (product (rows_of sets))
+
+  pub side-so : (given : List Place) → length given ≡ length common → HasOne choices query seen sets (with_rows (map (place_in tables) common) given slots) → has_one_with (tuple given) ≡ true
+  side-so given long_given one =
+      let found = one-agrees choices query seen sets (map (place_in tables) common) given slots (common-open tables common (length sets) distinct here (sym long)) (long_given ∙ sym (length_map (place_in tables) common)) one in
+      let places = found.0.places in
+      let parts = parts-counted choices query seen sets places found.0.counts in
+      let has = tuple-from-agrees tables sets names others long long_others common here there same given places found.1 in
+      any-of-product sets (λ rows. has_tuple tables sets (tuple given) rows && counted rows) places parts.0
+      (λ i. has i && (counted_is (chosen sets places) ∙ (λ j. parts.1 j && found.0.shows j)) i)
+
+  pub side-back : All (λ set. IsAscending (map (key_in set.key) set.rows)) others → (given : List Place) → in_range (map (rows_named names others) common) given ≡ true → has_one_with (tuple given) ≡ true
+      → HasOne choices query seen sets (with_rows (map (place_in tables) common) given slots)
+  side-back ascend given within has =
+      let found = one-of-product sets (λ rows. has_tuple tables sets (tuple given) rows && counted rows) has in
+      let places = found.0 in
+      let both = and_parts (has_tuple tables sets (tuple given) (chosen sets places)) (counted (chosen sets places)) found.2 in
+      let parts = and_parts (is_guarded choices query (chosen sets places) && masked_passes choices query (chosen sets places)) (are_shown choices seen (chosen sets places)) (sym (counted_is (chosen sets places)) ∙ both.1) in
+      let agree = agrees-from-tuple tables sets names others long long_others common here there same ascend given places found.1 within both.0 in
+      let one : HasOne choices query seen sets slots = record {
+        places = places;
+        fits = Fits-open places (length sets) (length-in_range sets places found.1);
+        counts = counts-parts choices query seen sets places found.1 parts.0;
+        shows = parts.1;
+      } in
+      agrees-one choices query seen sets (map (place_in tables) common) given slots one agree
+
+and_true : (b : Bool) → b ≡ ((true && b) && true)
+and_true true = refl
+and_true false = refl
+
+not_so : (b : Bool) → ¬ (b ≡ true) → b ≡ false
+not_so true wrong = absurd (wrong refl)
+not_so false wrong = refl
+
+module _ (choices : Choices) (query : Masked) (audit : Audit) (seen : List Expr) (query_sets audit_sets : List KeyedRows)
+    (long_query : length query_sets ≡ length query.tables) (long_audit : length audit_sets ≡ length audit.tables) (distinct : IsDistinct bytes_eq audit.tables)
+    (same : HaveSameRows query.tables query_sets audit.tables audit_sets) (ascend : All (λ set. IsAscending (map (key_in set.key) set.rows)) audit_sets) where
+  abbrev common : List Name
+  common = common_tables query.tables audit.tables
+
+  abbrev query_places : List Place
+  query_places = map (place_in query.tables) common
+
+  abbrev audit_places : List Place
+  audit_places = map (place_in audit.tables) common
+
+  abbrev QueryHas : List (Option Place) → Type 0
+  QueryHas slots = HasOne choices query seen query_sets slots
+
+  abbrev AuditHas : List (Option Place) → Type 0
+  AuditHas slots = HasOne choices (unmasked_query audit.cond) [] audit_sets slots
+
+  abbrev Holds : List Place → Type 0
+  Holds given = ShareAt QueryHas AuditHas query_places audit_places (replicate (length query_sets) None) (replicate (length audit_sets) None) given
+
+  abbrev shared_at : List Place → List SharedRow
+  shared_at given = tuple_at audit.tables audit_sets audit_places given
+
+  abbrev shares : List SharedRow → Bool
+  shares tuple = query_has choices query seen query_sets tuple && audit_has audit audit_sets tuple
+
+  abbrev common_sets : List KeyedRows
+  common_sets = map (rows_named audit.tables audit_sets) common
+
+  in_query : AllStandIn query.tables common
+  in_query = common-in-query query.tables audit.tables
+
+  in_audit : AllStandIn audit.tables common
+  in_audit = common-in-audit query.tables audit.tables
+
+  apart : IsDistinct bytes_eq common
+  apart = common-distinct query.tables audit.tables distinct
+
+  same_rows : AllByRecursion (λ table. rows_named query.tables query_sets table ≡ rows_named audit.tables audit_sets table) common
+  same_rows = from_all (λ table. rows_named query.tables query_sets table ≡ rows_named audit.tables audit_sets table) common same
+
+  own_rows : AllByRecursion (λ table. rows_named audit.tables audit_sets table ≡ rows_named audit.tables audit_sets table) common
+  own_rows = each_itself (rows_named audit.tables audit_sets) common
+
+  audit_counts : (rows : Combination) → passes audit.cond (all_shown rows) ≡ (is_guarded choices (unmasked_query audit.cond) rows && masked_passes choices (unmasked_query audit.cond) rows && are_shown choices [] rows)
+  audit_counts rows = sym (passes-unmasked choices audit.cond rows) ∙ and_true (masked_passes choices (unmasked_query audit.cond) rows)
+
+  so : (given : List Place) → Holds given → shares (shared_at given) ≡ true
+  so given holds =
+      let both = share-both QueryHas AuditHas query_places audit_places (replicate (length query_sets) None) (replicate (length audit_sets) None) given holds in
+      let long = both.0 ∙ length_map (place_in query.tables) common in
+      let first = side-so choices query seen query.tables query_sets audit.tables audit_sets common long_query long_audit in_query in_audit apart same_rows
+      (λ rows. is_guarded choices query rows && masked_passes choices query rows && are_shown choices seen rows) (λ rows. refl) given long both.1 in
+      let second = side-so choices (unmasked_query audit.cond) [] audit.tables audit_sets audit.tables audit_sets common long_audit long_audit in_audit in_audit apart own_rows
+      (λ rows. passes audit.cond (all_shown rows)) audit_counts given long both.2 in
+      λ i. first i && second i
+
+  within : (given : List Place) → Holds given → in_range common_sets given ≡ true
+  within given holds =
+      let both = share-both QueryHas AuditHas query_places audit_places (replicate (length query_sets) None) (replicate (length audit_sets) None) given holds in
+      let long = both.0 ∙ length_map (place_in query.tables) common ∙ sym (length_map (place_in audit.tables) common) in
+      let found = one-agrees choices (unmasked_query audit.cond) [] audit_sets audit_places given (replicate (length audit_sets) None)
+      (common-open audit.tables common (length audit_sets) apart in_audit (sym long_audit)) long both.2 in
+      agrees-in-range audit.tables audit_sets long_audit common in_audit given found.0.places (parts-counted choices (unmasked_query audit.cond) [] audit_sets found.0.places found.0.counts).0 found.1
+
+  back : (given : List Place) → in_range common_sets given ≡ true → shares (shared_at given) ≡ true → Holds given
+  back given in_sets passed =
+      let both = and_parts (query_has choices query seen query_sets (shared_at given)) (audit_has audit audit_sets (shared_at given)) passed in
+      let long = length-in_range common_sets given in_sets ∙ length_map (rows_named audit.tables audit_sets) common in
+      both-share QueryHas AuditHas query_places audit_places (replicate (length query_sets) None) (replicate (length audit_sets) None) given
+      (long ∙ sym (length_map (place_in query.tables) common)) (long ∙ sym (length_map (place_in audit.tables) common))
+      (side-back choices query seen query.tables query_sets audit.tables audit_sets common long_query long_audit in_query in_audit apart same_rows
+      (λ rows. is_guarded choices query rows && masked_passes choices query rows && are_shown choices seen rows) (λ rows. refl) ascend given in_sets both.0)
+      (side-back choices (unmasked_query audit.cond) [] audit.tables audit_sets audit.tables audit_sets common long_audit long_audit in_audit in_audit apart own_rows
+      (λ rows. passes audit.cond (all_shown rows)) audit_counts ascend given in_sets both.1)
+
+  found_is : (found : Option (List Place)) → IsFirst Holds found → find (λ given. shares (shared_at given)) (places_of common_sets) ≡ found
+  found_is (Some given) first = find-first common_sets (λ given. shares (shared_at given)) Holds within so back given first
+  found_is None none = find-none common_sets (λ given. shares (shared_at given)) (λ given in_sets. not_so (shares (shared_at given)) (λ passed. none given (back given in_sets passed)))
+
+  pub shared-is : (found : Option (List Place)) → IsFirst Holds found → option_map shared_at found ≡ first_shared choices query audit seen query_sets audit_sets
+  shared-is found first =
+      sym (ap (find shares) (tuples-by-places audit.tables audit_sets common in_audit) ∙ find-map shares shared_at (places_of common_sets) ∙ ap (option_map shared_at) (found_is found first))
+
+  pub open-query : (items : List Place) → items ≡ query_places → AreOpen items (replicate (length query_sets) None)
+  open-query items is = subst (λ (l : List Place). AreOpen l (replicate {A = Option Place} (length query_sets) None)) (sym is) (common-open query.tables common (length query_sets) apart in_query (sym long_query))
+
+  pub open-audit : (items : List Place) → items ≡ audit_places → AreOpen items (replicate (length audit_sets) None)
+  open-audit items is = subst (λ (l : List Place). AreOpen l (replicate {A = Option Place} (length audit_sets) None)) (sym is) (common-open audit.tables common (length audit_sets) apart in_audit (sym long_audit))
+
+  pub below-query : (items : List Place) → items ≡ query_places → All (λ place. place < length query_sets) items
+  below-query items is = subst (λ (l : List Place). All (λ place. place < length query_sets) l) (sym is) (all_places query.tables (length query_sets) (sym long_query) common in_query)
+
+  pub below-audit : (items : List Place) → items ≡ audit_places → All (λ place. place < length audit_sets) items
+  below-audit items is = subst (λ (l : List Place). All (λ place. place < length audit_sets) l) (sym is) (all_places audit.tables (length audit_sets) (sym long_audit) common in_audit)
+
+  pub below-names : (items : List Place) (names : List Name) → items ≡ audit_places → names ≡ audit.tables → All (λ place. place < length names) items
+  below-names items names is same_names =
+      let all : All (λ place. place < length audit.tables) audit_places = all_places audit.tables (length audit.tables) refl common in_audit in
+      let these : All (λ place. place < length audit.tables) items = subst (λ (l : List Place). All (λ place. place < length audit.tables) l) (sym is) all in
+      subst (λ (l : List Name). All (λ place. place < length l) items) (sym same_names) these
+
+  -- what a search answers, over the query that stands for the audit
+  module _ {V : Type 0} (items : V → List Place) (found : Option V) (unmasked : Masked) (these : List Expr) (query_items audit_items : List Place) (is_unmasked : unmasked ≡ unmasked_query audit.cond) (is_seen : these ≡ seen)
+      (is_query : query_items ≡ query_places) (is_audit : audit_items ≡ audit_places)
+      (told : IsFirst (ShareAt (HasOne choices query these query_sets) (HasOne choices unmasked [] audit_sets) query_items audit_items (replicate (length query_sets) None) (replicate (length audit_sets) None)) (option_map items found)) where
+    told_here : IsFirst Holds (option_map items found)
+    told_here =
+        let open_query : List (Option Place) = replicate (length query_sets) None in
+        let open_audit : List (Option Place) = replicate (length audit_sets) None in
+        let a = subst (λ (m : Masked). IsFirst (ShareAt (HasOne choices query these query_sets) (HasOne choices m [] audit_sets) query_items audit_items open_query open_audit) (option_map items found)) is_unmasked told in
+        let b = subst (λ (e : List Expr). IsFirst (ShareAt (HasOne choices query e query_sets) AuditHas query_items audit_items open_query open_audit) (option_map items found)) is_seen a in
+        let d = subst (λ (l : List Place). IsFirst (ShareAt QueryHas AuditHas l audit_items open_query open_audit) (option_map items found)) is_query b in
+        subst (λ (l : List Place). IsFirst (ShareAt QueryHas AuditHas query_places l open_query open_audit) (option_map items found)) is_audit d
+
+    found_some : (value : V) → found ≡ Some value → IsFirst Holds (Some (items value))
+    found_some value at = subst (λ (o : Option V). IsFirst Holds (option_map items o)) at told_here
+
+    pub found-long : (value : V) → found ≡ Some value → length (items value) ≡ length audit_items
+    found-long value at =
+        let both = share-both QueryHas AuditHas query_places audit_places (replicate (length query_sets) None) (replicate (length audit_sets) None) (items value) (first-holds Holds (items value) (found_some value at)) in
+        both.0 ∙ length_map (place_in query.tables) common ∙ sym (length_map (place_in audit.tables) common) ∙ sym (ap length is_audit)
+
+    pub some-shared : (value : V) → found ≡ Some value → (tuple : List SharedRow) → tuple ≡ tuple_at audit.tables audit_sets audit_items (items value) → Some tuple ≡ first_shared choices query audit seen query_sets audit_sets
+    some-shared value at tuple is =
+        ap Some (is ∙ ap (λ (l : List Place). tuple_at audit.tables audit_sets l (items value)) is_audit) ∙ shared-is (Some (items value)) (found_some value at)
+
+    pub none-shared : found ≡ None → None ≡ first_shared choices query audit seen query_sets audit_sets
+    none-shared at =
+        let none : IsFirst Holds None = subst (λ (o : Option V). IsFirst Holds (option_map items o)) at told_here in
+        shared-is None none

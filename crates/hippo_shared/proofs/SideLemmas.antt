@@ -1,0 +1,146 @@
+-- Whether a side has a combination with given rows of the common tables.
+use Rattle.std.proofs.Common.{◌≡◌, zero, suc, Bool, true, false, ◌&&◌, ◌||◌, List, [], ◌∷◌, map, length, refl, sym, ap, ◌∙◌, Option, Some, None, unwrap_or, arith}
+use Rattle.std.specs.Prelude.{slice_get, slice_set, is_some}
+use Rattle.std.specs.List.{list_any}
+use Rattle.std.specs.Ordering.{is_eq, nat_cmp}
+use Rattle.std.specs.Cmp.{eq_by_cmp_equiv}
+use Rattle.std.specs.Cmp.Lexicographic.{slice_cmp}
+use Rattle.std.proofs.lemmas.Bool.{and_parts, false≢true}
+use Rattle.std.proofs.lemmas.Cmp.{nat_list_cmp_total}
+use Rattle.hippo_model.specs.declared.query.Expr.{Expr}
+use Rattle.hippo_model.specs.declared.query.Masked.{Masked}
+use Rattle.hippo_model.specs.declared.query.CondOf.{CondOf}
+use Rattle.hippo_model.specs.declared.query.Operand.{Operand}
+use Rattle.hippo_values.specs.declared.values.Value.{Value}
+use Rattle.hippo_model.specs.Terms.{Combination, Place}
+use Rattle.hippo_model.specs.RowSets.{KeyedRows}
+use Rattle.hippo_model.specs.Conditions.{is_true, truth}
+use Rattle.hippo_model.specs.Answers.{product, passes}
+use Rattle.hippo_model.specs.Masking.{Choices, is_guarded, masked_passes}
+use Rattle.hippo_laws.proofs.TruthWithChange.{agrees}
+use Rattle.hippo_eval.specs.MaskedTruth.{masked_value}
+use Rattle.hippo_eval.specs.Unmasked.{unmasked, unmasked_condition, all_shown}
+use Rattle.hippo_eval.specs.Walks.{rows_of}
+use Rattle.hippo_eval.proofs.UnmaskedLemmas.{value_is}
+use Rattle.hippo_join.specs.Places.{slot_at, chosen, in_range, places_of, stays, stands}
+use Rattle.hippo_join.specs.Known.{is_chosen}
+use Rattle.hippo_join.specs.Existence.{HasOne}
+use Rattle.hippo_join.specs.Finding.{has_places}
+use Rattle.hippo_join.proofs.ProductLemmas.{product-rows, has-places_of}
+use Rattle.hippo_join.proofs.FoundLemmas.{same_places}
+use Rattle.hippo_join.proofs.SlotLemmas.{Fits-at, Fits-set}
+use Rattle.hippo_join.proofs.ExistenceLemmas.{Fits-unset}
+use Rattle.hippo_shared.specs.FirstPlaces.{AreOpen, ShareAt}
+use Rattle.hippo_shared.proofs.TupleLemmas.{AgreeAt}
+
+-- ---- a combination of the product that passes a test
+list_any-map : {A B : Type 0} (test : B → Bool) (f : A → B) (xs : List A) → list_any test (map f xs) ≡ list_any (λ x. test (f x)) xs
+list_any-map test f [] = refl
+list_any-map test f (x ∷ xs) = ap (λ b. test (f x) || b) (list_any-map test f xs)
+
+or_right : (a b : Bool) → b ≡ true → (a || b) ≡ true
+or_right true b e = refl
+or_right false b e = e
+
+one_of : (test : List Place → Bool) (some : List (List Place)) → list_any test some ≡ true → (places : List Place) × (has_places places some ≡ true) × (test places ≡ true)
+one_of test [] any = absurd (false≢true any)
+one_of test (first ∷ some) any = by (test first) refl any (one_of test some)
+  where
+    by : (b : Bool) → test first ≡ b → (b || list_any test some) ≡ true → (list_any test some ≡ true → (places : List Place) × (has_places places some ≡ true) × (test places ≡ true))
+        → (places : List Place) × (has_places places (first ∷ some) ≡ true) × (test places ≡ true)
+    by true e any later = (first, ap (λ b. b || has_places first some) ((eq_by_cmp_equiv nat_list_cmp_total).refl first), e)
+    by false e any later = let found = later any in (found.0, or_right (is_eq (slice_cmp nat_cmp found.0 first)) (has_places found.0 some) found.1, found.2)
+
+any_by : (test : List Place → Bool) (some : List (List Place)) (places : List Place) → has_places places some ≡ true → test places ≡ true → list_any test some ≡ true
+any_by test [] places has good = absurd (false≢true has)
+any_by test (first ∷ some) places has good = by (is_eq (slice_cmp nat_cmp places first)) refl has (λ later. any_by test some places later good)
+  where
+    by : (b : Bool) → is_eq (slice_cmp nat_cmp places first) ≡ b → (b || has_places places some) ≡ true → (has_places places some ≡ true → list_any test some ≡ true) → (test first || list_any test some) ≡ true
+    by true e has later = ap (λ b. b || list_any test some) (ap test (sym (same_places places first e)) ∙ good)
+    by false e has later = or_right (test first) (list_any test some) (later has)
+
+pub one-of-product : (sets : List KeyedRows) (test : Combination → Bool) → list_any test (product (rows_of sets)) ≡ true → (places : List Place) × (in_range sets places ≡ true) × (test (chosen sets places) ≡ true)
+one-of-product sets test any =
+    let found = one_of (λ places. test (chosen sets places)) (places_of sets) (sym (ap (list_any test) (product-rows sets) ∙ list_any-map test (chosen sets) (places_of sets)) ∙ any) in
+    (found.0, sym (has-places_of sets found.0) ∙ found.1, found.2)
+
+pub any-of-product : (sets : List KeyedRows) (test : Combination → Bool) (places : List Place) → in_range sets places ≡ true → test (chosen sets places) ≡ true → list_any test (product (rows_of sets)) ≡ true
+any-of-product sets test places within good =
+    ap (list_any test) (product-rows sets) ∙ list_any-map test (chosen sets) (places_of sets)
+    ∙ any_by (λ places. test (chosen sets places)) (places_of sets) places (has-places_of sets places ∙ within) good
+
+-- ---- rows of the common tables that are chosen
+abbrev pub with_rows : List Place → List Place → List (Option Place) → List (Option Place)
+with_rows [] given slots = slots
+with_rows (table ∷ tables) [] slots = slots
+with_rows (table ∷ tables) (place ∷ given) slots = with_rows tables given (slice_set slots table (Some place))
+
+module _ (Query Audit : List (Option Place) → Type 0) where
+  pub share-both : (tables others : List Place) (query audit : List (Option Place)) (given : List Place) → ShareAt Query Audit tables others query audit given
+      → (length given ≡ length tables) × Query (with_rows tables given query) × Audit (with_rows others given audit)
+  share-both [] [] query audit [] share = (refl, share.0, share.1)
+  share-both [] [] query audit (place ∷ given) share = absurd share
+  share-both [] (other ∷ others) query audit given share = absurd share
+  share-both (table ∷ tables) [] query audit given share = absurd share
+  share-both (table ∷ tables) (other ∷ others) query audit [] share = absurd share
+  share-both (table ∷ tables) (other ∷ others) query audit (place ∷ given) share =
+      let later = share-both tables others (slice_set query table (Some place)) (slice_set audit other (Some place)) given share in
+      (ap suc later.0, later.1, later.2)
+
+  pub both-share : (tables others : List Place) (query audit : List (Option Place)) (given : List Place) → length given ≡ length tables → length given ≡ length others
+      → Query (with_rows tables given query) → Audit (with_rows others given audit) → ShareAt Query Audit tables others query audit given
+  both-share [] [] query audit [] long same q a = (q, a)
+  both-share [] [] query audit (place ∷ given) long same q a = absurd (omega arith)
+  both-share [] (other ∷ others) query audit [] long same q a = absurd (omega arith)
+  both-share [] (other ∷ others) query audit (place ∷ given) long same q a = absurd (omega arith)
+  both-share (table ∷ tables) [] query audit [] long same q a = absurd (omega arith)
+  both-share (table ∷ tables) [] query audit (place ∷ given) long same q a = absurd (omega arith)
+  both-share (table ∷ tables) (other ∷ others) query audit [] long same q a = absurd (omega arith)
+  both-share (table ∷ tables) (other ∷ others) query audit (place ∷ given) long same q a =
+      both-share tables others (slice_set query table (Some place)) (slice_set audit other (Some place)) given (omega arith) (omega arith) q a
+
+pub set-here : (slots : List (Option Place)) (table : Place) (slot before : Option Place) → slice_get slots table ≡ Some before → slice_get (slice_set slots table slot) table ≡ Some slot
+set-here [] table slot before at = absurd cc
+set-here (first ∷ slots) zero slot before at = refl
+set-here (first ∷ slots) (suc table) slot before at = set-here slots table slot before at
+
+module _ (choices : Choices) (query : Masked) (seen : List Expr) (sets : List KeyedRows) where
+  abbrev Has : List (Option Place) → Type 0
+  Has slots = HasOne choices query seen sets slots
+
+  pub one-agrees : (tables given : List Place) (slots : List (Option Place)) → AreOpen tables slots → length given ≡ length tables → Has (with_rows tables given slots) → (one : Has slots) × AgreeAt tables given one.places
+  one-agrees [] [] slots free long one = (one, tt)
+  one-agrees [] (place ∷ given) slots free long one = absurd (omega arith)
+  one-agrees (table ∷ tables) [] slots free long one = absurd (omega arith)
+  one-agrees (table ∷ tables) (place ∷ given) slots free long one =
+      let more = slice_set slots table (Some place) in
+      let later = one-agrees tables given more (free.1 place) (omega arith) one in
+      let here : slot_at more table ≡ Some place = ap (λ (o : Option (Option Place)). unwrap_or o None) (set-here slots table (Some place) None free.0) in
+      let unchosen : is_chosen slots table ≡ false = ap (λ (o : Option (Option Place)). is_some (unwrap_or o None)) free.0 in
+      let one_less : Has slots = record { places = later.0.places; fits = Fits-unset slots later.0.places table place unchosen later.0.fits; counts = later.0.counts; shows = later.0.shows } in
+      (one_less, (Fits-at more later.0.places table place later.0.fits here, later.1))
+
+  pub agrees-one : (tables given : List Place) (slots : List (Option Place)) (one : Has slots) → AgreeAt tables given one.places → Has (with_rows tables given slots)
+  agrees-one [] [] slots one agree = one
+  agrees-one [] (place ∷ given) slots one agree = absurd agree
+  agrees-one (table ∷ tables) [] slots one agree = absurd agree
+  agrees-one (table ∷ tables) (place ∷ given) slots one agree =
+      let one_more : Has (slice_set slots table (Some place)) = record { places = one.places; fits = Fits-set slots one.places table place one.fits agree.0; counts = one.counts; shows = one.shows } in
+      agrees-one tables given (slice_set slots table (Some place)) one_more agree.1
+
+  -- what counts for a query
+  pub counts-parts : (places : List Place) → in_range sets places ≡ true → (is_guarded choices query (chosen sets places) && masked_passes choices query (chosen sets places)) ≡ true → stands choices query sets places ≡ true
+  unfolding stays
+  counts-parts places within counts = λ i. within i && counts i
+
+  pub parts-counted : (places : List Place) → stands choices query sets places ≡ true → (in_range sets places ≡ true) × ((is_guarded choices query (chosen sets places) && masked_passes choices query (chosen sets places)) ≡ true)
+  unfolding stays
+  parts-counted places counts = and_parts (in_range sets places) (is_guarded choices query (chosen sets places) && masked_passes choices query (chosen sets places)) counts
+
+-- an audit's condition, as that of a query without guards
+abbrev pub unmasked_query : CondOf Operand → Masked
+unmasked_query condition = record { items = []; tables = []; guards = []; cond = unmasked_condition condition }
+
+pub passes-unmasked : (choices : Choices) (condition : CondOf Operand) (rows : Combination) → masked_passes choices (unmasked_query condition) rows ≡ passes condition (all_shown rows)
+passes-unmasked choices condition rows =
+    ap is_true (agrees unmasked (masked_value choices rows) condition ∙ ap (λ (value : Operand → Value). truth value condition) (λ i operand. value_is choices rows operand i))

@@ -1,0 +1,44 @@
+-- The first places of the tables that two sides have in common.
+use Rattle.std.specs.Prelude.{◌≡◌, ◌<◌, List, [], ◌∷◌, length, map, Option, Some, None, slice_get, slice_set}
+use Rattle.std.specs.List.{All, Contains}
+use Rattle.hippo_model.specs.declared.query.Masked.{Masked}
+use Rattle.hippo_model.specs.Masking.{Choices}
+use Rattle.hippo_model.specs.RowSets.{KeyedRows}
+use Rattle.hippo_model.specs.Terms.{Place}
+use Rattle.hippo_join.specs.declared.steps.Step.{Step}
+use Rattle.hippo_join.specs.Steps.{IsStep}
+
+-- tables whose rows are not chosen, whatever rows of the others are
+abbrev pub AreOpen : List Place → List (Option Place) → Type 0
+AreOpen [] slots = Unit {0}
+AreOpen (table ∷ tables) slots =
+    (slice_get slots table ≡ Some None) × ((place : Place) → AreOpen tables (slice_set slots table (Some place)))
+
+-- what holds of the rows that are chosen on each side holds with these places of the common tables, too
+abbrev pub ShareAt :
+    (List (Option Place) → Type 0) → (List (Option Place) → Type 0) → List Place → List Place
+    → List (Option Place) → List (Option Place) → List Place → Type 0
+ShareAt query_has audit_has [] [] query audit [] = query_has query × audit_has audit
+ShareAt query_has audit_has [] [] query audit (place ∷ places) = ⊥
+ShareAt query_has audit_has [] (other ∷ others) query audit places = ⊥
+ShareAt query_has audit_has (table ∷ tables) [] query audit places = ⊥
+ShareAt query_has audit_has (table ∷ tables) (other ∷ others) query audit [] = ⊥
+ShareAt query_has audit_has (table ∷ tables) (other ∷ others) query audit (place ∷ places) =
+    ShareAt query_has audit_has tables others (slice_set query table (Some place)) (slice_set audit other (Some place)) places
+
+-- places with which something holds, and with none before them
+abbrev pub AreFirst : (List Place → Type 0) → List Place → Type 0
+AreFirst holds [] = holds []
+AreFirst holds (place ∷ places) =
+    AreFirst (λ others. holds (place ∷ others)) places
+    × ((lower : Place) → lower < place → (others : List Place) → ¬ holds (lower ∷ others))
+
+-- the first places with which something holds; or it holds with none
+abbrev pub IsFirst : (List Place → Type 0) → Option (List Place) → Type 0
+IsFirst holds (Some places) = AreFirst holds places
+IsFirst holds None = (places : List Place) → ¬ holds places
+
+-- steps of all tables
+pub record AreWhole (choices : Choices) (query : Masked) (sets : List KeyedRows) (steps : List Step) : Type 0 where
+  pub each : All (IsStep choices query sets) steps
+  pub all : (table : Place) → table < length sets → Contains (map (λ step. step.table) steps) table

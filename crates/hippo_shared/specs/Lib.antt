@@ -1,0 +1,4 @@
+pub mod Sharing
+pub mod FirstPlaces
+pub mod Tuples
+pub mod HistoryLaws
