@@ -1,1 +1,2 @@
+mod StateExamples
 pub mod AnswerLemmas

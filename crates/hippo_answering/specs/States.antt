@@ -1,4 +1,4 @@
--- The state of a history that answers are made of.
+-- The state of a history, of which answers are made.
 use Rattle.std.specs.Prelude.{◌≡◌, ℕ, Bool, true, false, List, length, filter_map, is_some}
 use Rattle.std.specs.List.{list_all}
 use Rattle.hippo_values.specs.declared.moments.Moment.{Moment}
@@ -20,27 +20,28 @@ use Rattle.hippo_tables.specs.Standing as standing
 abbrev pub context_of : Pair → Moment → Context
 context_of pair moment = record { purpose = pair.purpose; recipient = pair.recipient; moment = moment }
 
--- the schemas of tables, in their order
-abbrev pub schemas_at : History → List Name → List Schema
-schemas_at history names = filter_map (schema_at history) names
-
+-- whether each of some tables is created
 abbrev pub are_created : History → List Name → Bool
 are_created history names = list_all (λ name. is_some (schema_at history name)) names
 
--- some tables are among those that are kept: they are created in a history that these stand for
-pub record Keeps (tables : Tables) (names : List Name) : Type 0 where
+-- the schemas of tables that are created, in the order of their names
+abbrev pub schemas_at : History → List Name → List Schema
+schemas_at history names = filter_map (schema_at history) names
+
+-- tables with these names are kept: they are created in some history that what is kept stands for
+pub record AreKept (tables : Tables) (names : List Name) : Type 0 where
   pub history : History
   pub stands : standing.StandsFor tables history
   pub created : are_created history names ≡ true
 
 -- a book and tables stand for a valid history of so many entries
-pub record StandFor (meaning : Meaning) (policy : PolicyBook) (kept : Tables) (count : ℕ) (history : History) : Type 0 where
+pub record AreStateOf (meaning : Meaning) (policy : PolicyBook) (kept : Tables) (count : ℕ) (history : History) : Type 0 where
   pub valid : is_valid meaning history ≡ true
   pub book : books.StandsFor policy history
   pub tables : standing.StandsFor kept history
   pub entries : count ≡ length history
 
--- whether a query answers one row for each group
+-- whether a query answers a row for each group
 abbrev pub is_grouped : Form → Bool
 is_grouped (Grouped shape) = true
 is_grouped form = false

@@ -1,16 +1,16 @@
 //! The answer of a query over the state of a history.
-ghost use Rattle.std.specs.Prelude.{◌≡◌, false, take, length, map, IfOk};
+ghost use Rattle.std.specs.Prelude.{◌≡◌, false, take, length, IfOk};
 ghost use Rattle.hippo_model.specs.Terms.{History, Meaning};
 ghost use Rattle.hippo_model.specs.Forms.{formed};
 ghost use Rattle.hippo_model.specs.Answers.{answer};
 ghost use Rattle.hippo_model.specs.Masking.{masked_answer};
-ghost use Rattle.hippo_policy.specs.Gates.{table_rules};
 ghost use Rattle.hippo_policy.specs.Books.{StandsFor as BookStandsFor};
 ghost use Rattle.hippo_tables.specs.Standing.{StandsFor as TablesStandFor};
 ghost use Rattle.hippo_eval.specs.Walks.{rows_of};
 ghost use Rattle.hippo_eval.specs.Answering.{IsAnswered};
 ghost use Rattle.hippo_rewrite.specs.Rewriting.{rewritten};
-ghost use Rattle.hippo_answering.specs.States.{Keeps, StandFor, context_of, schemas_at, is_grouped};
+ghost use Rattle.hippo_rewrite.specs.RewritingLaws.{rules_at};
+ghost use Rattle.hippo_answering.specs.States.{AreKept, AreStateOf, context_of, schemas_at, is_grouped};
 
 use crate::asked::{schemas_of, sets_of, sizes_of};
 use hippo_distinct::distinct;
@@ -33,19 +33,12 @@ fn rules_of(
     pair: &Pair,
     names: &Names,
 ) -> Result<RulesInForce, Memory>
-    requires { Keeps tables.now names.now }
+    requires { AreKept tables.now names.now }
     ensures { IfOk result (λ rules. (history : History) → BookStandsFor book.now history → TablesStandFor tables.now history
-        → rules ≡ map (table_rules (take n history) (context_of pair.now moment)) (schemas_at history names.now)) }
+        → rules ≡ rules_at (take n history) (context_of pair.now moment) (schemas_at history names.now)) }
 {
     let schemas = schemas_of(alloc, tables, names)?;
-    book.rules_in_force(
-        alloc,
-        n,
-        moment,
-        &pair.purpose,
-        &pair.recipient,
-        &schemas,
-    )
+    book.rules_in_force(alloc, n, moment, &pair.purpose, &pair.recipient, &schemas)
 }
 
 // The query with these rules written into it.
@@ -58,10 +51,10 @@ fn masked_query(
     pair: &Pair,
     query: &Query,
 ) -> Result<Masked, Memory>
-    requires { Keeps tables.now query.now.tables }
+    requires { AreKept tables.now query.now.tables }
     ensures tables { IfOk result (λ masked. masked.tables ≡ query.now.tables) }
     ensures rules { IfOk result (λ masked. (history : History) → BookStandsFor book.now history → TablesStandFor tables.now history
-        → masked ≡ rewritten (map (table_rules (take n history) (context_of pair.now moment)) (schemas_at history query.now.tables)) query.now) }
+        → masked ≡ rewritten (rules_at (take n history) (context_of pair.now moment) (schemas_at history query.now.tables)) query.now) }
 {
     let rules = rules_of(alloc, book, tables, n, moment, pair, &query.tables)?;
     rewrite(alloc, query, &rules)
@@ -102,10 +95,10 @@ fn formed<C: ChoiceView>(
     }
 }
 
-/// The answer of a query for a purpose and recipient at a moment, over the views of its tables, by the book and the tables
-/// of a history with `n` entries: the rules in force are written into the query (LeFevre and others, Limiting Disclosure in
-/// Hippocratic Databases, VLDB 2004), which is then answered over the rows as they are. TooManyRows exactly where the
-/// answer has more than 100,000 rows. Wants tables that are created, and a query without GROUP BY.
+/// The answer of a query for a purpose and recipient at a moment: what it answers over the views of its tables, after the
+/// `n` entries that the book and the tables stand for. The rules in force are written into the query (LeFevre and others,
+/// Limiting Disclosure in Hippocratic Databases, VLDB 2004), and it is answered over the rows as they are. Wants a query
+/// whose tables are created, and which has no GROUP BY. TooManyRows exactly where the answer has more than 100,000 rows.
 pub fn answer(
     alloc: Global,
     book: &PolicyBook,
@@ -115,9 +108,9 @@ pub fn answer(
     pair: &Pair,
     query: &Query,
 ) -> Result<Answer, EvalFault>
-    requires tables { Keeps tables.now query.now.tables }
+    requires tables { AreKept tables.now query.now.tables }
     requires form { is_grouped query.now.form ≡ false }
-    ensures { (meaning : Meaning) (history : History) → StandFor meaning book.now tables.now n history
+    ensures { (meaning : Meaning) (history : History) → AreStateOf meaning book.now tables.now n history
         → IsAnswered ANSWER_LIMIT (answer history (context_of pair.now moment) query.now) result }
 {
     let sets = sets_of(alloc, tables, &query.tables)?;

@@ -4,7 +4,7 @@ ghost use Rattle.hippo_model.specs.Terms.{History};
 ghost use Rattle.hippo_model.specs.Histories.{schema_at};
 ghost use Rattle.hippo_model.specs.RowSets.{kept_at};
 ghost use Rattle.hippo_tables.specs.Standing.{StandsFor};
-ghost use Rattle.hippo_answering.specs.States.{Keeps, schemas_at};
+ghost use Rattle.hippo_answering.specs.States.{AreKept, schemas_at};
 
 use hippo_model::{Lent, Names, RowSet, Schema, Schemas, Sets, Sizes};
 use hippo_tables::Tables;
@@ -12,14 +12,14 @@ use hippo_values::{Duplicate, Memory, Name, Sequence};
 use std::alloc::Global;
 
 fn schema_of<'a>(tables: &'a Tables, name: &Name) -> &'a Schema
-    requires { Keeps tables.now (name.now ∷ []) }
+    requires { AreKept tables.now (name.now ∷ []) }
     ensures { (history : History) → StandsFor tables.now history → schema_at history name.now ≡ Some result.now }
 {
     tables.schema(name).unwrap()
 }
 
 fn rows_of<'a>(tables: &'a Tables, name: &Name) -> &'a RowSet
-    requires { Keeps tables.now (name.now ∷ []) }
+    requires { AreKept tables.now (name.now ∷ []) }
     ensures { (history : History) → StandsFor tables.now history
         → option_map (λ schema. kept_at schema history) (schema_at history name.now) ≡ Some result.now }
 {
@@ -28,7 +28,7 @@ fn rows_of<'a>(tables: &'a Tables, name: &Name) -> &'a RowSet
 
 /// Copies of the schemas of tables that are there.
 pub fn schemas_of(alloc: Global, tables: &Tables, names: &Names) -> Result<Schemas, Memory>
-    requires { Keeps tables.now names.now }
+    requires { AreKept tables.now names.now }
     ensures { IfOk result (λ schemas. (history : History) → StandsFor tables.now history
         → schemas ≡ schemas_at history names.now) }
 {
@@ -41,7 +41,7 @@ pub fn schemas_of(alloc: Global, tables: &Tables, names: &Names) -> Result<Schem
 
 /// The rows of tables that are there.
 pub fn sets_of<'a>(alloc: Global, tables: &'a Tables, names: &Names) -> Result<Sets<'a>, Memory>
-    requires { Keeps tables.now names.now }
+    requires { AreKept tables.now names.now }
     ensures each { IfOk result (λ sets. length sets ≡ length names.now) }
     ensures rows { IfOk result (λ sets. (history : History) → StandsFor tables.now history
         → sets ≡ map (λ schema. kept_at schema history) (schemas_at history names.now)) }
