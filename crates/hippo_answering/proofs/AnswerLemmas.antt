@@ -1,14 +1,10 @@
 -- What is made of the state of a history is the answer.
-use Rattle.std.proofs.Common.{◌≡◌, ◌∙◌, sym, refl, ap, arith, ℕ, zero, suc, ℤ, ◌<◌, Bool, true, ◌&&◌, List, [], ◌∷◌, map, length, take, Option, None, Some, option_map}
-use Rattle.std.specs.Prelude.{is_some, slice_get}
+use Rattle.std.proofs.Common.{◌≡◌, ◌∙◌, sym, refl, ap, arith, ℕ, ℤ, true, List, [], ◌∷◌, map, take, Option, None, Some, option_map}
+use Rattle.std.specs.Prelude.{is_some}
 use Rattle.std.specs.List.{list_all, cons_option}
-use Rattle.std.proofs.lemmas.Bool.{and_parts, and_from}
+use Rattle.std.proofs.lemmas.Bool.{and_parts}
 use Rattle.std.proofs.lemmas.List.{take_all}
-use Rattle.hippo_values.specs.declared.moments.Moment.{Moment}
 use Rattle.hippo_values.specs.declared.names.Name.{Name}
-use Rattle.hippo_model.specs.declared.audit.Pair.{Pair}
-use Rattle.hippo_model.specs.declared.born_row.BornRow.{BornRow}
-use Rattle.hippo_model.specs.declared.policy.TableRules.{TableRules}
 use Rattle.hippo_model.specs.declared.query.Masked.{Masked}
 use Rattle.hippo_model.specs.declared.query.Query.{Query}
 use Rattle.hippo_model.specs.declared.schema.Schema.{Schema}
@@ -24,12 +20,12 @@ use Rattle.hippo_model.specs.Masking.{Choices, masked_answer}
 use Rattle.hippo_eval.specs.Walks.{rows_of}
 use Rattle.hippo_policy.specs.declared.book.PolicyBook.{PolicyBook}
 use Rattle.hippo_tables.specs.declared.tables.Tables.{Tables}
-use Rattle.hippo_tables.specs.KeptTables.{KeptTable, table_at}
-use Rattle.hippo_tables.specs.Standing.{StandsFor, kept_table}
+use Rattle.hippo_tables.specs.KeptTables.{table_at}
+use Rattle.hippo_tables.specs.Standing.{StandsFor}
 use Rattle.hippo_rewrite.specs.Rewriting.{rewritten}
 use Rattle.hippo_rewrite.specs.RewritingLaws.{HasTables, rules_at, tables_at}
 use Rattle.hippo_rewrite.proofs.RulesInForce.{rewritten_answer-raw}
-use Rattle.hippo_answering.specs.States.{AreKept, AreStateOf, are_created, context_of, schemas_at}
+use Rattle.hippo_answering.specs.States.{AreKept, AreStateOf, are_created, schemas_at}
 
 is_some-map : {A B : Type 0} (f : A → B) (option : Option A) → is_some (option_map f option) ≡ is_some option
 is_some-map f None = refl

@@ -35,7 +35,8 @@ pub record AreKept (tables : Tables) (names : List Name) : Type 0 where
   pub created : are_created history names ≡ true
 
 -- a book and tables stand for a valid history of so many entries
-pub record AreStateOf (meaning : Meaning) (policy : PolicyBook) (kept : Tables) (count : ℕ) (history : History) : Type 0 where
+pub record AreStateOf
+    (meaning : Meaning) (policy : PolicyBook) (kept : Tables) (count : ℕ) (history : History) : Type 0 where
   pub valid : is_valid meaning history ≡ true
   pub book : books.StandsFor policy history
   pub tables : standing.StandsFor kept history

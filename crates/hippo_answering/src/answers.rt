@@ -34,7 +34,8 @@ fn rules_of(
     names: &Names,
 ) -> Result<RulesInForce, Memory>
     requires { AreKept tables.now names.now }
-    ensures { IfOk result (λ rules. (history : History) → BookStandsFor book.now history → TablesStandFor tables.now history
+    ensures { IfOk result (λ rules. (history : History)
+        → BookStandsFor book.now history → TablesStandFor tables.now history
         → rules ≡ rules_at (take n history) (context_of pair.now moment) (schemas_at history names.now)) }
 {
     let schemas = schemas_of(alloc, tables, names)?;
@@ -53,8 +54,10 @@ fn masked_query(
 ) -> Result<Masked, Memory>
     requires { AreKept tables.now query.now.tables }
     ensures tables { IfOk result (λ masked. masked.tables ≡ query.now.tables) }
-    ensures rules { IfOk result (λ masked. (history : History) → BookStandsFor book.now history → TablesStandFor tables.now history
-        → masked ≡ rewritten (rules_at (take n history) (context_of pair.now moment) (schemas_at history query.now.tables)) query.now) }
+    ensures rules { IfOk result (λ masked. (history : History)
+        → BookStandsFor book.now history → TablesStandFor tables.now history
+        → let rules = rules_at (take n history) (context_of pair.now moment) (schemas_at history query.now.tables) in
+        masked ≡ rewritten rules query.now) }
 {
     let rules = rules_of(alloc, book, tables, n, moment, pair, &query.tables)?;
     rewrite(alloc, query, &rules)
@@ -95,10 +98,11 @@ fn formed<C: ChoiceView>(
     }
 }
 
-/// The answer of a query for a purpose and recipient at a moment: what it answers over the views of its tables, after the
-/// `n` entries that the book and the tables stand for. The rules in force are written into the query (LeFevre and others,
-/// Limiting Disclosure in Hippocratic Databases, VLDB 2004), and it is answered over the rows as they are. Wants a query
-/// whose tables are created, and which has no GROUP BY. TooManyRows exactly where the answer has more than 100,000 rows.
+/// The answer of a query for a purpose and recipient at a moment: what it answers over the views of its tables, after
+/// the `n` entries that the book and the tables stand for. The rules in force are written into the query (LeFevre and
+/// others, Limiting Disclosure in Hippocratic Databases, VLDB 2004), and it is answered over the rows as they are. Wants
+/// a query whose tables are created, and which has no GROUP BY. TooManyRows exactly where the answer has more than
+/// 100,000 rows.
 pub fn answer(
     alloc: Global,
     book: &PolicyBook,

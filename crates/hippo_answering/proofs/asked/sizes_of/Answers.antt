@@ -1,5 +1,5 @@
 -- One size more.
-use Rattle.std.proofs.Common.{ℕ, List, [], ◌∷◌, ◌++◌, ◌∙◌, ap, sym, length, map}
+use Rattle.std.proofs.Common.{[], ◌∷◌, ◌++◌, ◌∙◌, ap, sym, length, map}
 use Rattle.std.proofs.lemmas.List.{map-append}
 use Rattle.hippo_model.specs.RowSets.{KeyedRows}
 use Rattle.hippo_eval.proofs.WalkLemmas.{take_row}
