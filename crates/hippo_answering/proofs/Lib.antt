@@ -1,0 +1,2 @@
+mod StateExamples
+pub mod AnswerLemmas

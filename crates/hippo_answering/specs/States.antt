@@ -1,0 +1,48 @@
+-- The state of a history, of which answers are made.
+use Rattle.std.specs.Prelude.{◌≡◌, ℕ, Bool, true, false, List, length, filter_map, is_some}
+use Rattle.std.specs.List.{list_all}
+use Rattle.hippo_values.specs.declared.moments.Moment.{Moment}
+use Rattle.hippo_values.specs.declared.names.Name.{Name}
+use Rattle.hippo_model.specs.declared.audit.Pair.{Pair}
+use Rattle.hippo_model.specs.declared.query.Form.{Form}
+use Rattle.hippo_model.specs.declared.query.Form.TheVariants.{Grouped}
+use Rattle.hippo_model.specs.declared.schema.Schema.{Schema}
+use Rattle.hippo_model.specs.Terms.{History, Meaning}
+use Rattle.hippo_model.specs.Histories.{schema_at}
+use Rattle.hippo_model.specs.Verdicts.{Context}
+use Rattle.hippo_model.specs.Validity.{is_valid}
+use Rattle.hippo_policy.specs.declared.book.PolicyBook.{PolicyBook}
+use Rattle.hippo_policy.specs.Books as books
+use Rattle.hippo_tables.specs.declared.tables.Tables.{Tables}
+use Rattle.hippo_tables.specs.Standing as standing
+
+-- the context of a pair at a moment
+abbrev pub context_of : Pair → Moment → Context
+context_of pair moment = record { purpose = pair.purpose; recipient = pair.recipient; moment = moment }
+
+-- whether each of some tables is created
+abbrev pub are_created : History → List Name → Bool
+are_created history names = list_all (λ name. is_some (schema_at history name)) names
+
+-- the schemas of tables that are created, in the order of their names
+abbrev pub schemas_at : History → List Name → List Schema
+schemas_at history names = filter_map (schema_at history) names
+
+-- tables with these names are kept: they are created in some history that what is kept stands for
+pub record AreKept (tables : Tables) (names : List Name) : Type 0 where
+  pub history : History
+  pub stands : standing.StandsFor tables history
+  pub created : are_created history names ≡ true
+
+-- a book and tables stand for a valid history of so many entries
+pub record AreStateOf
+    (meaning : Meaning) (policy : PolicyBook) (kept : Tables) (count : ℕ) (history : History) : Type 0 where
+  pub valid : is_valid meaning history ≡ true
+  pub book : books.StandsFor policy history
+  pub tables : standing.StandsFor kept history
+  pub entries : count ≡ length history
+
+-- whether a query answers a row for each group
+abbrev pub is_grouped : Form → Bool
+is_grouped (Grouped shape) = true
+is_grouped form = false

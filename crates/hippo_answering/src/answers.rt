@@ -1,0 +1,126 @@
+//! The answer of a query over the state of a history.
+ghost use Rattle.std.specs.Prelude.{◌≡◌, false, take, length, IfOk};
+ghost use Rattle.hippo_model.specs.Terms.{History, Meaning};
+ghost use Rattle.hippo_model.specs.Forms.{formed};
+ghost use Rattle.hippo_model.specs.Answers.{answer};
+ghost use Rattle.hippo_model.specs.Masking.{masked_answer};
+ghost use Rattle.hippo_policy.specs.Books.{StandsFor as BookStandsFor};
+ghost use Rattle.hippo_tables.specs.Standing.{StandsFor as TablesStandFor};
+ghost use Rattle.hippo_eval.specs.Walks.{rows_of};
+ghost use Rattle.hippo_eval.specs.Answering.{IsAnswered};
+ghost use Rattle.hippo_rewrite.specs.Rewriting.{rewritten};
+ghost use Rattle.hippo_rewrite.specs.RewritingLaws.{rules_at};
+ghost use Rattle.hippo_answering.specs.States.{AreKept, AreStateOf, context_of, schemas_at, is_grouped};
+
+use crate::asked::{schemas_of, sets_of, sizes_of};
+use hippo_distinct::distinct;
+use hippo_eval::{ANSWER_LIMIT, EvalFault};
+use hippo_join::{plan, run};
+use hippo_model::{Answer, ChoiceView, Form, Masked, Names, Pair, Query, RulesInForce, Sets};
+use hippo_policy::PolicyBook;
+use hippo_rewrite::rewrite;
+use hippo_tables::Tables;
+use hippo_values::{Memory, Moment};
+use std::alloc::Global;
+
+// The rules of a query's tables for a pair at a moment, by the first `n` entries.
+fn rules_of(
+    alloc: Global,
+    book: &PolicyBook,
+    tables: &Tables,
+    n: u64,
+    moment: Moment,
+    pair: &Pair,
+    names: &Names,
+) -> Result<RulesInForce, Memory>
+    requires { AreKept tables.now names.now }
+    ensures { IfOk result (λ rules. (history : History)
+        → BookStandsFor book.now history → TablesStandFor tables.now history
+        → rules ≡ rules_at (take n history) (context_of pair.now moment) (schemas_at history names.now)) }
+{
+    let schemas = schemas_of(alloc, tables, names)?;
+    book.rules_in_force(alloc, n, moment, &pair.purpose, &pair.recipient, &schemas)
+}
+
+// The query with these rules written into it.
+fn masked_query(
+    alloc: Global,
+    book: &PolicyBook,
+    tables: &Tables,
+    n: u64,
+    moment: Moment,
+    pair: &Pair,
+    query: &Query,
+) -> Result<Masked, Memory>
+    requires { AreKept tables.now query.now.tables }
+    ensures tables { IfOk result (λ masked. masked.tables ≡ query.now.tables) }
+    ensures rules { IfOk result (λ masked. (history : History)
+        → BookStandsFor book.now history → TablesStandFor tables.now history
+        → let rules = rules_at (take n history) (context_of pair.now moment) (schemas_at history query.now.tables) in
+        masked ≡ rewritten rules query.now) }
+{
+    let rules = rules_of(alloc, book, tables, n, moment, pair, &query.tables)?;
+    rewrite(alloc, query, &rules)
+}
+
+// All rows of an answer, by joins.
+fn joined<C: ChoiceView>(
+    alloc: Global,
+    query: &Masked,
+    sets: &Sets<'_>,
+    choices: &C,
+) -> Result<Answer, EvalFault>
+    requires { length sets.now ≡ length query.now.tables }
+    ensures { IsAnswered ANSWER_LIMIT (masked_answer (C.choices choices.now) query.now (rows_of sets.now)) result }
+{
+    let sizes = sizes_of(alloc, sets)?;
+    let plan = plan(alloc, query, &sizes)?;
+    run(alloc, &plan, query, sets, choices)
+}
+
+// The rows of an answer, by its form.
+fn formed<C: ChoiceView>(
+    alloc: Global,
+    form: &Form,
+    query: &Masked,
+    sets: &Sets<'_>,
+    choices: &C,
+) -> Result<Answer, EvalFault>
+    requires sets { length sets.now ≡ length query.now.tables }
+    requires form { is_grouped form.now ≡ false }
+    ensures { let rows = masked_answer (C.choices choices.now) query.now (rows_of sets.now) in
+        IsAnswered ANSWER_LIMIT (formed form.now rows) result }
+{
+    match form {
+        Form::Plain => joined(alloc, query, sets, choices),
+        Form::Distinct => distinct(alloc, query, sets, choices),
+        Form::Grouped(_) => unreachable!(),
+    }
+}
+
+/// The answer of a query for a purpose and recipient at a moment: what it answers over the views of its tables, after
+/// the `n` entries that the book and the tables stand for. The rules in force are written into the query (LeFevre and
+/// others, Limiting Disclosure in Hippocratic Databases, VLDB 2004), and it is answered over the rows as they are. Wants
+/// a query whose tables are created, and which has no GROUP BY. TooManyRows exactly where the answer has more than
+/// 100,000 rows.
+pub fn answer(
+    alloc: Global,
+    book: &PolicyBook,
+    tables: &Tables,
+    n: u64,
+    moment: Moment,
+    pair: &Pair,
+    query: &Query,
+) -> Result<Answer, EvalFault>
+    requires tables { AreKept tables.now query.now.tables }
+    requires form { is_grouped query.now.form ≡ false }
+    ensures { (meaning : Meaning) (history : History) → AreStateOf meaning book.now tables.now n history
+        → IsAnswered ANSWER_LIMIT (answer history (context_of pair.now moment) query.now) result }
+{
+    let sets = sets_of(alloc, tables, &query.tables)?;
+    let masked = masked_query(alloc, book, tables, n, moment, pair, query)?;
+    let choices = book.choices_at(n);
+    let answer = formed(alloc, &query.form, &masked, &sets, &choices);
+    drop(masked);
+    answer
+}

@@ -1,0 +1,65 @@
+//! The tables that a query asks, as they are.
+ghost use Rattle.std.specs.Prelude.{◌≡◌, ◌∷◌, [], IfOk, Some, length, map, option_map};
+ghost use Rattle.hippo_model.specs.Terms.{History};
+ghost use Rattle.hippo_model.specs.Histories.{schema_at};
+ghost use Rattle.hippo_model.specs.RowSets.{kept_at};
+ghost use Rattle.hippo_tables.specs.Standing.{StandsFor};
+ghost use Rattle.hippo_answering.specs.States.{AreKept, schemas_at};
+
+use hippo_model::{Lent, Names, RowSet, Schema, Schemas, Sets, Sizes};
+use hippo_tables::Tables;
+use hippo_values::{Duplicate, Memory, Name, Sequence};
+use std::alloc::Global;
+
+fn schema_of<'a>(tables: &'a Tables, name: &Name) -> &'a Schema
+    requires { AreKept tables.now (name.now ∷ []) }
+    ensures { (history : History) → StandsFor tables.now history → schema_at history name.now ≡ Some result.now }
+{
+    tables.schema(name).unwrap()
+}
+
+fn rows_of<'a>(tables: &'a Tables, name: &Name) -> &'a RowSet
+    requires { AreKept tables.now (name.now ∷ []) }
+    ensures { (history : History) → StandsFor tables.now history
+        → option_map (λ schema. kept_at schema history) (schema_at history name.now) ≡ Some result.now }
+{
+    tables.rows(name).unwrap()
+}
+
+/// Copies of the schemas of tables that are there.
+pub fn schemas_of(alloc: Global, tables: &Tables, names: &Names) -> Result<Schemas, Memory>
+    requires { AreKept tables.now names.now }
+    ensures { IfOk result (λ schemas. (history : History) → StandsFor tables.now history
+        → schemas ≡ schemas_at history names.now) }
+{
+    let mut schemas = Sequence::new(alloc);
+    for name in names.as_slice() {
+        schemas.push(schema_of(tables, name).copy(alloc)?)?;
+    }
+    Ok(schemas)
+}
+
+/// The rows of tables that are there.
+pub fn sets_of<'a>(alloc: Global, tables: &'a Tables, names: &Names) -> Result<Sets<'a>, Memory>
+    requires { AreKept tables.now names.now }
+    ensures each { IfOk result (λ sets. length sets ≡ length names.now) }
+    ensures rows { IfOk result (λ sets. (history : History) → StandsFor tables.now history
+        → sets ≡ map (λ schema. kept_at schema history) (schemas_at history names.now)) }
+{
+    let mut sets = Lent::new(alloc);
+    for name in names.as_slice() {
+        sets.push(rows_of(tables, name))?;
+    }
+    Ok(sets)
+}
+
+/// How many rows each table has.
+pub fn sizes_of(alloc: Global, sets: &Sets<'_>) -> Result<Sizes, Memory>
+    ensures { IfOk result (λ sizes. sizes ≡ map (λ set. length set.rows) sets.now) }
+{
+    let mut sizes = Sequence::new(alloc);
+    for place in 0..sets.len() {
+        sizes.push(sets.get(place).len() as u64)?;
+    }
+    Ok(sizes)
+}

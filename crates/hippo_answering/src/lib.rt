@@ -1,0 +1,7 @@
+//! The answer of a query over the state of a history.
+#![tactic(auto)]
+
+mod answers;
+mod asked;
+
+pub use answers::answer;
