@@ -47,10 +47,10 @@ get_map f (x ∷ xs) (suc k) d e within = get_map f xs k d e (omega arith)
 
 module _ (history : History) where
   -- the rows of a table that may not be created
-  abbrev rows_by : Option Schema → KeyedRows
+  abbrev pub rows_by : Option Schema → KeyedRows
   rows_by schema = option_map_or (λ made. kept_at made history) schema no_rows
 
-  set_is : (tables : List Name) (table : Name) → list_any (bytes_eq table) tables ≡ true → rows_named tables (sets_at history tables) table ≡ rows_by (schema_at history table)
+  pub set_is : (tables : List Name) (table : Name) → list_any (bytes_eq table) tables ≡ true → rows_named tables (sets_at history tables) table ≡ rows_by (schema_at history table)
   set_is tables table has =
       let found = place-found tables table has in
       get_map (λ (name : Name). rows_by (schema_at history name)) tables (place_in tables table) [] no_rows found.0 ∙ ap (λ (name : Name). rows_by (schema_at history name)) found.1

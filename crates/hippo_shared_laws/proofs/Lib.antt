@@ -1,0 +1,2 @@
+pub mod QueryLemmas
+pub mod QueryTheorem
