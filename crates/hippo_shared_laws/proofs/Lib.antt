@@ -1,2 +1,3 @@
 pub mod QueryLemmas
 pub mod QueryTheorem
+pub mod ServingTheorem
