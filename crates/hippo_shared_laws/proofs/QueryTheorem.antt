@@ -94,7 +94,7 @@ module _ (choices : Choices) (rows : Combination) where
 
 -- ---- the schemas of a query's tables
 module _ (history : History) where
-  schema_found : (tables : List Name) (schemas : List Schema) (place : Place) → map (schema_at history) tables ≡ map Some schemas → place < length tables
+  pub schema_found : (tables : List Name) (schemas : List Schema) (place : Place) → map (schema_at history) tables ≡ map Some schemas → place < length tables
       → (schema : Schema) × (slice_get schemas place ≡ Some schema) × (schema_at history (get_or tables place []) ≡ Some schema)
   schema_found [] schemas place are within = absurd (omega arith)
   schema_found (table ∷ tables) [] place are within = absurd cc
