@@ -1,5 +1,5 @@
 -- A plain query needs a tuple exactly where the rewritten query has it.
-use Rattle.std.proofs.Common.{◌≡◌, ℕ, zero, suc, ◌+◌, ◌<◌, Bool, true, false, ◌&&◌, ◌||◌, cond, List, [], ◌∷◌, ◌++◌, map, length, get_or, refl, sym, ap, subst, ◌∙◌, Option, Some, None, option_map, arith}
+use Rattle.std.proofs.Common.{◌≡◌, ℕ, zero, suc, ◌+◌, ◌<◌, Bool, true, false, ◌&&◌, ◌||◌, cond, List, [], ◌∷◌, map, length, get_or, refl, sym, ap, subst, ◌∙◌, Option, Some, None, option_map, arith}
 use Rattle.std.specs.Prelude.{filter, slice_get, bytes_eq}
 use Rattle.std.specs.List.{AllByRecursion, list_all, list_any}
 use Rattle.std.specs.Option.{option_map_or}
@@ -13,32 +13,29 @@ use Rattle.hippo_model.specs.declared.born_row.BornRow.{BornRow}
 use Rattle.hippo_model.specs.declared.policy.Gate.{Gate}
 use Rattle.hippo_model.specs.declared.policy.Gate.TheVariants.{Always, Never, Aged, With}
 use Rattle.hippo_model.specs.declared.policy.TableRules.{TableRules}
-use Rattle.hippo_model.specs.declared.query.CondOf.{CondOf}
 use Rattle.hippo_model.specs.declared.query.CondOf.TheVariants.{All}
 use Rattle.hippo_model.specs.declared.query.Expr.{Expr}
 use Rattle.hippo_model.specs.declared.query.Expr.TheVariants.{Null as NullExpr}
 use Rattle.hippo_model.specs.declared.query.Form.TheVariants.{Plain}
-use Rattle.hippo_model.specs.declared.query.Masked.{Masked}
 use Rattle.hippo_model.specs.declared.query.Operand.{Operand}
-use Rattle.hippo_model.specs.declared.query.Operand.TheVariants.{Column, Literal}
+use Rattle.hippo_model.specs.declared.query.Operand.TheVariants.{Column}
 use Rattle.hippo_model.specs.declared.query.Query.{Query}
 use Rattle.hippo_model.specs.declared.query.Ref.{Ref}
 use Rattle.hippo_model.specs.declared.schema.Schema.{Schema}
 use Rattle.hippo_model.specs.Terms.{History, Meaning, Combination, ShownRow, Place}
 use Rattle.hippo_model.specs.Histories.{schema_at}
-use Rattle.hippo_model.specs.Rows.{table_rows}
 use Rattle.hippo_model.specs.Rules.{choice_at}
 use Rattle.hippo_model.specs.Verdicts.{Context}
-use Rattle.hippo_model.specs.Conditions.{is_true, truth}
+use Rattle.hippo_model.specs.Conditions.{is_true}
 use Rattle.hippo_model.specs.Forms.{value_in}
-use Rattle.hippo_model.specs.Answers.{product, operand_value, passes, answer_of, seen_combinations}
-use Rattle.hippo_model.specs.Audits.{has_tuple as has_tuple_at, query_needs}
+use Rattle.hippo_model.specs.Answers.{product, operand_value, passes, seen_combinations}
+use Rattle.hippo_model.specs.Audits.{has_tuple as has_tuple_at}
 use Rattle.hippo_model.specs.Masking.{Choices, raw_value, shown_if, masked_cell, is_shown_cell, is_guarded, masked_passes}
 use Rattle.hippo_laws.specs.Needs.{has_true, PlainQueryNeeds}
 use Rattle.hippo_laws.proofs.TruthWithChange.{agrees}
 use Rattle.hippo_policy.specs.Gates.{gate_in, table_rules}
-use Rattle.hippo_rewrite.specs.Rewriting.{expr_by, column_expr, masked_column, masked_operand, key_guard, table_guards, guards_from, rewritten}
-use Rattle.hippo_rewrite.specs.RewritingLaws.{rules_at, tables_at, rewritten_answer, HasTables, RewritingAnswers}
+use Rattle.hippo_rewrite.specs.Rewriting.{expr_by, column_expr, masked_operand, key_guard, table_guards, guards_from, rewritten}
+use Rattle.hippo_rewrite.specs.RewritingLaws.{rules_at, tables_at, HasTables, RewritingAnswers}
 use Rattle.hippo_eval.specs.Walks.{rows_of}
 use Rattle.hippo_shared.specs.Sharing.{place_in, has_tuple, query_has}
 use Rattle.hippo_shared.specs.HistoryLaws.{sets_at}
