@@ -12,7 +12,7 @@ use Rattle.hippo_shared.specs.FirstPlaces.{AreOpen}
 pub same_name : (a b : Name) → bytes_eq a b ≡ true → a ≡ b
 same_name a b same = (bytes_eq-Decides a b).0 same
 
-same_as_itself : (a : Name) → bytes_eq a a ≡ true
+pub same_as_itself : (a : Name) → bytes_eq a a ≡ true
 same_as_itself a = (bytes_eq-Decides a a).1 refl
 
 one_behind : (first : Name) (tables : List Name) (place : ℕ) → get_or (first ∷ tables) (1 + place) [] ≡ get_or tables place []

@@ -5,16 +5,14 @@ use Rattle.std.specs.List.{AllByRecursion, flat_map, list_any}
 use Rattle.std.specs.Option.{option_map_or}
 use Rattle.std.proofs.lemmas.List.Folds.{flat_map-map}
 use Rattle.hippo_values.specs.declared.names.Name.{Name}
-use Rattle.hippo_values.specs.declared.values.Value.{Value}
 use Rattle.hippo_values.specs.Order.{same_cells}
 use Rattle.hippo_model.specs.declared.audit.Audit.{Audit}
 use Rattle.hippo_model.specs.declared.audit.SharedRow.{SharedRow}
 use Rattle.hippo_model.specs.declared.born_row.BornRow.{BornRow}
-use Rattle.hippo_model.specs.declared.cells.Cell.{Cell}
 use Rattle.hippo_model.specs.declared.cells.Cell.TheVariants.{Shown}
 use Rattle.hippo_model.specs.declared.query.Query.{Query}
 use Rattle.hippo_model.specs.declared.schema.Schema.{Schema}
-use Rattle.hippo_model.specs.Terms.{History, Combination, Row, ShownRow, Key}
+use Rattle.hippo_model.specs.Terms.{History, Combination, Row, ShownRow}
 use Rattle.hippo_model.specs.Histories.{schema_at}
 use Rattle.hippo_model.specs.Rows.{key_of, table_rows}
 use Rattle.hippo_model.specs.RowSets.{KeyedRows, kept_at, key_in}
@@ -30,7 +28,7 @@ use Rattle.hippo_join.proofs.ProductLemmas.{map-map, map-flat_map}
 use Rattle.hippo_shared.specs.Sharing.{common_tables, place_in, rows_named, shared_rows, virtual_tuples, key_at, has_tuple, audit_has}
 use Rattle.hippo_shared.specs.HistoryLaws.{sets_at}
 use Rattle.hippo_shared.proofs.CommonLemmas.{place-found, common-in-audit}
-use Rattle.hippo_shared.proofs.TupleLemmas.{no_rows, AllStandIn}
+use Rattle.hippo_shared.proofs.TupleLemmas.{no_rows}
 
 map_same : {X Y : Type 0} (f g : X → Y) (xs : List X) → AllByRecursion (λ x. f x ≡ g x) xs → map f xs ≡ map g xs
 map_same f g [] all = refl
@@ -47,10 +45,10 @@ get_map f (x ∷ xs) (suc k) d e within = get_map f xs k d e (omega arith)
 
 module _ (history : History) where
   -- the rows of a table that may not be created
-  abbrev rows_by : Option Schema → KeyedRows
+  abbrev pub rows_by : Option Schema → KeyedRows
   rows_by schema = option_map_or (λ made. kept_at made history) schema no_rows
 
-  set_is : (tables : List Name) (table : Name) → list_any (bytes_eq table) tables ≡ true → rows_named tables (sets_at history tables) table ≡ rows_by (schema_at history table)
+  pub set_is : (tables : List Name) (table : Name) → list_any (bytes_eq table) tables ≡ true → rows_named tables (sets_at history tables) table ≡ rows_by (schema_at history table)
   set_is tables table has =
       let found = place-found tables table has in
       get_map (λ (name : Name). rows_by (schema_at history name)) tables (place_in tables table) [] no_rows found.0 ∙ ap (λ (name : Name). rows_by (schema_at history name)) found.1

@@ -14,7 +14,7 @@ use Rattle.hippo_join.specs.Places.{row_at}
 not_below_itself : (a b : Key) → cells_cmp a b ≡ Less → ¬ (a ≡ b)
 not_below_itself a b less same = false≢true (sym (ap is_eq less) ∙ ap (λ (k : Key). is_eq (cells_cmp a k)) (sym same) ∙ (eq_by_cmp_equiv cells_total).refl a)
 
-below_at : (key : List Place) (first : Key) (rows : List BornRow) (k : ℕ) → IsBelowAll first (map (key_in key) rows) → k < length rows → cells_cmp first (key_in key (row_at rows k)) ≡ Less
+pub below_at : (key : List Place) (first : Key) (rows : List BornRow) (k : ℕ) → IsBelowAll first (map (key_in key) rows) → k < length rows → cells_cmp first (key_in key (row_at rows k)) ≡ Less
 below_at key first [] k below within = absurd (omega arith)
 below_at key first (row ∷ rows) zero below within = below.0
 below_at key first (row ∷ rows) (suc k) below within = below_at key first rows k below.1 (omega arith)

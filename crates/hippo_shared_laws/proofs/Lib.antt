@@ -1,0 +1,4 @@
+pub mod QueryLemmas
+pub mod QueryTheorem
+pub mod SeenTheorem
+pub mod ServingTheorem

@@ -1,0 +1,201 @@
+-- The first tuple that both sides have is the first that serves.
+use Rattle.std.proofs.Common.{◌≡◌, Bool, true, false, not, ◌&&◌, ◌||◌, cond, List, [], ◌∷◌, ◌++◌, map, get_or, refl, sym, ap, ◌∙◌, Option, Some, None, if◌then◌else◌}
+use Rattle.std.specs.Prelude.{find, bytes_eq}
+use Rattle.std.specs.List.{AllByRecursion, flat_map, list_all, list_any}
+use Rattle.std.specs.Option.{option_map_or}
+use Rattle.std.proofs.lemmas.Bool.{and_parts}
+use Rattle.hippo_values.specs.declared.names.Name.{Name}
+use Rattle.hippo_model.specs.declared.audit.Audit.{Audit}
+use Rattle.hippo_model.specs.declared.audit.SharedRow.{SharedRow}
+use Rattle.hippo_model.specs.declared.born_row.BornRow.{BornRow}
+use Rattle.hippo_model.specs.declared.query.Expr.{Expr}
+use Rattle.hippo_model.specs.declared.query.Query.{Query}
+use Rattle.hippo_model.specs.declared.query.Ref.{Ref}
+use Rattle.hippo_model.specs.declared.schema.Schema.{Schema}
+use Rattle.hippo_model.specs.Terms.{History, Combination, Place}
+use Rattle.hippo_model.specs.Histories.{schema_at}
+use Rattle.hippo_model.specs.Rows.{key_of, table_rows}
+use Rattle.hippo_model.specs.RowSets.{KeyedRows}
+use Rattle.hippo_model.specs.Masking.{is_guarded, masked_passes}
+use Rattle.hippo_model.specs.Rules.{choice_at}
+use Rattle.hippo_model.specs.Verdicts.{Context}
+use Rattle.hippo_model.specs.Answers.{product}
+use Rattle.hippo_model.specs.Audits.{common, shared_rows as rows_at_history, virtual_tuples as tuples_at, query_needs, audit_needs, is_seen, serves}
+use Rattle.hippo_rewrite.specs.Rewriting.{masked_column, rewritten}
+use Rattle.hippo_rewrite.specs.RewritingLaws.{rules_at, ColumnsShowVerdicts}
+use Rattle.hippo_eval.specs.Walks.{rows_of}
+use Rattle.hippo_join.specs.Places.{chosen, in_range}
+use Rattle.hippo_join.specs.Existence.{are_shown}
+use Rattle.hippo_shared.specs.Sharing.{common_tables, has_tuple, query_has, audit_has}
+use Rattle.hippo_shared.specs.HistoryLaws.{sets_at, TuplesAreThoseOfHistory, AuditNeedsWhatItHas}
+use Rattle.hippo_shared.proofs.CommonLemmas.{same_as_itself, common-in-query, common-in-audit}
+use Rattle.hippo_shared.proofs.SideLemmas.{one-of-product, any-of-product}
+use Rattle.hippo_shared_laws.specs.SharedLaws.{QueryNeedsWhatItHas, SharedServesFirst, column_in, to_be_seen, IsCommon}
+use Rattle.hippo_shared_laws.proofs.SeenTheorem.{stands-at, in-common, product-has, seen-column}
+
+-- the members of a product's combinations are those of the lists
+module _ {X : Type 0} (P : X → Type 0) where
+  abbrev Each : List X → Type 0
+  Each xs = AllByRecursion P xs
+
+  joined : (some others : List (List X)) → AllByRecursion Each some → AllByRecursion Each others → AllByRecursion Each (some ++ others)
+  joined [] others a b = b
+  joined (xs ∷ some) others a b = (a.0, joined some others a.1 b)
+
+  behind : (x : X) (some : List (List X)) → P x → AllByRecursion Each some → AllByRecursion Each (map (λ others. x ∷ others) some)
+  behind x [] here all = tt
+  behind x (xs ∷ some) here all = ((here, all.0), behind x some here all.1)
+
+  behind_each : (firsts : List X) (some : List (List X)) → Each firsts → AllByRecursion Each some → AllByRecursion Each (flat_map (λ x. map (λ others. x ∷ others) some) firsts)
+  behind_each [] some firsts_are all = tt
+  behind_each (x ∷ firsts) some firsts_are all =
+      joined (map (λ others. x ∷ others) some) (flat_map (λ y. map (λ others. y ∷ others) some) firsts) (behind x some firsts_are.0 all) (behind_each firsts some firsts_are.1 all)
+
+  product_each : (lists : List (List X)) → AllByRecursion Each lists → AllByRecursion Each (product lists)
+  product_each [] all = (tt, tt)
+  product_each (xs ∷ lists) all = behind_each xs (product lists) all.0 (product_each lists all.1)
+
+find_same : {X : Type 0} (p q : X → Bool) (xs : List X) → AllByRecursion (λ x. p x ≡ q x) xs → find p xs ≡ find q xs
+find_same p q [] all = refl
+find_same p q (x ∷ xs) all = λ i. cond (all.0 i) (Some x) (find_same p q xs all.1 i)
+
+all_from : {X : Type 0} (P Q : X → Type 0) → ((x : X) → P x → Q x) → (xs : List X) → AllByRecursion P xs → AllByRecursion Q xs
+all_from P Q step [] all = tt
+all_from P Q step (x ∷ xs) all = (step x all.0, all_from P Q step xs all.1)
+
+both_all : {X : Type 0} (P Q : X → Type 0) (xs : List X) → AllByRecursion P xs → AllByRecursion Q xs → AllByRecursion (λ x. P x × Q x) xs
+both_all P Q [] a b = tt
+both_all P Q (x ∷ xs) a b = ((a.0, b.0), both_all P Q xs a.1 b.1)
+
+not_asked : (a b : Bool) (seen : Bool) → (a && b) ≡ (a && b && (not false || seen))
+not_asked true true seen = refl
+not_asked true false seen = refl
+not_asked false b seen = refl
+
+asked : (a b seen : Bool) → ((a && seen) && b) ≡ (a && b && (not true || seen))
+asked true true true = refl
+asked true true false = refl
+asked true false true = refl
+asked true false false = refl
+asked false b seen = refl
+
+same_tests : (a b : Bool) → (a ≡ true → b ≡ true) → (b ≡ true → a ≡ true) → a ≡ b
+same_tests true b there back = sym (there refl)
+same_tests false true there back = back refl
+same_tests false false there back = refl
+
+-- a test that depends on the tuple alone
+any_and : (sets : List KeyedRows) (has counts shows : Combination → Bool) (seen : Bool) → ((places : List Place) → in_range sets places ≡ true → has (chosen sets places) ≡ true → shows (chosen sets places) ≡ seen)
+    → list_any (λ rows. has rows && (counts rows && shows rows)) (product (rows_of sets)) ≡ (list_any (λ rows. has rows && (counts rows && true)) (product (rows_of sets)) && seen)
+any_and sets has counts shows seen same =
+    same_tests (list_any (λ rows. has rows && (counts rows && shows rows)) (product (rows_of sets))) (list_any (λ rows. has rows && (counts rows && true)) (product (rows_of sets)) && seen)
+    (λ passed.
+    let found = one-of-product sets (λ rows. has rows && (counts rows && shows rows)) passed in
+    let both = and_parts (has (chosen sets found.0)) (counts (chosen sets found.0) && shows (chosen sets found.0)) found.2 in
+    let parts = and_parts (counts (chosen sets found.0)) (shows (chosen sets found.0)) both.1 in
+    let one = any-of-product sets (λ rows. has rows && (counts rows && true)) found.0 found.1 (λ i. both.0 i && (parts.0 i && true)) in
+    let is_seen_here = sym (same found.0 found.1 both.0) ∙ parts.1 in
+    λ i. one i && is_seen_here i)
+    (λ passed.
+    let outer = and_parts (list_any (λ rows. has rows && (counts rows && true)) (product (rows_of sets))) seen passed in
+    let found = one-of-product sets (λ rows. has rows && (counts rows && true)) outer.0 in
+    let both = and_parts (has (chosen sets found.0)) (counts (chosen sets found.0) && true) found.2 in
+    let parts = and_parts (counts (chosen sets found.0)) true both.1 in
+    let shown = same found.0 found.1 both.0 ∙ outer.1 in
+    any-of-product sets (λ rows. has rows && (counts rows && shows rows)) found.0 found.1 (λ i. both.0 i && (parts.0 i && shown i)))
+
+module _ (history : History) (query : Query) (audit : Audit) where
+  abbrev Stands : Name → Type 0
+  Stands table = (list_any (bytes_eq table) query.tables ≡ true) × (list_any (bytes_eq table) audit.tables ≡ true)
+
+  abbrev StandsRow : SharedRow → Type 0
+  StandsRow shared = Stands shared.table
+
+  rows_stand : (table : Name) → Stands table → AllByRecursion StandsRow (rows_at_history history table)
+  rows_stand table stands = by (schema_at history table)
+    where
+      each : (schema : Schema) (rows : List BornRow) → AllByRecursion StandsRow (map (λ (kept : BornRow). record { table = table; key = key_of schema.key kept.row }) rows)
+      each schema [] = tt
+      each schema (kept ∷ rows) = (stands, each schema rows)
+
+      by : (schema : Option Schema) → AllByRecursion StandsRow (option_map_or (λ made. map (λ (kept : BornRow). record { table = table; key = key_of made.key kept.row }) (table_rows made history)) schema [])
+      by None = tt
+      by (Some schema) = each schema (table_rows schema history)
+
+  lists_stand : (tables : List Name) → AllByRecursion Stands tables → AllByRecursion (AllByRecursion StandsRow) (map (rows_at_history history) tables)
+  lists_stand [] all = tt
+  lists_stand (table ∷ tables) all = (rows_stand table all.0, lists_stand tables all.1)
+
+  tuples_stand : AllByRecursion (AllByRecursion StandsRow) (tuples_at history (common query audit))
+  tuples_stand =
+      product_each StandsRow (map (rows_at_history history) (common_tables query.tables audit.tables))
+      (lists_stand (common_tables query.tables audit.tables)
+      (both_all (λ table. list_any (bytes_eq table) query.tables ≡ true) (λ table. list_any (bytes_eq table) audit.tables ≡ true) (common_tables query.tables audit.tables)
+      (common-in-query query.tables audit.tables) (common-in-audit query.tables audit.tables)))
+
+  -- a virtual tuple has a row of the table of each audited column
+  named_rows : (table : Name) → AllByRecursion (λ (shared : SharedRow). bytes_eq shared.table table ≡ true) (rows_at_history history table)
+  named_rows table = by (schema_at history table)
+    where
+      each : (schema : Schema) (rows : List BornRow) → AllByRecursion (λ (shared : SharedRow). bytes_eq shared.table table ≡ true) (map (λ (kept : BornRow). record { table = table; key = key_of schema.key kept.row }) rows)
+      each schema [] = tt
+      each schema (kept ∷ rows) = (same_as_itself table, each schema rows)
+
+      by : (schema : Option Schema) → AllByRecursion (λ (shared : SharedRow). bytes_eq shared.table table ≡ true) (option_map_or (λ made. map (λ (kept : BornRow). record { table = table; key = key_of made.key kept.row }) (table_rows made history)) schema [])
+      by None = tt
+      by (Some schema) = each schema (table_rows schema history)
+
+  abbrev name_of : Ref → Name
+  name_of column = get_or audit.tables column.table []
+
+  abbrev HasColumns : List Ref → List SharedRow → Type 0
+  HasColumns columns tuple = AllByRecursion (λ (column : Ref). list_any (λ (shared : SharedRow). bytes_eq shared.table (name_of column)) tuple ≡ true) columns
+
+  nothing_asked : (tuples : List (List SharedRow)) → AllByRecursion (HasColumns []) tuples
+  nothing_asked [] = tt
+  nothing_asked (tuple ∷ tuples) = (tt, nothing_asked tuples)
+
+  tuples_have : (columns : List Ref) → AllByRecursion (IsCommon history query audit) columns → AllByRecursion (HasColumns columns) (tuples_at history (common query audit))
+  tuples_have [] all = nothing_asked (tuples_at history (common query audit))
+  tuples_have (column ∷ columns) all =
+      both_all (λ (tuple : List SharedRow). list_any (λ (shared : SharedRow). bytes_eq shared.table (name_of column)) tuple ≡ true) (HasColumns columns) (tuples_at history (common query audit))
+      (product-has (rows_at_history history) named_rows (name_of column) (common_tables query.tables audit.tables) (in-common query.tables audit.tables (name_of column) all.0.1 (stands-at audit.tables column.table all.0.0)))
+      (tuples_have columns all.1)
+
+  -- what is to be seen, in a combination that has a tuple
+  seen_columns : ColumnsShowVerdicts → (context : Context) (schemas : List Schema) → map (schema_at history) query.tables ≡ map Some schemas → (tuple : List SharedRow) (places : List Place)
+      → in_range (sets_at history query.tables) places ≡ true → has_tuple query.tables (sets_at history query.tables) tuple (chosen (sets_at history query.tables) places) ≡ true
+      → (columns : List Ref) → AllByRecursion (IsCommon history query audit) columns → HasColumns columns tuple
+      → are_shown (choice_at history) (map (λ column. masked_column (rules_at history context schemas) (column_in query.tables audit.tables column)) columns) (chosen (sets_at history query.tables) places)
+      ≡ list_all (is_seen history context audit.tables tuple) columns
+  seen_columns shows context schemas are tuple places within has [] all members = refl
+  seen_columns shows context schemas are tuple places within has (column ∷ columns) all members = λ i.
+      seen-column shows history context query.tables audit.tables schemas tuple places column are within has members.0 all.0.1 all.0.2 i
+      && seen_columns shows context schemas are tuple places within has columns all.1 members.1 i
+
+pub shared-serves : QueryNeedsWhatItHas → AuditNeedsWhatItHas → TuplesAreThoseOfHistory → ColumnsShowVerdicts → SharedServesFirst
+shared-serves of_query of_audit of_tuples shows = λ meaning history context query schemas audit has is_plain columns.
+    let rules = rules_at history context schemas in
+    let exprs : List Expr = map (λ column. masked_column rules (column_in query.tables audit.tables column)) audit.columns in
+    let here : List SharedRow → Bool = λ tuple. query_has (choice_at history) (rewritten rules query) (to_be_seen rules query audit) (sets_at history query.tables) tuple && audit_has audit (sets_at history audit.tables) tuple in
+    ap (find here) (of_tuples history query audit)
+    ∙ find_same here (serves history context query audit) (tuples_at history (common query audit))
+    (all_from (λ tuple. AllByRecursion (StandsRow history query audit) tuple × HasColumns history query audit audit.columns tuple) (λ tuple. here tuple ≡ serves history context query audit tuple)
+    (λ tuple known.
+    let asks = of_query meaning history context query schemas tuple has is_plain (all_from (StandsRow history query audit) (λ shared. list_any (bytes_eq shared.table) query.tables ≡ true) (λ shared s. s.0) tuple known.0) in
+    let audits = of_audit history audit tuple (all_from (StandsRow history query audit) (λ shared. list_any (bytes_eq shared.table) audit.tables ≡ true) (λ shared s. s.1) tuple known.0) in
+    let all_seen : Bool = list_all (is_seen history context audit.tables tuple) audit.columns in
+    let with_seen : query_has (choice_at history) (rewritten rules query) exprs (sets_at history query.tables) tuple ≡ (query_has (choice_at history) (rewritten rules query) [] (sets_at history query.tables) tuple && all_seen) =
+    any_and (sets_at history query.tables) (has_tuple query.tables (sets_at history query.tables) tuple) (λ rows. is_guarded (choice_at history) (rewritten rules query) rows && masked_passes (choice_at history) (rewritten rules query) rows)
+    (are_shown (choice_at history) exprs) all_seen
+    (λ places within tupled. seen_columns history query audit shows context schemas has.schemas_are tuple places within tupled audit.columns columns known.1) in
+    by_asking (query_needs history context query tuple) (audit_needs history audit tuple) all_seen (λ seen. query_has (choice_at history) (rewritten rules query) seen (sets_at history query.tables) tuple) (audit_has audit (sets_at history audit.tables) tuple)
+    exprs asks audits with_seen audit.shown)
+    (tuples_at history (common query audit))
+    (both_all (AllByRecursion (StandsRow history query audit)) (HasColumns history query audit audit.columns) (tuples_at history (common query audit)) (tuples_stand history query audit) (tuples_have history query audit audit.columns columns)))
+  where
+    by_asking : (needs audited all_seen : Bool) (has : List Expr → Bool) (audits : Bool) (exprs : List Expr) → needs ≡ has [] → audited ≡ audits → has exprs ≡ (has [] && all_seen) → (shown : Bool)
+        → (has (if shown then exprs else []) && audits) ≡ (needs && audited && (not shown || all_seen))
+    by_asking needs audited all_seen has audits exprs asks same with_seen true =
+        ap (λ b. b && audits) with_seen ∙ sym (λ i. (asks i && all_seen) && same i) ∙ asked needs audited all_seen
+    by_asking needs audited all_seen has audits exprs asks same with_seen false = sym (λ i. asks i && same i) ∙ not_asked needs audited all_seen
