@@ -1,4 +1,4 @@
-ghost use Rattle.std.specs.Prelude.{◌≡◌, ◌∷◌, [], IfOk};
+ghost use Rattle.std.specs.Prelude.{◌≡◌, ◌∷◌, [], length, IfOk};
 
 use crate::choices::NoChoices;
 use hippo_model::{
@@ -91,18 +91,60 @@ fn name(alloc: Global) -> Result<Name, Memory> {
     }
 }
 
+// The first rows that a query and an audit of one table share.
+fn shared_rows(
+    alloc: Global,
+    set: &RowSet,
+    query: &Masked,
+    audit: &Audit,
+) -> Result<Option<SharedTuple>, Memory>
+    requires tables { query.now.tables ≡ audit.now.tables }
+    requires one { length audit.now.tables ≡ 1 }
+{
+    let mut sets = Sets::new(alloc);
+    sets.push(set)?;
+    let seen = Exprs::new(alloc);
+    first_shared(alloc, query, audit, &seen, &sets, &sets, &NoChoices)
+}
+
+fn shared_with_audit(
+    alloc: Global,
+    set: &RowSet,
+    name: &Name,
+    query: &Masked,
+    most: i64,
+) -> Result<Option<SharedTuple>, Memory>
+    requires { query.now.tables ≡ name.now ∷ [] }
+{
+    let audit = audit(alloc, names(alloc, name)?, most)?;
+    let shared = shared_rows(alloc, set, query, &audit);
+    drop(audit);
+    shared
+}
+
+fn shared_with_query(
+    alloc: Global,
+    set: &RowSet,
+    name: &Name,
+    least: i64,
+    most: i64,
+) -> Result<Option<SharedTuple>, Memory> {
+    let query = query(alloc, names(alloc, name)?, least);
+    let shared = shared_with_audit(alloc, set, name, &query, most);
+    drop(query);
+    shared
+}
+
 // The first number that a query and an audit of one table share.
 fn shared_number(alloc: Global, count: i64, least: i64, most: i64) -> Result<Option<i64>, Memory> {
     let set = numbers(alloc, count)?;
     let name = name(alloc)?;
-    let query = query(alloc, names(alloc, &name)?, least);
-    let audit = audit(alloc, names(alloc, &name)?, most)?;
-    let mut sets = Sets::new(alloc);
-    sets.push(&set)?;
-    let seen = Exprs::new(alloc);
-    match first_shared(alloc, &query, &audit, &seen, &sets, &sets, &NoChoices)? {
-        Some(tuple) => Ok(number_of(&tuple)),
-        None => Ok(None),
+    let shared = shared_with_query(alloc, &set, &name, least, most);
+    drop(set);
+    match shared {
+        Ok(Some(tuple)) => Ok(number_of(&tuple)),
+        Ok(None) => Ok(None),
+        Err(Memory) => Err(Memory),
     }
 }
 
