@@ -6,7 +6,7 @@ use hippo_commands::{Command, command_of};
 use hippo_io::Line;
 use hippo_model::{NameFault, RawAudit, RawSelect, Stmt};
 use hippo_report::{Refusal, refusal_line};
-use hippo_typing::{resolve_audit, resolve_select};
+use hippo_typing::{read_meaning, resolve_audit, resolve_select};
 use hippo_values::{Memory, Txt};
 use std::alloc::Global;
 
@@ -254,4 +254,22 @@ fn first_wrong(alloc: Global) -> Result<Option<usize>, Memory> {
 #[test]
 fn lines_are_refused_as_they_should_be(rt: HostRuntime) {
     assert_eq!(rt; first_wrong(rt.alloc()), Ok(None));
+}
+
+fn means_something(alloc: Global, catalog: &Catalog, text: &str) -> Result<bool, Memory> {
+    Ok(read_meaning(alloc, catalog, text)?.is_some())
+}
+
+// Which of some texts are questions that mean something.
+fn meanings(alloc: Global) -> Result<[bool; 3], Memory> {
+    let catalog = clinic(alloc)?;
+    let known = means_something(alloc, &catalog, "SELECT name FROM patient WHERE zip = 7")?;
+    let unknown = means_something(alloc, &catalog, "SELECT nam FROM patient")?;
+    let closed = means_something(alloc, &catalog, "SELECT name FROM patient;")?;
+    Ok([known, unknown, closed])
+}
+
+#[test]
+fn texts_mean_what_names_say(rt: HostRuntime) {
+    assert_eq!(rt; meanings(rt.alloc()), Ok([true, false, false]));
 }
