@@ -51,7 +51,7 @@ fn moment() -> Result<Moment, Memory> {
 }
 
 fn entry(seq: u64, act: Act) -> Result<Entry, Memory>
-    ensures { IfOk result (λ entry. entry.act ≡ act.entry) }
+    ensures { IfOk result (λ entry. entry.act ≡ act) }
 {
     let moment = moment();
     match moment {

@@ -188,11 +188,33 @@ const LINES: [(&str, &str); 62] = [
 ];
 
 fn select_fault(alloc: Global, catalog: &Catalog, select: &RawSelect) -> Option<NameFault> {
-    resolve_select(alloc, catalog, select).err()
+    match resolve_select(alloc, catalog, select) {
+        Ok(query) => {
+            drop(query);
+            None
+        }
+        Err(fault) => Some(fault),
+    }
 }
 
 fn audit_fault(alloc: Global, catalog: &Catalog, audit: &RawAudit) -> Option<NameFault> {
-    resolve_audit(alloc, catalog, audit).err()
+    match resolve_audit(alloc, catalog, audit) {
+        Ok(audit) => {
+            drop(audit);
+            None
+        }
+        Err(fault) => Some(fault),
+    }
+}
+
+fn change_fault(alloc: Global, catalog: &Catalog, statement: &Stmt) -> Option<NameFault> {
+    match check_change(alloc, catalog, statement) {
+        Ok(wanted) => {
+            drop(wanted);
+            None
+        }
+        Err(fault) => Some(fault),
+    }
 }
 
 // Why a statement is refused, if it is.
@@ -205,7 +227,7 @@ fn fault_of(alloc: Global, catalog: &Catalog, statement: &Stmt) -> Option<NameFa
         Stmt::BeginAudit(audit) => audit_fault(alloc, catalog, audit),
         Stmt::Watch(audit) => audit_fault(alloc, catalog, audit),
         Stmt::Explain(_) => None,
-        _ => check_change(alloc, catalog, statement).err(),
+        _ => change_fault(alloc, catalog, statement),
     }
 }
 
@@ -215,28 +237,42 @@ fn said(alloc: Global, who: Option<u8>, refusal: &Refusal) -> Result<Txt, Memory
     Ok(out)
 }
 
+fn fault_said(alloc: Global, session: u8, fault: NameFault) -> Result<Txt, Memory> {
+    let refusal = Refusal::Meaningless(fault);
+    let said = said(alloc, Some(session), &refusal);
+    drop(refusal);
+    said
+}
+
 fn said_of(alloc: Global, catalog: &Catalog, session: u8, statement: &Stmt) -> Result<Txt, Memory> {
     match fault_of(alloc, catalog, statement) {
         None => Ok(Txt::new(alloc)),
-        Some(fault) => said(alloc, Some(session), &Refusal::Meaningless(fault)),
+        Some(fault) => fault_said(alloc, session, fault),
     }
 }
 
-// What is said of a line that is refused whatever the rows are; nothing of another one.
-fn refusal_of(alloc: Global, catalog: &Catalog, line: &str) -> Result<Txt, Memory> {
-    match command_of(alloc, Line::Text(line)) {
+// What is said of a command that is refused whatever the rows are; nothing of another one.
+fn refusal_of(alloc: Global, catalog: &Catalog, command: &Command<'_>) -> Result<Txt, Memory> {
+    match command {
         Command::State {
             session,
             statement,
             ..
-        } => said_of(alloc, catalog, session, &statement),
-        Command::Wrong { who, refusal } => said(alloc, who, &refusal),
+        } => said_of(alloc, catalog, *session, statement),
+        Command::Wrong { who, refusal } => said(alloc, *who, refusal),
         _ => Ok(Txt::new(alloc)),
     }
 }
 
+fn line_refusal(alloc: Global, catalog: &Catalog, line: &str) -> Result<Txt, Memory> {
+    let command = command_of(alloc, Line::Text(line));
+    let said = refusal_of(alloc, catalog, &command);
+    drop(command);
+    said
+}
+
 fn is_said(alloc: Global, catalog: &Catalog, line: &str, expected: &str) -> Result<bool, Memory> {
-    let said = refusal_of(alloc, catalog, line)?;
+    let said = line_refusal(alloc, catalog, line)?;
     Ok(said.as_str() == expected)
 }
 
