@@ -1,0 +1,7 @@
+//! Tests of names and types on written lines: which are refused, by which refusal, and that ample memory suffices.
+#![tactic(auto)]
+
+#[cfg(test)]
+mod known;
+#[cfg(test)]
+mod refusals;
