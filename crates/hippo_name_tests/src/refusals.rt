@@ -309,3 +309,49 @@ fn meanings(alloc: Global) -> Result<[bool; 3], Memory> {
 fn texts_mean_what_names_say(rt: HostRuntime) {
     assert_eq!(rt; meanings(rt.alloc()), Ok([true, false, false]));
 }
+
+// A text between two others, so many times.
+fn repeated(
+    alloc: Global,
+    before: &str,
+    part: &str,
+    count: usize,
+    behind: &str,
+) -> Result<Txt, Memory> {
+    let mut text = Txt::from_str(alloc, before)?;
+    for _ in 0..count {
+        text.append(part)?;
+    }
+    text.append(behind)?;
+    Ok(text)
+}
+
+fn is_long_said(alloc: Global, line: &Txt, expected: &str) -> Result<bool, Memory> {
+    let catalog = clinic(alloc)?;
+    is_said(alloc, &catalog, line.as_str(), expected)
+}
+
+// An INSERT of a name with so many letters.
+fn name_is_said(alloc: Global, letters: usize, expected: &str) -> Result<bool, Memory> {
+    let before = "0 INSERT INTO patient VALUES (3, '";
+    let line = repeated(alloc, before, "a", letters, "', NULL, NULL)")?;
+    is_long_said(alloc, &line, expected)
+}
+
+// A SELECT of so many columns and one.
+fn columns_are_said(alloc: Global, more: usize, expected: &str) -> Result<bool, Memory> {
+    let line = repeated(alloc, "1 SELECT pid", ", pid", more, " FROM patient")?;
+    is_long_said(alloc, &line, expected)
+}
+
+#[test]
+fn long_texts_and_lists_are_refused(rt: HostRuntime) {
+    let alloc = rt.alloc();
+    assert_eq!(rt; name_is_said(alloc, 4096, ""), Ok(true));
+    assert_eq!(rt; name_is_said(alloc, 4097, "0 no 47 BadText\n"), Ok(true));
+    assert_eq!(rt; columns_are_said(alloc, 127, ""), Ok(true));
+    assert_eq!(rt;
+        columns_are_said(alloc, 128, "1 no 50 TooManyParts 128\n"),
+        Ok(true)
+    );
+}
