@@ -3,5 +3,6 @@ pub mod Checks
 pub mod Records
 pub mod Judging
 pub mod Effects
+pub mod Carrying
 pub mod Runs
 pub mod EffectLaws

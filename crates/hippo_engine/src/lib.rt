@@ -1,4 +1,9 @@
-//! What each line of the input does, as definitions and laws: the calls that do it are still to come.
+//! What each line of the input does, and the engine that does it.
 #![tactic(auto)]
 
+mod engine;
+mod faults;
 pub mod laws;
+
+pub use engine::{Engine, Reply};
+pub use faults::EngineFault;

@@ -1,0 +1,13 @@
+//! Why a line was not carried out.
+use thiserror::Error;
+
+/// Why a line has no reply, or its reply was not written whole.
+#[derive(Clone, Copy, Debug, PartialEq, Eq, Error)]
+pub enum EngineFault {
+    /// The keeper failed.
+    #[error("the keeper failed")]
+    Keeper,
+    /// The sink failed.
+    #[error("the reply could not be written")]
+    Write,
+}
