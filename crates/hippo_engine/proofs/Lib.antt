@@ -1,3 +1,7 @@
 pub mod ExampleLines
 mod RunExamples
 pub mod EffectTheorem
+mod ShortLemmas
+mod CarryingLemmas
+pub mod LengthLemmas
+mod LineLemmas

@@ -1,5 +1,5 @@
 //! The engine: each line of the input is carried out, and has its reply.
-ghost use Rattle.std.specs.Prelude.{◌≡◌, ◌≢◌, ◌×◌, true, false, [], Err, IfOk, OnOk};
+ghost use Rattle.std.specs.Prelude.{◌≡◌, ◌≢◌, true, false, [], Err, IfOk, OnOk};
 ghost use Rattle.hippo_io.specs.Faults.{HasRisen};
 ghost use Rattle.hippo_io.specs.LineTexts.{line_text};
 ghost use Rattle.hippo_io.specs.Told.{Appends, AppendsFront};
@@ -108,7 +108,10 @@ impl Engine {
             | Stmt::Explain(_)
             | Stmt::Audit(_)
             | Stmt::BeginAudit(_)
-            | Stmt::Watch(_) => self.refuse_unbuilt(session, statement),
+            | Stmt::Watch(_) => {
+                self.refuse_unbuilt(session, statement);
+                Ok(())
+            }
             _ => self.change(alloc, keeper, session, statement),
         }
     }

@@ -4,6 +4,9 @@
 mod engine;
 mod faults;
 pub mod laws;
+mod plain;
+mod replies;
+mod stubs;
 
 pub use engine::{Engine, Reply};
 pub use faults::EngineFault;
