@@ -1,10 +1,9 @@
 -- How long the replies are that must not want memory: each of them is within the room.
-use Rattle.std.proofs.Common.{◌≡◌, ◌+◌, ◌≤◌, ◌<◌, ◌^◌, ◌++◌, ℕ, ℤ, Option, Some, None, length, decimal, codes, refl, arith, length-append}
+use Rattle.std.proofs.Common.{◌≡◌, ◌+◌, ◌≤◌, ◌<◌, ◌^◌, ℕ, ℤ, [], true, Option, Some, None, Result, Ok, Err, IsOk, is_err, length, decimal, codes, refl, ap, arith, length-append}
 use Rattle.std.proofs.lemmas.Fmt.{length-decimal-le}
 use Rattle.hippo_values.specs.Texts.{Txt}
 use Rattle.hippo_values.specs.Dates.{day_text, time_text, moment_text}
-use Rattle.hippo_report.specs.declared.refusal.Refusal.{Refusal}
-use Rattle.hippo_report.specs.declared.refusal.Refusal.TheVariants.{MomentBack, NoSession, SessionOpen, NotAuthorized, SessionsOnly, NoCursor, Memory, NotBuilt}
+use Rattle.hippo_report.specs.declared.refusal.Refusal.TheVariants.{MomentBack, NoSession, SessionsOnly, NoCursor, Memory, NotBuilt}
 use Rattle.hippo_report.specs.Notices.{done_line, number_line}
 use Rattle.hippo_report.specs.Refusals.{who_text, said_of, refusal_line}
 use Rattle.hippo_engine.specs.Carrying.{reply_room}
@@ -74,3 +73,13 @@ pub number_fits : (session number : ℕ) (word : Txt) → session < 256 → numb
     → length (number_line session word number) ≤ reply_room
 number_fits session number word few small short =
     simp length-append (omega (arith, length-decimal_byte session few, length-decimal_word number small))
+
+-- what has room is not refused
+pub never_short : {E : Type 0} (result : Result (Unit {0}) E) (old text : Txt) (room : ℕ) → (length old + length text ≤ room → IsOk result)
+    → old ≡ [] → length text ≤ room → is_err result ≡ true → ⊥
+never_short (Ok done) old text room within empty fits fails = absurd cc
+never_short (Err fault) old text room within empty fits fails =
+    let sizes = ap length empty in
+    let same : length old + length text ≤ room = omega arith in
+    let is = within same in
+    absurd cc
