@@ -6,7 +6,6 @@ use Rattle.hippo_keeper.specs.Keeping.{KeeperState, IsReady}
 use Rattle.hippo_replay.specs.Standing.{StandsFor, IsSound}
 use Rattle.hippo_replay.specs.declared.state.State.{State}
 use Rattle.hippo_replay.proofs.KeeperLemmas.{KeepsSame-here, IsAfterCall-none}
-use Rattle.hippo_replay.proofs.Results.{ok_of}
 use Rattle.hippo_report.specs.declared.refusal.Refusal.TheVariants.{Memory}
 use Rattle.hippo_report.specs.Refusals.{refusal_line}
 use Rattle.hippo_world.specs.Worlds.{World}
@@ -21,7 +20,7 @@ use Rattle.hippo_engine.proofs.ShortLemmas.{short}
 
 -- a command that adds nothing leaves the keeper alone
 pub Carries-quiet : (command : Command) (old new : Engine) (keeper : KeeperState) → IsReady true keeper → IsSound old.state → IsQuiet command old new
-    → Carries command (ok_of EngineFault tt) old new keeper keeper
+    → Carries {A = Unit {0}} command (Ok tt) old new keeper keeper
 Carries-quiet command old new keeper ready sound quiet = record {
   call = IsAfterCall-none keeper ready;
   sound = λ fine. subst IsSound (sym quiet.same) sound;

@@ -127,7 +127,7 @@ impl Engine {
         requires ready { IsReady true (P.state keeper.old) }
         requires told { (P.state keeper.old).tells → HasLoaded self.old.state (P.state keeper.old).kept }
         requires of_line { IsOfLine (command found) }
-        ensures { Carries (command found) result self.old self.new (P.state keeper.old) (P.state keeper.new) }
+        ensures { Carries (command found.entry) result self.old self.new (P.state keeper.old) (P.state keeper.new) }
     {
         match found {
             Command::Nothing => self.say_nothing(),

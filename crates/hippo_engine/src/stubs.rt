@@ -27,7 +27,7 @@ impl Engine {
     }
 
     pub(crate) fn ask(&mut self, alloc: Global, session: u8, asked: RequestForm<'_>)
-        ensures { IsQuiet (commands.ask session (request asked)) self.old self.new }
+        ensures { IsQuiet (commands.ask session (request asked.entry)) self.old self.new }
     {
         self.reply.clear();
     }
