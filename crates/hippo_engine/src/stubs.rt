@@ -1,5 +1,5 @@
 //! Stubs.
-ghost use Rattle.std.specs.Prelude.{◌≡◌, ◌≤◌, true};
+ghost use Rattle.std.specs.Prelude.{◌≡◌, ◌≢◌, ◌≤◌, true, Err};
 ghost use Rattle.hippo_values.specs.Texts.{Txt as Text};
 ghost use Rattle.hippo_keeper.specs.Keeping.{IsReady};
 ghost use Rattle.hippo_replay.specs.Standing.{IsSound};
@@ -9,6 +9,7 @@ ghost use Rattle.hippo_catalog.specs.ChangesWanted.{changes_something};
 ghost use Rattle.hippo_lines.specs.Lent.{request};
 ghost use Rattle.hippo_commands.specs.Commands.{state, statement_in};
 ghost use Rattle.hippo_commands.specs.Commands as commands;
+ghost use Rattle.hippo_engine.specs.declared.faults.EngineFault.TheVariants.{Write as WriteFailed};
 ghost use Rattle.hippo_engine.specs.Carrying.{IsQuiet, Carries};
 
 use crate::engine::Engine;
@@ -43,7 +44,8 @@ impl Engine {
         requires ready { IsReady true (P.state keeper.old) }
         requires told { (P.state keeper.old).tells → HasLoaded self.old.state (P.state keeper.old).kept }
         requires changes { changes_something statement.now ≡ true }
-        ensures { (text : Text) → Carries (state session statement.now text) result self.old self.new (P.state keeper.old) (P.state keeper.new) }
+        ensures unwritten { result ≢ Err WriteFailed }
+        ensures carries { (text : Text) → Carries (state session statement.now text) result self.old self.new (P.state keeper.old) (P.state keeper.new) }
     {
         Ok(())
     }
@@ -62,7 +64,8 @@ impl Engine {
         requires ready { IsReady true (P.state keeper.old) }
         requires told { (P.state keeper.old).tells → HasLoaded self.old.state (P.state keeper.old).kept }
         requires read { statement_in text.now ≡ Ok (stmt.Select select.now start end) }
-        ensures { Carries (state session (stmt.Select select.now start end) text.now) result self.old self.new (P.state keeper.old) (P.state keeper.new) }
+        ensures unwritten { result ≢ Err WriteFailed }
+        ensures carries { Carries (state session (stmt.Select select.now start end) text.now) result self.old self.new (P.state keeper.old) (P.state keeper.new) }
     {
         Ok(())
     }
@@ -81,7 +84,8 @@ impl Engine {
         requires ready { IsReady true (P.state keeper.old) }
         requires told { (P.state keeper.old).tells → HasLoaded self.old.state (P.state keeper.old).kept }
         requires read { statement_in text.now ≡ Ok (stmt.Ask select.now start end) }
-        ensures { Carries (state session (stmt.Ask select.now start end) text.now) result self.old self.new (P.state keeper.old) (P.state keeper.new) }
+        ensures unwritten { result ≢ Err WriteFailed }
+        ensures carries { Carries (state session (stmt.Ask select.now start end) text.now) result self.old self.new (P.state keeper.old) (P.state keeper.new) }
     {
         Ok(())
     }
