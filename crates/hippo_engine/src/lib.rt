@@ -3,8 +3,11 @@
 
 mod engine;
 mod faults;
+mod fetching;
 pub mod laws;
 mod replies;
+mod session_checks;
+mod sessions;
 
 pub use engine::{Engine, Reply};
 pub use faults::EngineFault;
