@@ -2,4 +2,6 @@ pub mod ExampleLines
 mod RunExamples
 pub mod EffectTheorem
 mod ShortLemmas
+mod CarryingLemmas
 pub mod LengthLemmas
+mod LineLemmas
