@@ -46,23 +46,23 @@ pub naming_fits : (who : Option ℕ) (title detail : Txt) → IsSomebody who →
     → length (said_of (who_text who) title (Some detail)) ≤ reply_room
 naming_fits who title detail is short small = omega (arith, length-naming (who_text who) title detail, length-who_text who is)
 
-pub Memory-fits : (who : Option ℕ) → IsSomebody who → length (refusal_line who Memory) ≤ reply_room
-Memory-fits who is = plain_fits who (codes "90 Memory") is (omega arith)
+pub memory_fits : (who : Option ℕ) → IsSomebody who → length (refusal_line who Memory) ≤ reply_room
+memory_fits who is = plain_fits who (codes "90 Memory") is (omega arith)
 
-pub NotBuilt-fits : (who : Option ℕ) → IsSomebody who → length (refusal_line who NotBuilt) ≤ reply_room
-NotBuilt-fits who is = plain_fits who (codes "99 NotBuilt") is (omega arith)
+pub not_built_fits : (who : Option ℕ) → IsSomebody who → length (refusal_line who NotBuilt) ≤ reply_room
+not_built_fits who is = plain_fits who (codes "99 NotBuilt") is (omega arith)
 
-pub NoSession-fits : (who : Option ℕ) → IsSomebody who → length (refusal_line who NoSession) ≤ reply_room
-NoSession-fits who is = plain_fits who (codes "20 NoSession") is (omega arith)
+pub no_session_fits : (who : Option ℕ) → IsSomebody who → length (refusal_line who NoSession) ≤ reply_room
+no_session_fits who is = plain_fits who (codes "20 NoSession") is (omega arith)
 
-pub SessionsOnly-fits : (who : Option ℕ) → IsSomebody who → length (refusal_line who SessionsOnly) ≤ reply_room
-SessionsOnly-fits who is = plain_fits who (codes "25 SessionsOnly") is (omega arith)
+pub sessions_only_fits : (who : Option ℕ) → IsSomebody who → length (refusal_line who SessionsOnly) ≤ reply_room
+sessions_only_fits who is = plain_fits who (codes "25 SessionsOnly") is (omega arith)
 
-pub NoCursor-fits : (who : Option ℕ) (number : ℕ) → IsSomebody who → number < 2 ^ 64 → length (refusal_line who (NoCursor number)) ≤ reply_room
-NoCursor-fits who number is small = naming_fits who (codes "53 NoCursor") (decimal number) is (omega arith) (length-decimal_word number small)
+pub no_cursor_fits : (who : Option ℕ) (number : ℕ) → IsSomebody who → number < 2 ^ 64 → length (refusal_line who (NoCursor number)) ≤ reply_room
+no_cursor_fits who number is small = naming_fits who (codes "53 NoCursor") (decimal number) is (omega arith) (length-decimal_word number small)
 
-pub MomentBack-fits : (who : Option ℕ) (moment : ℤ) → IsSomebody who → length (refusal_line who (MomentBack moment)) ≤ reply_room
-MomentBack-fits who moment is =
+pub moment_back_fits : (who : Option ℕ) (moment : ℤ) → IsSomebody who → length (refusal_line who (MomentBack moment)) ≤ reply_room
+moment_back_fits who moment is =
     naming_fits who (codes "19 MomentBack") (moment_text moment) is (omega arith) (omega (arith, length-moment_text moment))
 
 -- a line that was carried out, and one with a number

@@ -3,9 +3,12 @@
 
 mod engine;
 mod faults;
+mod fetching;
 pub mod laws;
 mod plain;
 mod replies;
+mod session_checks;
+mod sessions;
 mod stubs;
 
 pub use engine::{Engine, Reply};

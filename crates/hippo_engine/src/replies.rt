@@ -1,12 +1,13 @@
 //! Replies that are made anew, in a text that has room for them.
 ghost use Rattle.std.specs.Prelude.{◌≡◌, ◌⊎◌, ◌≤◌, Some, None, length};
-ghost use Rattle.hippo_report.specs.declared.refusal.Refusal.TheVariants.{Memory as NoMemory};
+ghost use Rattle.hippo_report.specs.declared.refusal.Refusal.TheVariants.{Memory as NoMemory, NotBuilt as Unbuilt, MomentBack as IsBefore};
 ghost use Rattle.hippo_report.specs.Notices.{done_line, number_line};
 ghost use Rattle.hippo_report.specs.Refusals.{refusal_line};
 ghost use Rattle.hippo_engine.specs.Carrying.{reply_room};
 
 use crate::engine::Reply;
 use hippo_report::{Refusal, done_line, number_line, refusal_line};
+use hippo_values::Moment;
 
 // Want of memory, to a session or to the console.
 fn refuse_session(number: u8, reply: &mut Reply)
@@ -27,8 +28,8 @@ fn refuse_nobody(reply: &mut Reply)
     }
 }
 
-// Want of memory, which always fits.
-fn refuse_for_memory(who: Option<u8>, reply: &mut Reply)
+/// Makes the reply to a line for which memory was short. Takes none itself.
+pub fn refuse_for_memory(who: Option<u8>, reply: &mut Reply)
     ensures { reply.new ≡ refusal_line who NoMemory }
 {
     match who {
@@ -47,6 +48,20 @@ pub fn refuse(who: Option<u8>, refusal: &Refusal, reply: &mut Reply)
     if refusal_line(who, refusal, reply).is_err() {
         refuse_for_memory(who, reply);
     }
+}
+
+/// Makes the reply to a line of a session or of the console that is not carried out yet. Takes no memory.
+pub fn refuse_unbuilt(number: u8, reply: &mut Reply)
+    ensures { reply.new ≡ refusal_line (Some number) Unbuilt }
+{
+    refuse(Some(number), &Refusal::NotBuilt, reply);
+}
+
+/// Makes the reply to a line that would set the clock before this moment. Takes no memory.
+pub fn refuse_moment(clock: Moment, reply: &mut Reply)
+    ensures { reply.new ≡ refusal_line None (IsBefore clock) }
+{
+    refuse(None, &Refusal::MomentBack(clock), reply);
 }
 
 fn say_done_to_session(number: u8, reply: &mut Reply)

@@ -6,33 +6,17 @@ ghost use Rattle.hippo_replay.specs.Standing.{IsSound};
 ghost use Rattle.hippo_replay.specs.TakingIn.{HasLoaded};
 ghost use Rattle.hippo_model.specs.declared.statement.Stmt.TheVariants as stmt;
 ghost use Rattle.hippo_catalog.specs.ChangesWanted.{changes_something};
-ghost use Rattle.hippo_lines.specs.Lent.{request};
 ghost use Rattle.hippo_commands.specs.Commands.{state, statement_in};
-ghost use Rattle.hippo_commands.specs.Commands as commands;
 ghost use Rattle.hippo_engine.specs.declared.faults.EngineFault.TheVariants.{Write as WriteFailed};
-ghost use Rattle.hippo_engine.specs.Carrying.{IsQuiet, Carries};
+ghost use Rattle.hippo_engine.specs.Carrying.{Carries};
 
 use crate::engine::Engine;
 use crate::faults::EngineFault;
 use hippo_keeper::Keeper;
-use hippo_lines::RequestForm;
 use hippo_model::{RawSelect, Stmt};
-use hippo_values::Moment;
 use std::alloc::Global;
 
 impl Engine {
-    pub(crate) fn set_clock(&mut self, moment: Moment)
-        ensures { IsQuiet (commands.set_clock moment) self.old self.new }
-    {
-        self.reply.clear();
-    }
-
-    pub(crate) fn ask(&mut self, alloc: Global, session: u8, asked: RequestForm<'_>)
-        ensures { IsQuiet (commands.ask session (request asked.entry)) self.old self.new }
-    {
-        self.reply.clear();
-    }
-
     pub(crate) fn change<P: Keeper>(
         &mut self,
         alloc: Global,
