@@ -1,3 +1,5 @@
 pub mod ExampleLines
 mod RunExamples
 pub mod EffectTheorem
+mod ShortLemmas
+pub mod LengthLemmas

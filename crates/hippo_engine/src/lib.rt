@@ -4,6 +4,7 @@
 mod engine;
 mod faults;
 pub mod laws;
+mod replies;
 
 pub use engine::{Engine, Reply};
 pub use faults::EngineFault;
