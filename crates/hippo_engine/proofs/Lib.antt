@@ -3,3 +3,5 @@ mod RunExamples
 pub mod EffectTheorem
 mod ShortLemmas
 pub mod LengthLemmas
+mod CarryingLemmas
+mod ChangeLemmas
