@@ -6,7 +6,7 @@ use Rattle.hippo_keeper.specs.Keeping.{KeeperState, IsReady}
 use Rattle.hippo_replay.specs.Standing.{StandsFor, IsSound}
 use Rattle.hippo_replay.specs.declared.state.State.{State}
 use Rattle.hippo_replay.proofs.KeeperLemmas.{KeepsSame-here, IsAfterCall-none}
-use Rattle.hippo_replay.proofs.Results.{ok_of}
+use Rattle.hippo_replay.proofs.Results.{well}
 use Rattle.hippo_commands.specs.Commands.{Command}
 use Rattle.hippo_engine.specs.declared.engine.Engine.{Engine}
 use Rattle.hippo_engine.specs.declared.faults.EngineFault.{EngineFault}
@@ -14,7 +14,7 @@ use Rattle.hippo_engine.specs.Carrying.{shown, IsQuiet, HasEffect, Carries}
 
 -- a command that adds nothing leaves the keeper alone
 pub Carries-quiet : (command : Command) (old new : Engine) (keeper : KeeperState) → IsReady true keeper → IsSound old.state → IsQuiet command old new
-    → Carries command (ok_of EngineFault tt) old new keeper keeper
+    → Carries command (well EngineFault) old new keeper keeper
 Carries-quiet command old new keeper ready sound quiet = record {
   call = IsAfterCall-none keeper ready;
   sound = λ fine. subst IsSound (sym quiet.same) sound;

@@ -24,7 +24,7 @@ use Rattle.hippo_replay.specs.declared.state.State.{State}
 use Rattle.hippo_replay.specs.Standing.{StandsFor, IsSound}
 use Rattle.hippo_replay.specs.Recording.{Records}
 use Rattle.hippo_replay.proofs.KeeperLemmas.{IsAfterCall-as}
-use Rattle.hippo_replay.proofs.Results.{err_of, well}
+use Rattle.hippo_replay.proofs.Results.{err_of, ok_of, well}
 use Rattle.hippo_report.specs.declared.refusal.Refusal.{Refusal}
 use Rattle.hippo_report.specs.declared.refusal.Refusal.TheVariants as refusals
 use Rattle.hippo_report.specs.Refusals.{refusal_line}
@@ -75,10 +75,6 @@ err_same one other e = cc
 pub rows_refused : (outcome : Result Act TableFault) (fault : TableFault) (refusal : Refusal) → IsFinished outcome (Err fault) → refusal ≡ rows_refusal fault → Refuses (act_made outcome) refusal
 rows_refused outcome fault refusal (inl memory) is = inr (is ∙ ap rows_refusal (err_same fault tables.Memory memory))
 rows_refused outcome fault refusal (inr so) is = inl (ap act_made (sym so) ∙ ap Err (sym is))
-
--- a check that is passed, and then what is found
-pub passed : {A : Type 0} (history : History) (world : World) (check : Checked A) (next : A → Checked Deed) (found : A) (result : Result Entry Refusal) → check ≡ Ok found → FindsChange history world (next found) result → FindsChange history world (check >>= next) result
-passed history world check next found result is finds = rw is finds
 
 -- a check that refuses
 pub stopped : {A B : Type 0} (check : Checked A) (next : A → Checked B) (refusal : Refusal) → Refuses check refusal → Refuses (check >>= next) refusal
@@ -131,6 +127,10 @@ refused_change session statement text refusal engine changes refuses = record {
   refused = λ history stands. rw (judged_as_change history (world_of engine.world) session statement text changes) (refuses history stands);
 }
 
+-- what is done for a change that adds the next entry
+next_is : (history : History) (world : World) (entry : Entry) → entry ≡ next_entry history world entry.act → done history world (deeds.change entry.act) ≡ changed world entry
+next_is history world entry is = sym (ap (changed world) is)
+
 -- a change that adds an entry
 pub found_change : (session : ℕ) (statement : Stmt) (text : Txt) (entry : Entry) (engine : Engine) → changes_something statement ≡ true → session ≡ 0
     → ((history : History) → StandsFor engine.state history → IsChange history (world_of engine.world) (judged_change history (world_of engine.world) session statement) entry)
@@ -147,8 +147,30 @@ found_change session statement text entry engine changes console found = record 
         ap (carried_out history (world_of engine.world) (Some session)) (judged_as_change history (world_of engine.world) session statement text changes ∙ change.judged_so)
         ∙ next_is history (world_of engine.world) entry change.next
 
-    next_is : (history : History) (world : World) (entry : Entry) → entry ≡ next_entry history world entry.act → done history world (deeds.change entry.act) ≡ changed world entry
-    next_is history world entry is = sym (ap (changed world) is)
+-- the console's check and that of names and types, and then what is wanted is judged
+abbrev after_both : Checked (Unit {0}) → Checked (Option Wanted) → (Wanted → Checked Deed) → Checked Deed
+after_both console means next = console >>= λ _. means >>= λ change. ok_or change refusals.BadSyntax >>= λ wanted. next wanted
+
+ok_same : (one other : Wanted) → ok_of Refusal one ≡ Ok other → one ≡ other
+ok_same one other e = cc
+
+refusal_same : (one other : Refusal) → err_of Wanted one ≡ Err other → one ≡ other
+refusal_same one other e = cc
+
+pub names_found : (history : History) (world : World) (console : Checked (Unit {0})) (means : Checked (Option Wanted)) (next : Wanted → Checked Deed) (wanted : Wanted) (result : Result Entry Refusal) → console ≡ Ok tt
+    → (means >>= λ change. ok_or change refusals.BadSyntax) ≡ Ok wanted → FindsChange history world (next wanted) result → FindsChange history world (after_both console means next) result
+names_found history world (Err refusal) means next wanted result passed is finds = absurd cc
+names_found history world (Ok x) (Err refusal) next wanted result passed is finds = absurd cc
+names_found history world (Ok x) (Ok None) next wanted result passed is finds = absurd cc
+names_found history world (Ok x) (Ok (Some w)) next wanted result passed is finds = subst (λ (v : Wanted). FindsChange history world (next v) result) (sym (ok_same w wanted is)) finds
+
+pub names_refused : (console : Checked (Unit {0})) (means : Checked (Option Wanted)) (next : Wanted → Checked Deed) (refusal : Refusal) → console ≡ Ok tt
+    → Refuses (means >>= λ change. ok_or change refusals.BadSyntax) refusal → Refuses (after_both console means next) refusal
+names_refused (Err other) means next refusal passed why = absurd cc
+names_refused (Ok x) means next refusal passed (inr memory) = inr memory
+names_refused (Ok x) (Err other) next refusal passed (inl is) = inl (ap Err (refusal_same other refusal is))
+names_refused (Ok x) (Ok None) next refusal passed (inl is) = inl (ap Err (refusal_same refusals.BadSyntax refusal is))
+names_refused (Ok x) (Ok (Some w)) next refusal passed (inl is) = absurd cc
 
 -- the entry is recorded
 pub recorded : (command : Command) (entry : Entry) (old new : Engine) (before after : KeeperState) → Changes command entry old → Records entry (well KeeperFault) old.state new.state before after → IsSound new.state
@@ -199,3 +221,8 @@ broken command entry old new before after changes records = record {
     kept = records.keeps.failed refl;
   };
 }
+
+-- want of memory is told either way
+pub told_short : (reply : Txt) → (reply ≡ refusal_line (Some 0) refusals.Memory) ⊎ (reply ≡ refusal_line (Some 0) refusals.Memory) → reply ≡ refusal_line (Some 0) refusals.Memory
+told_short reply (inl is) = is
+told_short reply (inr is) = is

@@ -41,7 +41,7 @@ fn check_console(session: u8) -> Result<(), Refusal>
 }
 
 fn name_refusal(fault: NameFault) -> Refusal
-    ensures { (fault.entry ≢ faults.Memory × result ≡ refusals.Meaningless fault.entry) ⊎ (result ≡ refusals.Memory) }
+    ensures { (fault ≢ faults.Memory × result ≡ refusals.Meaningless fault) ⊎ (result ≡ refusals.Memory) }
 {
     match fault {
         NameFault::Memory => Refusal::Memory,
@@ -84,7 +84,7 @@ fn check_rows(alloc: Global, tables: &Tables, wanted: &Wanted) -> Result<Act, Re
 // The next entry with an act, where the history has room for it.
 fn entry_in_room(count: u64, world: &World, act: Act) -> Result<Entry, Refusal>
     ensures found { (history : History) → count ≡ length history
-        → FindsChange history (world_of world.now) (change_in_room history (world_of world.now) act.entry) result }
+        → FindsChange history (world_of world.now) (change_in_room history (world_of world.now) act) result }
     ensures number { IfOk result (λ entry. entry.seq < 2 ^ 63) }
 {
     if count < u64::from(world.limit) {
