@@ -2,6 +2,7 @@ pub mod ExampleLines
 mod RunExamples
 pub mod EffectTheorem
 mod ShortLemmas
-pub mod LengthLemmas
 mod CarryingLemmas
+pub mod LengthLemmas
 mod ChangeLemmas
+mod LineLemmas

@@ -5,7 +5,9 @@ mod changes;
 mod engine;
 mod faults;
 pub mod laws;
+mod plain;
 mod replies;
+mod stubs;
 
 pub use engine::{Engine, Reply};
 pub use faults::EngineFault;
