@@ -1,5 +1,5 @@
 //! Statements that change something: what they add to the history, or why they are refused.
-ghost use Rattle.std.specs.Prelude.{◌≡◌, ◌≢◌, ◌⊎◌, ◌^◌, ◌<◌, true, length, Ok as Good, Some, IfOk, OnOk};
+ghost use Rattle.std.specs.Prelude.{◌≡◌, ◌≢◌, ◌⊎◌, ◌^◌, ◌<◌, true, length, IfOk, OnOk};
 ghost use Rattle.hippo_values.specs.Texts.{Txt as Text};
 ghost use Rattle.hippo_model.specs.declared.name_fault.NameFault.TheVariants as faults;
 ghost use Rattle.hippo_model.specs.Terms.{History};
@@ -15,7 +15,7 @@ ghost use Rattle.hippo_commands.specs.Commands.{Command, state};
 ghost use Rattle.hippo_engine.specs.Checks.{by_console, rows_refusal, act_made};
 ghost use Rattle.hippo_engine.specs.Judging.{judged_wanted, judged_change};
 ghost use Rattle.hippo_engine.specs.Carrying.{IsQuiet, Carries};
-ghost use Rattle.hippo_engine.specs.Changing.{Refuses, Finds, FindsChange, Changes, IsRefused, wanted_in, change_in_room};
+ghost use Rattle.hippo_engine.specs.Changing.{Finds, FindsChange, Changes, IsRefused, wanted_in, change_in_room};
 
 use crate::engine::Engine;
 use crate::faults::EngineFault;
@@ -73,7 +73,8 @@ fn check_names(alloc: Global, catalog: &Catalog, statement: &Stmt) -> Result<Wan
 // What is wanted is made, where the rows that are there let it be.
 #[tactic(auto, using(crate::proofs::ChangeLemmas::act_found, crate::proofs::ChangeLemmas::rows_refused))]
 fn check_rows(alloc: Global, tables: &Tables, wanted: &Wanted) -> Result<Act, Refusal>
-    ensures { (history : History) → TablesStandFor tables.now history → Finds (act_made (finished history wanted.now)) result }
+    ensures { (history : History) → TablesStandFor tables.now history
+        → Finds (act_made (finished history wanted.now)) result }
 {
     match tables.finish(alloc, wanted) {
         Ok(act) => Ok(act),
@@ -102,8 +103,8 @@ fn entry_in_room(count: u64, world: &World, act: Act) -> Result<Entry, Refusal>
 impl Engine {
     // The entry that makes what is wanted, where rows and room let it be.
     fn entry_wanted(&self, alloc: Global, wanted: &Wanted) -> Result<Entry, Refusal>
-        ensures found { (history : History) → StandsFor self.now.state history → FindsChange history (world_of self.now.world)
-            (judged_wanted history (world_of self.now.world) wanted.now) result }
+        ensures found { (history : History) → StandsFor self.now.state history
+            → FindsChange history (world_of self.now.world) (judged_wanted history (world_of self.now.world) wanted.now) result }
         ensures number { IfOk result (λ entry. entry.seq < 2 ^ 63) }
     {
         match check_rows(alloc, &self.state.tables, wanted) {
@@ -114,8 +115,8 @@ impl Engine {
 
     // The entry that a statement which changes something adds, or its first refusal.
     fn entry_of(&self, alloc: Global, session: u8, statement: &Stmt) -> Result<Entry, Refusal>
-        ensures found { (history : History) → StandsFor self.now.state history → FindsChange history (world_of self.now.world)
-            (judged_change history (world_of self.now.world) session statement.now) result }
+        ensures found { (history : History) → StandsFor self.now.state history
+            → FindsChange history (world_of self.now.world) (judged_change history (world_of self.now.world) session statement.now) result }
         ensures number { IfOk result (λ entry. entry.seq < 2 ^ 63) }
         ensures console { OnOk result (session ≡ 0) }
     {
@@ -132,7 +133,8 @@ impl Engine {
 
     // Replies why a command is refused.
     pub(crate) fn refuse_command(&mut self, session: u8, refusal: &Refusal)
-        ensures { (command : Command) → IsRefused command session refusal.now self.old → IsQuiet command self.old self.new }
+        ensures { (command : Command) → IsRefused command session refusal.now self.old
+            → IsQuiet command self.old self.new }
     {
         refuse(Some(session), refusal, &mut self.reply);
     }
@@ -162,8 +164,8 @@ impl Engine {
         }
     }
 
-    /// Carries out a statement that changes something: at the console alone, where its names, types and rows let it, and
-    /// the history has room.
+    /// Carries out a statement that changes something: at the console alone, where its names, types and rows let it,
+    /// and the history has room.
     pub(crate) fn change<P: Keeper>(
         &mut self,
         alloc: Global,
@@ -175,7 +177,8 @@ impl Engine {
         requires ready { IsReady true (P.state keeper.old) }
         requires told { (P.state keeper.old).tells → HasLoaded self.old.state (P.state keeper.old).kept }
         requires changes { changes_something statement.now ≡ true }
-        ensures { (text : Text) → Carries (state session statement.now text) result self.old self.new (P.state keeper.old) (P.state keeper.new) }
+        ensures { (text : Text) → Carries (state session statement.now text) result self.old self.new
+            (P.state keeper.old) (P.state keeper.new) }
     {
         match self.entry_of(alloc, session, statement) {
             Ok(entry) => {
