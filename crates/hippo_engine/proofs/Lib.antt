@@ -4,4 +4,5 @@ pub mod EffectTheorem
 mod ShortLemmas
 mod CarryingLemmas
 pub mod LengthLemmas
+mod ChangeLemmas
 mod LineLemmas

@@ -4,5 +4,6 @@ pub mod Records
 pub mod Judging
 pub mod Effects
 pub mod Carrying
+pub mod Changing
 pub mod Runs
 pub mod EffectLaws

@@ -1,6 +1,7 @@
 //! What each line of the input does, and the engine that does it.
 #![tactic(auto)]
 
+mod changes;
 mod engine;
 mod faults;
 mod fetching;

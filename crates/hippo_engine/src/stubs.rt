@@ -1,11 +1,9 @@
 //! Stubs.
-ghost use Rattle.std.specs.Prelude.{◌≡◌, ◌≢◌, ◌≤◌, true, Err};
-ghost use Rattle.hippo_values.specs.Texts.{Txt as Text};
+ghost use Rattle.std.specs.Prelude.{◌≡◌, ◌≢◌, true, Err};
 ghost use Rattle.hippo_keeper.specs.Keeping.{IsReady};
 ghost use Rattle.hippo_replay.specs.Standing.{IsSound};
 ghost use Rattle.hippo_replay.specs.TakingIn.{HasLoaded};
 ghost use Rattle.hippo_model.specs.declared.statement.Stmt.TheVariants as stmt;
-ghost use Rattle.hippo_catalog.specs.ChangesWanted.{changes_something};
 ghost use Rattle.hippo_commands.specs.Commands.{state, statement_in};
 ghost use Rattle.hippo_engine.specs.declared.faults.EngineFault.TheVariants.{Write as WriteFailed};
 ghost use Rattle.hippo_engine.specs.Carrying.{Carries};
@@ -13,27 +11,10 @@ ghost use Rattle.hippo_engine.specs.Carrying.{Carries};
 use crate::engine::Engine;
 use crate::faults::EngineFault;
 use hippo_keeper::Keeper;
-use hippo_model::{RawSelect, Stmt};
+use hippo_model::RawSelect;
 use std::alloc::Global;
 
 impl Engine {
-    pub(crate) fn change<P: Keeper>(
-        &mut self,
-        alloc: Global,
-        keeper: &mut P,
-        session: u8,
-        statement: &Stmt,
-    ) -> Result<(), EngineFault>
-        requires sound { IsSound self.old.state }
-        requires ready { IsReady true (P.state keeper.old) }
-        requires told { (P.state keeper.old).tells → HasLoaded self.old.state (P.state keeper.old).kept }
-        requires changes { changes_something statement.now ≡ true }
-        ensures unwritten { result ≢ Err WriteFailed }
-        ensures carries { (text : Text) → Carries (state session statement.now text) result self.old self.new (P.state keeper.old) (P.state keeper.new) }
-    {
-        Ok(())
-    }
-
     pub(crate) fn select<P: Keeper>(
         &mut self,
         alloc: Global,
