@@ -1,21 +1,14 @@
 -- From the checks of a statement that changes something, and from recording its entry, to what carrying it out does.
-use Rattle.std.proofs.Common.{◌≡◌, ◌≢◌, ◌⊎◌, ◌∙◌, inl, inr, refl, sym, ap, subst, ℕ, List, [], ◌∷◌, Option, Some, None, Result, Ok, Err, true, false, append-nil}
-use Rattle.std.specs.Prelude.{slice_get, ok_or}
+use Rattle.std.proofs.Common.{◌≡◌, ◌⊎◌, ◌∙◌, inl, inr, refl, sym, ap, subst, ℕ, Option, Some, None, Result, Ok, Err, true, false, append-nil}
+use Rattle.std.specs.Prelude.{ok_or}
 use Rattle.std.proofs.lemmas.Bool.{false≢true}
 use Rattle.hippo_values.specs.Texts.{Txt}
-use Rattle.hippo_model.specs.declared.entry.Act.{Act}
 use Rattle.hippo_model.specs.declared.entry.Entry.{Entry}
-use Rattle.hippo_model.specs.declared.name_fault.NameFault.{NameFault}
-use Rattle.hippo_model.specs.declared.name_fault.NameFault.TheVariants as faults
 use Rattle.hippo_model.specs.declared.statement.Stmt.{Stmt}
 use Rattle.hippo_model.specs.declared.statement.Stmt.TheVariants as stmt
 use Rattle.hippo_model.specs.declared.statement.Wanted.{Wanted}
-use Rattle.hippo_model.specs.declared.table_fault.TableFault.{TableFault}
-use Rattle.hippo_model.specs.declared.table_fault.TableFault.TheVariants as tables
 use Rattle.hippo_model.specs.Terms.{History}
 use Rattle.hippo_catalog.specs.ChangesWanted.{changes_something}
-use Rattle.hippo_catalog.specs.Refusals.{IsFirstOf}
-use Rattle.hippo_tables.specs.Finished.{IsFinished}
 use Rattle.hippo_keeper.specs.declared.faults.KeeperFault.{KeeperFault}
 use Rattle.hippo_keeper.specs.declared.faults.KeeperFault.TheVariants.{Memory}
 use Rattle.hippo_keeper.specs.Keeping.{KeeperState}
@@ -33,7 +26,7 @@ use Rattle.hippo_engine.specs.declared.engine.Engine.{Engine}
 use Rattle.hippo_engine.specs.declared.faults.EngineFault.{EngineFault}
 use Rattle.hippo_engine.specs.Carrying.{IsQuiet, Carries}
 use Rattle.hippo_engine.specs.Changing.{Refuses, IsChange, Changes, IsRefused, changed}
-use Rattle.hippo_engine.specs.Checks.{Checked, ◌>>=◌, meant, rows_refusal, act_made}
+use Rattle.hippo_engine.specs.Checks.{Checked, ◌>>=◌}
 use Rattle.hippo_engine.specs.Deeds.{Deed}
 use Rattle.hippo_engine.specs.Deeds as deeds
 use Rattle.hippo_engine.specs.Effects.{only_reply, done, effect_of, carried_out, next_entry, IsEffect}
@@ -43,39 +36,6 @@ use Rattle.hippo_engine.proofs.ShortLemmas.{short, refused}
 -- what a statement means is what is asked for
 abbrev asked_for : Checked (Option Wanted) → Checked Wanted
 asked_for means = means >>= λ change. ok_or change refusals.BadSyntax
-
--- where nothing is refused, what is asked for is found
-pub granted : (all : List NameFault) (wanted : Option Wanted) (made : Wanted) → (all ≡ []) × (wanted ≡ Some made)
-    → asked_for (meant all wanted) ≡ Ok made
-granted all wanted made (none, is) = rw (none, is) refl
-
-some_same : {A : Type 0} (x y : A) → Some x ≡ Some y → x ≡ y
-some_same x y e = cc
-
-first_is : (all : List NameFault) (wanted : Option Wanted) (fault : NameFault) → slice_get all 0 ≡ Some fault
-    → asked_for (meant all wanted) ≡ Err (refusals.Meaningless fault)
-first_is [] wanted fault is = absurd cc
-first_is (first ∷ more) wanted fault is = ap (λ (f : NameFault). Err (refusals.Meaningless f)) (some_same first fault is)
-
--- and else the first refusal, unless memory was short
-pub named : (all : List NameFault) (wanted : Option Wanted) (fault : NameFault) (refusal : Refusal) → IsFirstOf all fault
-    → ((fault ≢ faults.Memory) × (refusal ≡ refusals.Meaningless fault)) ⊎ (refusal ≡ refusals.Memory)
-    → Refuses (asked_for (meant all wanted)) refusal
-named all wanted fault refusal first (inl (other, is)) = inl (first_is all wanted fault (first other) ∙ ap Err (sym is))
-named all wanted fault refusal first (inr memory) = inr memory
-
--- what the rows that are there let be
-pub act_found : (outcome : Result Act TableFault) (act : Act) → IsFinished outcome (Ok act) → act_made outcome ≡ Ok act
-act_found outcome act (inl memory) = absurd cc
-act_found outcome act (inr is) = ap act_made (sym is)
-
-fault_same : (one other : TableFault) → err_of Act one ≡ Err other → one ≡ other
-fault_same one other e = cc
-
-pub rows_refused : (outcome : Result Act TableFault) (fault : TableFault) (refusal : Refusal)
-    → IsFinished outcome (Err fault) → refusal ≡ rows_refusal fault → Refuses (act_made outcome) refusal
-rows_refused outcome fault refusal (inl memory) is = inr (is ∙ ap rows_refusal (fault_same fault tables.Memory memory))
-rows_refused outcome fault refusal (inr so) is = inl (ap act_made (sym so) ∙ ap Err (sym is))
 
 -- the console's check and that of names and types, and then what is wanted is judged
 abbrev after_both : Checked (Unit {0}) → Checked (Option Wanted) → (Wanted → Checked Deed) → Checked Deed
@@ -122,8 +82,8 @@ pub quiet_refusal : (command : Command) (session : ℕ) (refusal : Refusal) (old
 quiet_refusal command session refusal old new is state_is world_is said = record {
   same = state_is;
   effect = λ history stands.
-    subst (λ (w : World). IsEffect history (world_of old.world) command (only_reply w new.reply)) (ap world_of (sym world_is))
-    (replied history (is.refused history stands) said);
+      subst (λ (w : World). IsEffect history (world_of old.world) command (only_reply w new.reply)) (ap world_of (sym world_is))
+      (replied history (is.refused history stands) said);
 }
   where
     as_said : (history : History) (other : Refusal) → new.reply ≡ refusal_line (Some session) other
@@ -144,13 +104,13 @@ quiet_refusal command session refusal old new is state_is world_is said = record
 -- a change that is refused
 pub refused_change : (session : ℕ) (statement : Stmt) (text : Txt) (refusal : Refusal) (engine : Engine) → changes_something statement ≡ true
     → ((history : History) → StandsFor engine.state history
-      → Refuses (judged_change history (world_of engine.world) session statement) refusal)
+    → Refuses (judged_change history (world_of engine.world) session statement) refusal)
     → IsRefused (state session statement text) session refusal engine
 refused_change session statement text refusal engine changes refuses = record {
   who = refl;
   memory = refl;
   refused = λ history stands.
-    rw (judged_as_change history (world_of engine.world) session statement text changes) (refuses history stands);
+      rw (judged_as_change history (world_of engine.world) session statement text changes) (refuses history stands);
 }
 
 -- what is done for a change that adds the next entry
@@ -162,7 +122,7 @@ next_is history world entry is = sym (ap (changed world) is)
 pub found_change : (session : ℕ) (statement : Stmt) (text : Txt) (entry : Entry) (engine : Engine) → changes_something statement ≡ true
     → session ≡ 0
     → ((history : History) → StandsFor engine.state history
-      → IsChange history (world_of engine.world) (judged_change history (world_of engine.world) session statement) entry)
+    → IsChange history (world_of engine.world) (judged_change history (world_of engine.world) session statement) entry)
     → Changes (state session statement text) entry engine
 found_change session statement text entry engine changes console found = record {
   who = ap Some console;
@@ -189,8 +149,8 @@ unrecorded command entry old new before after changes records sound world_is rep
   carried = λ fine history stands. record {
     effect = only_reply (world_of old.world) (refusal_line (Some 0) refusals.Memory);
     is = subst (λ (who : Option ℕ). IsEffect history (world_of old.world) command
-      (only_reply (world_of old.world) (refusal_line who refusals.Memory)))
-      changes.who (short history (world_of old.world) command changes.memory);
+        (only_reply (world_of old.world) (refusal_line who refusals.Memory)))
+        changes.who (short history (world_of old.world) command changes.memory);
     reply = reply_is;
     world = ap world_of world_is;
     stands = subst (StandsFor new.state) (sym (append-nil history)) (records.memory refl history stands);

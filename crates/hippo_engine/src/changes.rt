@@ -60,7 +60,6 @@ fn rows_refusal(fault: TableFault) -> Refusal
 }
 
 // What a statement asks for, by names and types.
-#[tactic(auto, using(crate::proofs::ChangeLemmas::granted, crate::proofs::ChangeLemmas::named))]
 fn check_names(alloc: Global, catalog: &Catalog, statement: &Stmt) -> Result<Wanted, Refusal>
     ensures { Finds (wanted_in catalog.now.names statement.now) result }
 {
@@ -71,7 +70,6 @@ fn check_names(alloc: Global, catalog: &Catalog, statement: &Stmt) -> Result<Wan
 }
 
 // What is wanted is made, where the rows that are there let it be.
-#[tactic(auto, using(crate::proofs::ChangeLemmas::act_found, crate::proofs::ChangeLemmas::rows_refused))]
 fn check_rows(alloc: Global, tables: &Tables, wanted: &Wanted) -> Result<Act, Refusal>
     ensures { (history : History) → TablesStandFor tables.now history
         → Finds (act_made (finished history wanted.now)) result }
