@@ -4,5 +4,6 @@ pub mod Records
 pub mod Judging
 pub mod Effects
 pub mod Carrying
+pub mod Asking
 pub mod Runs
 pub mod EffectLaws
