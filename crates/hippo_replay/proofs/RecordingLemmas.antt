@@ -2,6 +2,7 @@
 use Rattle.std.proofs.Common.{◌≡◌, ◌∙◌, sym, ap, refl, subst, ◌+◌, Bool, true, false, ◌&&◌, [], ◌∷◌, ◌++◌, map, length, Result, Ok, Err, OnOk}
 use Rattle.std.specs.Prelude.{◌==◌}
 use Rattle.std.proofs.lemmas.Bool.{and_parts, false≢true}
+use Rattle.std.proofs.lemmas.List.{map-append}
 use Rattle.std.proofs.lemmas.Result.{on_ok_weaker}
 use Rattle.hippo_model.specs.declared.entry.Act.{Act}
 use Rattle.hippo_model.specs.declared.entry.Act.TheVariants.{Delete}
@@ -16,7 +17,7 @@ use Rattle.hippo_tables.specs.Standing.{is_delete}
 use Rattle.hippo_keeper.specs.declared.faults.KeeperFault.{KeeperFault}
 use Rattle.hippo_keeper.specs.declared.faults.KeeperFault.TheVariants.{Failed, Memory}
 use Rattle.hippo_keeper.specs.Answering.{has_failed, wants_memory}
-use Rattle.hippo_keeper.specs.Keeping.{next_number as next_kept, KeeperState, IsReady, Appends}
+use Rattle.hippo_keeper.specs.Keeping.{Store, next_number as next_kept, KeeperState, IsReady, Appends}
 use Rattle.hippo_typing.specs.Meanings.{meaning}
 use Rattle.hippo_replay.specs.declared.state.State.{State}
 use Rattle.hippo_replay.specs.Standing.{StandsFor, IsSound, IsNext, takes_no_memory, Remembers}
@@ -107,3 +108,21 @@ module _ (entry : Entry) where
   IsSound-after (Ok value) old new before after sound records good = record { history = sound.history ++ entry ∷ []; stands = records.ok sound.history sound.stands }
   IsSound-after (Err Failed) old new before after sound records good = absurd (false≢true (sym good))
   IsSound-after (Err Memory) old new before after sound records good = record { history = sound.history; stands = records.memory refl sound.history sound.stands }
+
+  -- and where the keeper tells what it keeps, that is what the state has loaded
+  pub HasLoaded-after : (result : Result (Unit {0}) KeeperFault) (old new : State) (before after : KeeperState) → Records entry result old new before after → (before.tells → HasLoaded old before.kept) → has_failed result ≡ false → after.tells → HasLoaded new after.kept
+  HasLoaded-after (Ok value) old new before after records told good tells =
+      let loaded = told (records.keeps.call.told tells) in
+      record {
+        history = loaded.history ++ entry ∷ [];
+        forms = map-append stored loaded.history (entry ∷ []) ∙ ap (λ (store : Store). store ++ stored entry ∷ []) loaded.forms ∙ sym (records.keeps.kept tells).0;
+        stands = records.ok loaded.history loaded.stands;
+      }
+  HasLoaded-after (Err Failed) old new before after records told good tells = absurd (false≢true (sym good))
+  HasLoaded-after (Err Memory) old new before after records told good tells =
+      let loaded = told (records.keeps.call.told tells) in
+      record {
+        history = loaded.history;
+        forms = loaded.forms ∙ sym (records.keeps.same refl tells).same;
+        stands = records.memory refl loaded.history loaded.stands;
+      }
