@@ -13,7 +13,7 @@ ghost use Rattle.hippo_world.specs.Holding.{world_of};
 ghost use Rattle.hippo_commands.specs.Commands.{state as command};
 ghost use Rattle.hippo_engine.specs.Checks.{refused_if, by_session, open_session, allowed_by, authorized, meant};
 ghost use Rattle.hippo_engine.specs.Judging.{is_plain, text_between, question_in, judged_select, judged_open, judged};
-ghost use Rattle.hippo_engine.specs.Asking.{Finds, question_of, answers, opens, IsAnswerable, with_found, cursor_in};
+ghost use Rattle.hippo_engine.specs.Asking.{Finds, question_of, answers, opens, IsAnswerable, with_found, opening_of, cursor_in};
 
 use hippo_model::{Authorization, NameFault, Query, RawForm, RawSelect};
 use hippo_replay::State;
@@ -22,10 +22,9 @@ use hippo_typing::resolve_select;
 use hippo_world::{Session, World};
 use std::alloc::Global;
 
-/// A question that may be asked: in which session, by whom, its text, and the query that it means.
+/// A question that may be asked: by whom, its text, and the query that it means.
 #[derive(Drop)]
 pub struct Asking<'a> {
-    pub session: u8,
     pub asker: &'a Session,
     pub text: &'a str,
     pub query: Query,
@@ -126,19 +125,14 @@ fn question<'a>(
     requires sound { IsSound state.now }
     requires plain { is_plain select.now.form ≡ true }
     ensures found { (history : History) → StandsFor state.now history
-        → Finds question_of (question_in history (world_of world.now) session select.now text.now) result }
+        → Finds (question_of session) (question_in history (world_of world.now) session select.now text.now) result }
     ensures asker { IfOk result (λ asking. open_session (world_of world.now) session ≡ Good asking.asker.now) }
     ensures answerable { IfOk result (λ asking. IsAnswerable state.now asking.query) }
 {
     let asker = open_session(world, session)?;
     authorized(state, asker)?;
     let query = meaning(alloc, state, select)?;
-    Ok(Asking {
-        session,
-        asker,
-        text,
-        query,
-    })
+    Ok(Asking { asker, text, query })
 }
 
 // The history may have one entry more.
@@ -204,13 +198,23 @@ fn plain_select<'a>(
     requires sound { IsSound state.now }
     requires plain { is_plain select.now.form ≡ true }
     ensures found { (history : History) → StandsFor state.now history
-        → Finds answers (judged_select history (world_of world.now) session select.now text.now) result }
+        → Finds (answers session) (judged_select history (world_of world.now) session select.now text.now) result }
     ensures answerable { IfOk result (λ asking. IsAnswerable state.now asking.query) }
     ensures below { OnOk result (state.now.count + 1 < 2 ^ 63) }
 {
     let asking = question(alloc, state, world, session, select, text)?;
     let (asking, _) = with_found(asking, room(state.count, world.limit))?;
     Ok(asking)
+}
+
+// A question with its cursor's number; it falls where that is refused.
+fn with_cursor(asking: Asking<'_>, cursor: Result<u8, Refusal>) -> Result<Opening<'_>, Refusal>
+    ensures { result ≡ opening_of asking.entry cursor }
+{
+    match cursor {
+        Ok(cursor) => Ok(Opening { asking, cursor }),
+        Err(refusal) => Err(refusal),
+    }
 }
 
 // A plain question whose answer a cursor is to hand out.
@@ -225,15 +229,14 @@ fn plain_open<'a>(
     requires sound { IsSound state.now }
     requires plain { is_plain select.now.form ≡ true }
     ensures found { (history : History) → StandsFor state.now history
-        → Finds opens (judged_open history (world_of world.now) session select.now text.now) result }
+        → Finds (opens session) (judged_open history (world_of world.now) session select.now text.now) result }
     ensures asker { IfOk result (λ opening. open_session (world_of world.now) session ≡ Good opening.asking.asker.now) }
     ensures answerable { IfOk result (λ opening. IsAnswerable state.now opening.asking.query) }
     ensures below { OnOk result (state.now.count + 1 < 2 ^ 63) }
 {
     let asking = question(alloc, state, world, session, select, text)?;
     let cursor = cursor_to_open(asking.asker, state.count, world.limit);
-    let (asking, cursor) = with_found(asking, cursor)?;
-    Ok(Opening { asking, cursor })
+    with_cursor(asking, cursor)
 }
 
 // The text of a question; one that cannot be cut out is answered by want of memory.
@@ -259,7 +262,7 @@ pub fn select_asks<'a>(
     end: usize,
 ) -> Result<Asking<'a>, Refusal>
     requires sound { IsSound state.now }
-    ensures found { (history : History) → StandsFor state.now history → Finds answers
+    ensures found { (history : History) → StandsFor state.now history → Finds (answers session)
         (judged history (world_of world.now) (command session (stmt.Select select.now start end) text.now)) result }
     ensures answerable { IfOk result (λ asking. IsAnswerable state.now asking.query) }
     ensures below { OnOk result (state.now.count + 1 < 2 ^ 63) }
@@ -284,7 +287,7 @@ pub fn open_asks<'a>(
     end: usize,
 ) -> Result<Opening<'a>, Refusal>
     requires sound { IsSound state.now }
-    ensures found { (history : History) → StandsFor state.now history → Finds opens
+    ensures found { (history : History) → StandsFor state.now history → Finds (opens session)
         (judged history (world_of world.now) (command session (stmt.Ask select.now start end) text.now)) result }
     ensures asker { IfOk result (λ opening. open_session (world_of world.now) session ≡ Good opening.asking.asker.now) }
     ensures answerable { IfOk result (λ opening. IsAnswerable state.now opening.asking.query) }

@@ -5,6 +5,7 @@ mod asking;
 mod engine;
 mod faults;
 pub mod laws;
+mod questions;
 mod replies;
 
 pub use engine::{Engine, Reply};
