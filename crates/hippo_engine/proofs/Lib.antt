@@ -5,3 +5,4 @@ pub mod ShortLemmas
 pub mod LengthLemmas
 pub mod CarryingLemmas
 pub mod AskingLemmas
+pub mod QuestionLemmas
