@@ -1,8 +1,10 @@
 pub mod ExampleLines
 mod RunExamples
 pub mod EffectTheorem
-mod ShortLemmas
-mod CarryingLemmas
+pub mod ShortLemmas
 pub mod LengthLemmas
-mod ChangeLemmas
+pub mod CarryingLemmas
 mod LineLemmas
+mod ChangeLemmas
+mod AskingLemmas
+mod QuestionLemmas

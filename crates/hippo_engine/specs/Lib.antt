@@ -5,5 +5,6 @@ pub mod Judging
 pub mod Effects
 pub mod Carrying
 pub mod Changing
+pub mod Asking
 pub mod Runs
 pub mod EffectLaws

@@ -1,5 +1,5 @@
 //! Statements that change something: what they add to the history, or why they are refused.
-ghost use Rattle.std.specs.Prelude.{◌≡◌, ◌≢◌, ◌⊎◌, ◌^◌, ◌<◌, true, length, IfOk, OnOk};
+ghost use Rattle.std.specs.Prelude.{◌≡◌, ◌≢◌, ◌⊎◌, ◌^◌, ◌<◌, true, length, IfOk, OnOk, Err};
 ghost use Rattle.hippo_values.specs.Texts.{Txt as Text};
 ghost use Rattle.hippo_model.specs.declared.name_fault.NameFault.TheVariants as faults;
 ghost use Rattle.hippo_model.specs.Terms.{History};
@@ -12,6 +12,7 @@ ghost use Rattle.hippo_replay.specs.TakingIn.{HasLoaded};
 ghost use Rattle.hippo_report.specs.declared.refusal.Refusal.TheVariants as refusals;
 ghost use Rattle.hippo_world.specs.Holding.{world_of};
 ghost use Rattle.hippo_commands.specs.Commands.{Command, state};
+ghost use Rattle.hippo_engine.specs.declared.faults.EngineFault.TheVariants.{Write as WriteFailed};
 ghost use Rattle.hippo_engine.specs.Checks.{by_console, rows_refusal, act_made};
 ghost use Rattle.hippo_engine.specs.Judging.{judged_wanted, judged_change};
 ghost use Rattle.hippo_engine.specs.Carrying.{IsQuiet, Carries};
@@ -148,8 +149,9 @@ impl Engine {
         requires ready { IsReady true (P.state keeper.old) }
         requires told { (P.state keeper.old).tells → HasLoaded self.old.state (P.state keeper.old).kept }
         requires number { entry.now.seq < 2 ^ 63 }
-        ensures { (command : Command) → Changes command entry.now self.old
+        ensures carries { (command : Command) → Changes command entry.now self.old
             → Carries command result self.old self.new (P.state keeper.old) (P.state keeper.new) }
+        ensures unwritten { result ≢ Err WriteFailed }
     {
         say_number(0, "ok", entry.seq, &mut self.reply);
         match self.state.record(alloc, keeper, entry) {
@@ -175,8 +177,9 @@ impl Engine {
         requires ready { IsReady true (P.state keeper.old) }
         requires told { (P.state keeper.old).tells → HasLoaded self.old.state (P.state keeper.old).kept }
         requires changes { changes_something statement.now ≡ true }
-        ensures { (text : Text) → Carries (state session statement.now text) result self.old self.new
+        ensures carries { (text : Text) → Carries (state session statement.now text) result self.old self.new
             (P.state keeper.old) (P.state keeper.new) }
+        ensures unwritten { result ≢ Err WriteFailed }
     {
         match self.entry_of(alloc, session, statement) {
             Ok(entry) => {

@@ -4,14 +4,14 @@ use Rattle.hippo_engine.proofs.CarryingLemmas.{Carries-quiet}
 use Rattle.hippo_engine.proofs.ChangeLemmas.{refused_change, found_change}
 use Rattle.hippo_engine.proofs.engine.Engine.change.Goals as goal
 
-pub returns-in-Ok : goal.returns-in-Ok
-returns-in-Ok g c = λ text.
-    c.record_change-recorded.ensures (state c.args.session c.args.statement.now text)
+pub returns-in-Ok-clause-carries : goal.returns-in-Ok-clause-carries
+returns-in-Ok-clause-carries g c = λ text.
+    c.record_change-recorded.ensures.carries (state c.args.session c.args.statement.now text)
     (found_change c.args.session c.args.statement.now text c.in-Ok.entry c.args.self.now c.requires.changes
     c.in-Ok.ensures.console c.in-Ok.ensures.found)
 
-pub returns-in-Err : goal.returns-in-Err
-returns-in-Err g c = λ text.
+pub returns-in-Err-clause-carries : goal.returns-in-Err-clause-carries
+returns-in-Err-clause-carries g c = λ text.
     let command : Command = state c.args.session c.args.statement.now text in
     Carries-quiet command c.args.self.now c.refuse_command.new.self (g.P.Keeper.state c.args.keeper.now)
     c.requires.ready c.requires.sound
