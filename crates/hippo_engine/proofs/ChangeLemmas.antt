@@ -1,5 +1,5 @@
 -- From the checks of a statement that changes something, and from recording its entry, to what carrying it out does.
-use Rattle.std.proofs.Common.{◌≡◌, ◌⊎◌, ◌∙◌, inl, inr, refl, sym, ap, subst, ℕ, Option, Some, None, Result, Ok, Err, true, false, append-nil}
+use Rattle.std.proofs.Common.{◌≡◌, ◌⊎◌, ◌∙◌, inl, inr, refl, sym, ap, subst, ℕ, Option, Some, None, Ok, Err, true, false, append-nil}
 use Rattle.std.specs.Prelude.{ok_or}
 use Rattle.std.proofs.lemmas.Bool.{false≢true}
 use Rattle.hippo_values.specs.Texts.{Txt}

@@ -103,7 +103,8 @@ impl Engine {
     // The entry that makes what is wanted, where rows and room let it be.
     fn entry_wanted(&self, alloc: Global, wanted: &Wanted) -> Result<Entry, Refusal>
         ensures found { (history : History) → StandsFor self.now.state history
-            → FindsChange history (world_of self.now.world) (judged_wanted history (world_of self.now.world) wanted.now) result }
+            → FindsChange history (world_of self.now.world)
+            (judged_wanted history (world_of self.now.world) wanted.now) result }
         ensures number { IfOk result (λ entry. entry.seq < 2 ^ 63) }
     {
         match check_rows(alloc, &self.state.tables, wanted) {
@@ -115,7 +116,8 @@ impl Engine {
     // The entry that a statement which changes something adds, or its first refusal.
     fn entry_of(&self, alloc: Global, session: u8, statement: &Stmt) -> Result<Entry, Refusal>
         ensures found { (history : History) → StandsFor self.now.state history
-            → FindsChange history (world_of self.now.world) (judged_change history (world_of self.now.world) session statement.now) result }
+            → FindsChange history (world_of self.now.world)
+            (judged_change history (world_of self.now.world) session statement.now) result }
         ensures number { IfOk result (λ entry. entry.seq < 2 ^ 63) }
         ensures console { OnOk result (session ≡ 0) }
     {
