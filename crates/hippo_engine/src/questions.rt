@@ -1,5 +1,5 @@
 //! Questions: each is kept before it is answered.
-ghost use Rattle.std.specs.Prelude.{◌≡◌, ◌⊎◌, ℕ, ◌+◌, ◌<◌, ◌^◌, List, [], ◌∷◌, ◌++◌, true, length, Ok as Good, IfOk, OnOk, OnErr};
+ghost use Rattle.std.specs.Prelude.{◌≡◌, ◌⊎◌, ℕ, ◌+◌, ◌<◌, ◌^◌, List, [], ◌∷◌, ◌++◌, true, Ok as Good, IfOk, OnOk};
 ghost use Rattle.hippo_model.specs.declared.entry.Act.TheVariants.{Asked};
 ghost use Rattle.hippo_model.specs.declared.statement.Stmt.TheVariants as stmt;
 ghost use Rattle.hippo_model.specs.Terms.{History, ShownRow};
@@ -14,7 +14,8 @@ ghost use Rattle.hippo_world.specs.Holding.{world_of};
 ghost use Rattle.hippo_commands.specs.Commands.{state, statement_in};
 ghost use Rattle.hippo_engine.specs.Carrying.{Carries};
 ghost use Rattle.hippo_engine.specs.Effects.{row_limit, question_rows, within_limit, listed};
-ghost use Rattle.hippo_engine.specs.Asking.{question_of, IsAnswerable, entry_of, Asks, short_line, IsUnkept, RepliesRows, IsOpened, IsShort, RepliesCursor};
+ghost use Rattle.hippo_engine.specs.Asking.{question_of, IsAnswerable, entry_of, Asks};
+ghost use Rattle.hippo_engine.specs.Asking.{short_line, IsUnkept, RepliesRows, IsOpened, IsShort, RepliesCursor};
 
 use crate::asking::{Asking, Opening, open_asks, select_asks};
 use crate::engine::{Engine, Reply};
@@ -31,7 +32,8 @@ use hippo_world::{Session, World};
 use std::alloc::Global;
 
 fn asked_act(alloc: Global, asker: &Session, text: &str) -> Result<Act, Memory>
-    ensures { IfOk result (λ act. act ≡ Asked asker.now.user asker.now.pair.purpose asker.now.pair.recipient text.now) }
+    ensures { IfOk result (λ act.
+        act ≡ Asked asker.now.user asker.now.pair.purpose asker.now.pair.recipient text.now) }
 {
     let user = asker.user.copy(alloc)?;
     let purpose = asker.pair.purpose.copy(alloc)?;
@@ -170,7 +172,8 @@ fn say_rows(session: u8, rows: &Answer, reply: &mut Reply)
 // Says what a SELECT answers.
 fn say_answer(session: u8, answer: &Result<Answer, EvalFault>, reply: &mut Reply)
     ensures { (rows : List ShownRow) → IsAnswered row_limit rows answer.now
-        → (reply.new ≡ within_limit session rows (listed session (answer_line session) rows)) ⊎ (reply.new ≡ short_line session) }
+        → (reply.new ≡ within_limit session rows (listed session (answer_line session) rows))
+        ⊎ (reply.new ≡ short_line session) }
 {
     match answer {
         Ok(rows) => say_rows(session, rows, reply),
@@ -268,9 +271,19 @@ impl Engine {
         requires ready { IsReady true (P.state keeper.old) }
         requires told { (P.state keeper.old).tells → HasLoaded self.old.state (P.state keeper.old).kept }
         requires read { statement_in text.now ≡ Good (stmt.Select select.now start end) }
-        ensures { Carries (state session (stmt.Select select.now start end) text.now) result self.old self.new (P.state keeper.old) (P.state keeper.new) }
+        ensures { Carries (state session (stmt.Select select.now start end) text.now) result
+            self.old self.new (P.state keeper.old) (P.state keeper.new) }
     {
-        match select_asks(alloc, &self.state, &self.world, session, select, text, start, end) {
+        match select_asks(
+            alloc,
+            &self.state,
+            &self.world,
+            session,
+            select,
+            text,
+            start,
+            end,
+        ) {
             Ok(asking) => {
                 let kept = keep_and_answer(alloc, keeper, &mut self.state, &self.world, &asking);
                 drop(asking);
@@ -300,9 +313,19 @@ impl Engine {
         requires ready { IsReady true (P.state keeper.old) }
         requires told { (P.state keeper.old).tells → HasLoaded self.old.state (P.state keeper.old).kept }
         requires read { statement_in text.now ≡ Good (stmt.Ask select.now start end) }
-        ensures { Carries (state session (stmt.Ask select.now start end) text.now) result self.old self.new (P.state keeper.old) (P.state keeper.new) }
+        ensures { Carries (state session (stmt.Ask select.now start end) text.now) result
+            self.old self.new (P.state keeper.old) (P.state keeper.new) }
     {
-        match open_asks(alloc, &self.state, &self.world, session, select, text, start, end) {
+        match open_asks(
+            alloc,
+            &self.state,
+            &self.world,
+            session,
+            select,
+            text,
+            start,
+            end,
+        ) {
             Ok(opening) => {
                 let Opening { asking, cursor } = opening;
                 let kept = keep_and_answer(alloc, keeper, &mut self.state, &self.world, &asking);
