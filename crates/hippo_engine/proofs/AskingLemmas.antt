@@ -1,8 +1,7 @@
 -- What the checks of a question come to.
-use Rattle.std.proofs.Common.{◌≡◌, ◌≢◌, ◌⊎◌, ◌∙◌, inl, inr, refl, sym, ap, subst, ℕ, Bool, true, false, ◌&&◌, List, [], ◌∷◌, ◌++◌, Option, Some, None, Result, Ok, Err, length}
-use Rattle.std.specs.Prelude.{is_none, is_some, flat_map, ok_or, nat_le, unwrap_or, slice_get}
+use Rattle.std.proofs.Common.{◌≡◌, ◌≢◌, ◌⊎◌, ◌∙◌, inl, inr, refl, sym, ap, subst, Bool, true, false, ◌&&◌, List, [], ◌∷◌, ◌++◌, Option, Some, None, Ok, Err}
+use Rattle.std.specs.Prelude.{is_none, is_some, flat_map, unwrap_or, slice_get}
 use Rattle.hippo_values.specs.declared.names.Name.{Name}
-use Rattle.hippo_values.specs.Texts.{Txt}
 use Rattle.hippo_model.specs.declared.name_fault.NameFault.{NameFault}
 use Rattle.hippo_model.specs.declared.name_fault.NameFault.TheVariants.{UnknownTable, Memory as NoRoom}
 use Rattle.hippo_model.specs.declared.query.Query.{Query}
@@ -19,18 +18,13 @@ use Rattle.hippo_typing.specs.Meanings.{meaning}
 use Rattle.hippo_typing.specs.ResolutionLaws.{NamesAreThoseOf}
 use Rattle.hippo_typing.proofs.CatalogTheorem.{valid_names}
 use Rattle.hippo_report.specs.declared.refusal.Refusal.{Refusal}
-use Rattle.hippo_report.specs.declared.refusal.Refusal.TheVariants.{CursorLimit, HistoryFull, Memory, Meaningless}
+use Rattle.hippo_report.specs.declared.refusal.Refusal.TheVariants.{Memory, Meaningless}
 use Rattle.hippo_answering.specs.States.{are_created, is_grouped}
 use Rattle.hippo_replay.specs.declared.state.State.{State}
 use Rattle.hippo_replay.specs.Standing.{StandsFor}
-use Rattle.hippo_world.specs.declared.sessions.Session.{Session}
-use Rattle.hippo_world.specs.Worlds.{World, free_number}
-use Rattle.hippo_engine.specs.declared.asking.Asking.{Asking}
-use Rattle.hippo_engine.specs.Checks.{Checked, ◌>>=◌, refused_if, open_session, meant, has_room}
-use Rattle.hippo_engine.specs.Deeds.{Deed, Question}
-use Rattle.hippo_engine.specs.Deeds as deeds
-use Rattle.hippo_engine.specs.Judging.{is_plain, question_in, judged_open}
-use Rattle.hippo_engine.specs.Asking.{Finds, question_of, cursor_in, opening_of, opens, IsAnswerable}
+use Rattle.hippo_engine.specs.Checks.{meant}
+use Rattle.hippo_engine.specs.Judging.{is_plain}
+use Rattle.hippo_engine.specs.Asking.{IsAnswerable}
 
 -- where nothing is refused, the form is meant
 pub meant_so : {A : Type 0} (faults : List NameFault) (form made : A) → faults ≡ [] → made ≡ form → meant faults form ≡ Ok made

@@ -93,7 +93,6 @@ module _ (command : Command) (deed : Deed) (question : Question) (said : List Sh
     (takes : takes_memory command ≡ true) (sound : IsSound old.state)
     (judged_is : (history : History) → StandsFor old.state history → judged history (world_of old.world) command ≡ Ok deed)
     (asks : IsQuestion (world_of old.world) deed question said left) where
-
   abbrev entry : Entry
   entry = entry_of old.state old.world.clock question
 

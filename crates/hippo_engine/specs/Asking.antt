@@ -82,8 +82,8 @@ KeptAnswer = Result (Result (List ShownRow) EvalFault) KeeperFault
 
 -- a question's entry is kept, and the state stands for the history with it behind; the answer is that of before. Or it
 -- is not kept, and the state is the same
-pub record Asks (entry : Entry) (world : World) (question : Question) (result : KeptAnswer) (old new : State)
-    (before after : KeeperState) : Type 0 where
+pub record Asks (entry : Entry) (world : World) (question : Question) (result : KeptAnswer)
+    (old new : State) (before after : KeeperState) : Type 0 where
   pub keeps : Keeps entry result old before after
   pub added : OnOk result ((history : History) → StandsFor old history → StandsFor new (history ++ entry ∷ []))
   pub same : OnErr result (new ≡ old)

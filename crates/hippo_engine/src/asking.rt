@@ -1,10 +1,12 @@
 //! Questions of sessions: what is asked, or why it may not be.
-ghost use Rattle.std.specs.Prelude.{◌≡◌, ◌⊎◌, ◌≢◌, ◌+◌, ◌<◌, ◌^◌, true, nat_le, ok_or, Ok as Good, Err as Bad, MatchResult, IfOk, OnOk};
+ghost use Rattle.std.specs.Prelude.{◌≡◌, ◌⊎◌, ◌≢◌, ◌+◌, ◌<◌, ◌^◌, true, nat_le, ok_or, Ok as Good, Err as Bad};
+ghost use Rattle.std.specs.Prelude.{MatchResult, IfOk, OnOk};
 ghost use Rattle.hippo_model.specs.Terms.{History};
 ghost use Rattle.hippo_model.specs.Rules.{authorized_at};
 ghost use Rattle.hippo_model.specs.declared.name_fault.NameFault.TheVariants.{Memory as NoRoom};
 ghost use Rattle.hippo_model.specs.declared.statement.Stmt.TheVariants as stmt;
-ghost use Rattle.hippo_report.specs.declared.refusal.Refusal.TheVariants.{Memory as NoMemory, Meaningless as MeansNothing, CursorLimit as NoFreeCursor, HistoryFull as Full};
+ghost use Rattle.hippo_report.specs.declared.refusal.Refusal.TheVariants.{Memory as NoMemory, Meaningless as MeansNothing};
+ghost use Rattle.hippo_report.specs.declared.refusal.Refusal.TheVariants.{CursorLimit as NoFreeCursor, HistoryFull as Full};
 ghost use Rattle.hippo_catalog.specs.Catalogs.{known_at};
 ghost use Rattle.hippo_catalog.specs.Selects.{select_refused, query_of};
 ghost use Rattle.hippo_replay.specs.Standing.{StandsFor, IsSound};
@@ -13,7 +15,8 @@ ghost use Rattle.hippo_world.specs.Holding.{world_of};
 ghost use Rattle.hippo_commands.specs.Commands.{state as command};
 ghost use Rattle.hippo_engine.specs.Checks.{refused_if, by_session, open_session, allowed_by, authorized, meant};
 ghost use Rattle.hippo_engine.specs.Judging.{is_plain, text_between, question_in, judged_select, judged_open, judged};
-ghost use Rattle.hippo_engine.specs.Asking.{Finds, question_of, answers, opens, IsAnswerable, with_found, opening_of, cursor_in};
+ghost use Rattle.hippo_engine.specs.Asking.{Finds, question_of, answers, opens, IsAnswerable};
+ghost use Rattle.hippo_engine.specs.Asking.{with_found, opening_of, cursor_in};
 
 use hippo_model::{Authorization, NameFault, Query, RawForm, RawSelect};
 use hippo_replay::State;
@@ -104,7 +107,8 @@ fn meaning(alloc: Global, state: &State, select: &RawSelect) -> Result<Query, Re
     requires sound { IsSound state.now }
     requires plain { is_plain select.now.form ≡ true }
     ensures found { (history : History) → StandsFor state.now history
-        → Finds (λ query. query) (meant (select_refused (known_at history) select.now) (query_of (known_at history) select.now)) result }
+        → Finds (λ query. query)
+        (meant (select_refused (known_at history) select.now) (query_of (known_at history) select.now)) result }
     ensures answerable { IfOk result (λ query. IsAnswerable state.now query) }
 {
     match resolve_select(alloc, &state.catalog, select) {
@@ -136,7 +140,7 @@ fn question<'a>(
 }
 
 // The history may have one entry more.
-fn room(count: u64, limit: u32) -> Result<(), Refusal>
+fn check_room(count: u64, limit: u32) -> Result<(), Refusal>
     ensures is { result ≡ refused_if (nat_le limit count) Full }
     ensures below { OnOk result (count + 1 < 2 ^ 63) }
 {
@@ -151,14 +155,14 @@ fn free_cursor(asker: &Session) -> Result<u8, Refusal>
     ensures { Finds (λ number. number) (ok_or (free_number asker.now.cursors) NoFreeCursor) result }
 {
     match asker.cursors.free() {
-        Some(number) => small(number),
+        Some(number) => cursor_number(number),
         None => Err(Refusal::CursorLimit),
     }
 }
 
 // A number that a cursor may have; one that none has is answered by want of memory.
-fn small(number: usize) -> Result<u8, Refusal>
-    ensures { MatchResult result (λ small. small ≡ number) (λ refusal. refusal ≡ NoMemory) }
+fn cursor_number(number: usize) -> Result<u8, Refusal>
+    ensures { MatchResult result (λ found. found ≡ number) (λ refusal. refusal ≡ NoMemory) }
 {
     match u8::try_from(number) {
         Ok(number) => Ok(number),
@@ -172,7 +176,7 @@ fn cursor_to_open(asker: &Session, count: u64, limit: u32) -> Result<u8, Refusal
     ensures below { OnOk result (count + 1 < 2 ^ 63) }
 {
     let number = free_cursor(asker)?;
-    room(count, limit)?;
+    check_room(count, limit)?;
     Ok(number)
 }
 
@@ -203,7 +207,7 @@ fn plain_select<'a>(
     ensures below { OnOk result (state.now.count + 1 < 2 ^ 63) }
 {
     let asking = question(alloc, state, world, session, select, text)?;
-    let (asking, _) = with_found(asking, room(state.count, world.limit))?;
+    let (asking, _) = with_found(asking, check_room(state.count, world.limit))?;
     Ok(asking)
 }
 
@@ -230,7 +234,8 @@ fn plain_open<'a>(
     requires plain { is_plain select.now.form ≡ true }
     ensures found { (history : History) → StandsFor state.now history
         → Finds (opens session) (judged_open history (world_of world.now) session select.now text.now) result }
-    ensures asker { IfOk result (λ opening. open_session (world_of world.now) session ≡ Good opening.asking.asker.now) }
+    ensures asker { IfOk result (λ opening.
+        open_session (world_of world.now) session ≡ Good opening.asking.asker.now) }
     ensures answerable { IfOk result (λ opening. IsAnswerable state.now opening.asking.query) }
     ensures below { OnOk result (state.now.count + 1 < 2 ^ 63) }
 {
@@ -289,7 +294,8 @@ pub fn open_asks<'a>(
     requires sound { IsSound state.now }
     ensures found { (history : History) → StandsFor state.now history → Finds (opens session)
         (judged history (world_of world.now) (command session (stmt.Ask select.now start end) text.now)) result }
-    ensures asker { IfOk result (λ opening. open_session (world_of world.now) session ≡ Good opening.asking.asker.now) }
+    ensures asker { IfOk result (λ opening.
+        open_session (world_of world.now) session ≡ Good opening.asking.asker.now) }
     ensures answerable { IfOk result (λ opening. IsAnswerable state.now opening.asking.query) }
     ensures below { OnOk result (state.now.count + 1 < 2 ^ 63) }
 {

@@ -1,5 +1,5 @@
 //! Questions: each is kept before it is answered.
-ghost use Rattle.std.specs.Prelude.{◌≡◌, ◌≢◌, ◌⊎◌, ℕ, ◌+◌, ◌<◌, ◌^◌, List, [], ◌∷◌, ◌++◌, true, length, Ok as Good, Err as Bad, IfOk, OnOk, OnErr};
+ghost use Rattle.std.specs.Prelude.{◌≡◌, ◌≢◌, ◌⊎◌, ℕ, ◌+◌, ◌<◌, ◌^◌, List, [], ◌∷◌, ◌++◌, true, Ok as Good, Err as Bad, IfOk, OnOk};
 ghost use Rattle.hippo_model.specs.declared.entry.Act.TheVariants.{Asked};
 ghost use Rattle.hippo_model.specs.declared.statement.Stmt.TheVariants as stmt;
 ghost use Rattle.hippo_model.specs.Terms.{History, ShownRow};
@@ -15,7 +15,8 @@ ghost use Rattle.hippo_commands.specs.Commands.{state, statement_in};
 ghost use Rattle.hippo_engine.specs.declared.faults.EngineFault.TheVariants.{Write as WriteFailed};
 ghost use Rattle.hippo_engine.specs.Carrying.{Carries};
 ghost use Rattle.hippo_engine.specs.Effects.{row_limit, question_rows, within_limit, listed};
-ghost use Rattle.hippo_engine.specs.Asking.{question_of, IsAnswerable, entry_of, Asks, short_line, IsUnkept, RepliesRows, IsOpened, IsShort, RepliesCursor};
+ghost use Rattle.hippo_engine.specs.Asking.{question_of, IsAnswerable, entry_of, Asks};
+ghost use Rattle.hippo_engine.specs.Asking.{short_line, IsUnkept, RepliesRows, IsOpened, IsShort, RepliesCursor};
 
 use crate::asking::{Asking, Opening, open_asks, select_asks};
 use crate::engine::{Engine, Reply};
@@ -32,7 +33,8 @@ use hippo_world::{Session, World};
 use std::alloc::Global;
 
 fn asked_act(alloc: Global, asker: &Session, text: &str) -> Result<Act, Memory>
-    ensures { IfOk result (λ act. act ≡ Asked asker.now.user asker.now.pair.purpose asker.now.pair.recipient text.now) }
+    ensures { IfOk result (λ act.
+        act ≡ Asked asker.now.user asker.now.pair.purpose asker.now.pair.recipient text.now) }
 {
     let user = asker.user.copy(alloc)?;
     let purpose = asker.pair.purpose.copy(alloc)?;
@@ -171,7 +173,8 @@ fn say_rows(session: u8, rows: &Answer, reply: &mut Reply)
 // Says what a SELECT answers.
 fn say_answer(session: u8, answer: &Result<Answer, EvalFault>, reply: &mut Reply)
     ensures { (rows : List ShownRow) → IsAnswered row_limit rows answer.now
-        → (reply.new ≡ within_limit session rows (listed session (answer_line session) rows)) ⊎ (reply.new ≡ short_line session) }
+        → (reply.new ≡ within_limit session rows (listed session (answer_line session) rows))
+        ⊎ (reply.new ≡ short_line session) }
 {
     match answer {
         Ok(rows) => say_rows(session, rows, reply),
@@ -276,7 +279,16 @@ impl Engine {
             (P.state keeper.old) (P.state keeper.new) }
         ensures unwritten { result ≢ Bad WriteFailed }
     {
-        match select_asks(alloc, &self.state, &self.world, session, select, text, start, end) {
+        match select_asks(
+            alloc,
+            &self.state,
+            &self.world,
+            session,
+            select,
+            text,
+            start,
+            end,
+        ) {
             Ok(asking) => {
                 let kept = keep_and_answer(alloc, keeper, &mut self.state, &self.world, &asking);
                 drop(asking);
@@ -310,7 +322,16 @@ impl Engine {
             (P.state keeper.old) (P.state keeper.new) }
         ensures unwritten { result ≢ Bad WriteFailed }
     {
-        match open_asks(alloc, &self.state, &self.world, session, select, text, start, end) {
+        match open_asks(
+            alloc,
+            &self.state,
+            &self.world,
+            session,
+            select,
+            text,
+            start,
+            end,
+        ) {
             Ok(opening) => {
                 let Opening { asking, cursor } = opening;
                 let kept = keep_and_answer(alloc, keeper, &mut self.state, &self.world, &asking);
