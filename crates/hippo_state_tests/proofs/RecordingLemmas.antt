@@ -25,9 +25,9 @@ is_open_first name state before after steps_before steps_after loads =
     }
 
 pub is_open_next : (entry : Entry) (result : Result (Unit {0}) KeeperFault) (old new : State) (before after : KeeperState) → IsOpen old before → Records entry result old new before after → (has_failed result ≡ false → IsSound new) → OnOk result (IsOpen new after)
-is_open_next entry (Ok value) old new before after open records sound = record {
+is_open_next entry (Ok value) old new before after at_old records sound = record {
   sound = sound refl;
   ready = IsReady-after (Ok value) before after refl records.keeps.call;
-  told = HasLoaded-after entry (Ok value) old new before after records open.told refl;
+  told = HasLoaded-after entry (Ok value) old new before after records at_old.told refl;
 }
-is_open_next entry (Err fault) old new before after open records sound = tt
+is_open_next entry (Err fault) old new before after at_old records sound = tt
