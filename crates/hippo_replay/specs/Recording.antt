@@ -21,15 +21,18 @@ HasKept (entry ∷ entries) before after =
 
 -- an entry is kept behind the others; or memory was short, and it is not; or the keeper failed. It is handed to the
 -- keeper only where it may follow
-pub record Keeps {A : Type 0} (entry : Entry) (result : Result A KeeperFault) (state : State) (before after : KeeperState) : Type 0 where
+pub record Keeps {A : Type 0} (entry : Entry) (result : Result A KeeperFault) (state : State)
+    (before after : KeeperState) : Type 0 where
   pub call : IsAfterCall true false result before after
-  pub follows : wants_memory result ≡ false → (history : History) → StandsFor state history → may_follow meaning history entry ≡ true
+  pub follows : wants_memory result ≡ false → (history : History) → StandsFor state history
+      → may_follow meaning history entry ≡ true
   pub kept : OnOk result (after.tells → HasKept (entry ∷ []) before after)
   pub failed : has_failed result ≡ true → after.tells → MayHaveOneMore (stored entry) before after
   pub same : wants_memory result ≡ true → after.tells → KeepsSame before after
 
--- the same, and the state stands for the history with the entry behind; or for what it stood for, where memory was short
-pub record Records {A : Type 0} (entry : Entry) (result : Result A KeeperFault) (old new : State) (before after : KeeperState) : Type 0 where
+-- the same, and the state stands for the history with the entry behind; or for what it did, where memory was short
+pub record Records {A : Type 0} (entry : Entry) (result : Result A KeeperFault) (old new : State)
+    (before after : KeeperState) : Type 0 where
   pub keeps : Keeps entry result old before after
   pub ok : OnOk result ((history : History) → StandsFor old history → StandsFor new (history ++ entry ∷ []))
   pub memory : wants_memory result ≡ true → (history : History) → StandsFor old history → StandsFor new history

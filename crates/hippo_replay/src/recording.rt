@@ -67,8 +67,8 @@ impl State {
         }
     }
 
-    /// Keeps an entry behind the others. It is tested first, and handed to the keeper only where it can be kept and may come
-    /// next; one that may not is answered by `Memory`, as is want of memory, and the keeper then keeps what it kept.
+    /// Keeps an entry behind the others. It is tested first, and handed to the keeper only where it can be kept and may
+    /// come next; one that may not is answered by `Memory`, as is want of memory: the keeper then keeps what it kept.
     /// `Failed` comes only where the keeper failed: the entry is then kept or not.
     pub fn keep<P: Keeper>(
         &self,
@@ -184,9 +184,9 @@ impl State {
         }
     }
 
-    /// Takes in the entry that comes next and keeps it. One that can not be kept or may not come next is answered by `Memory`,
-    /// as is want of memory: state and keeper then are what they were. After `Failed`, which comes only where the keeper
-    /// failed, the entry is kept or not, and the state is of no use.
+    /// Takes in the entry that comes next and keeps it. One that cannot be kept or may not come next is answered by
+    /// `Memory`, as is want of memory: state and keeper then say what they said. After `Failed`, which comes only where
+    /// the keeper failed, the entry is kept or not, and the state is of no use.
     pub fn record<P: Keeper>(
         &mut self,
         alloc: Global,

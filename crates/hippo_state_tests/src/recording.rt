@@ -85,7 +85,7 @@ fn record<K: Keeper>(
     act: Result<Act, Memory>,
 ) -> Result<(), KeeperFault>
     requires small { seq < 100 }
-    requires open { IsOpen state.old (K.state keeper.old) }
+    requires at { IsOpen state.old (K.state keeper.old) }
     ensures { OnOk result (IsOpen state.new (K.state keeper.new)) }
 {
     match entry(seq, act) {
@@ -104,7 +104,7 @@ fn record_three<K: Keeper>(
     state: &mut State,
     keeper: &mut K,
 ) -> Result<(), KeeperFault>
-    requires open { IsOpen state.old (K.state keeper.old) }
+    requires at { IsOpen state.old (K.state keeper.old) }
 {
     record(alloc, state, keeper, 1, create(alloc))?;
     record(alloc, state, keeper, 2, insert(alloc))?;
@@ -116,7 +116,7 @@ fn record_behind<K: Keeper>(
     mut state: State,
     keeper: &mut K,
 ) -> Result<(), KeeperFault>
-    requires open { IsOpen state (K.state keeper.old) }
+    requires at { IsOpen state (K.state keeper.old) }
 {
     let result = record_three(alloc, &mut state, keeper);
     drop(state);
