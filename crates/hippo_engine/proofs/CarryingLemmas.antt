@@ -1,6 +1,8 @@
 -- From what single calls do to what carrying out a command does.
 use Rattle.std.proofs.Common.{◌≡◌, ℕ, refl, sym, ap, subst, inl, inr, List, [], ◌∷◌, ◌++◌, Option, Some, None, Result, Ok, Err, true, false, append-nil}
 use Rattle.std.proofs.lemmas.Bool.{false≢true}
+use Rattle.std.specs.Option.{IfSome}
+use Rattle.hippo_io.specs.Lines.{LineText}
 use Rattle.hippo_model.specs.Terms.{History}
 use Rattle.hippo_keeper.specs.Keeping.{KeeperState, IsReady}
 use Rattle.hippo_replay.specs.Standing.{StandsFor, IsSound}
@@ -10,7 +12,7 @@ use Rattle.hippo_report.specs.declared.refusal.Refusal.TheVariants.{Memory}
 use Rattle.hippo_report.specs.Refusals.{refusal_line}
 use Rattle.hippo_world.specs.Worlds.{World}
 use Rattle.hippo_world.specs.Holding.{world_of}
-use Rattle.hippo_commands.specs.Commands.{Command, nothing, wrong, ask, state, who_commands, takes_memory, IsCommand}
+use Rattle.hippo_commands.specs.Commands.{Command, nothing, wrong, ask, state, who_commands, takes_memory, command_of, IsCommand}
 use Rattle.hippo_commands.specs.Commands as commands
 use Rattle.hippo_engine.specs.declared.engine.Engine.{Engine}
 use Rattle.hippo_engine.specs.declared.faults.EngineFault.{EngineFault}
@@ -83,3 +85,8 @@ IsOfLine-found command found of_line (inr (takes, is)) = subst IsOfLine (sym is)
     somebodys (commands.set_clock moment) takes = absurd (false≢true takes)
     somebodys (ask session request) takes = tt
     somebodys (state session statement text) takes = tt
+
+-- what was found for a line's text
+pub found_for : (line : Option LineText) (text : LineText) (found : Command) → line ≡ Some text → IfSome line (λ one. IsCommand (command_of one) found)
+    → IsCommand (command_of text) found
+found_for line text found is held = subst (λ (one : Option LineText). IfSome one (λ some. IsCommand (command_of some) found)) is held

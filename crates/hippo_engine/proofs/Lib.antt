@@ -1,7 +1,10 @@
 pub mod ExampleLines
 mod RunExamples
 pub mod EffectTheorem
-mod ShortLemmas
-mod CarryingLemmas
+pub mod ShortLemmas
 pub mod LengthLemmas
+pub mod CarryingLemmas
 mod LineLemmas
+mod ChangeLemmas
+mod AskingLemmas
+mod QuestionLemmas

@@ -1,5 +1,5 @@
 //! The engine: each line of the input is carried out, and has its reply.
-ghost use Rattle.std.specs.Prelude.{◌≡◌, ◌≢◌, true, false, [], Err, IfOk, OnOk};
+ghost use Rattle.std.specs.Prelude.{◌≡◌, ◌≢◌, true, [], Err, IfOk, IfSome, OnOk};
 ghost use Rattle.hippo_io.specs.Faults.{HasRisen};
 ghost use Rattle.hippo_io.specs.LineTexts.{line_text};
 ghost use Rattle.hippo_io.specs.Told.{Appends, AppendsFront};
@@ -8,19 +8,18 @@ ghost use Rattle.hippo_world.specs.Worlds.{opening};
 ghost use Rattle.hippo_world.specs.Holding.{world_of};
 ghost use Rattle.hippo_replay.specs.Standing.{IsSound};
 ghost use Rattle.hippo_replay.specs.TakingIn.{HasLoaded};
-ghost use Rattle.hippo_commands.specs.Commands.{state, statement_in};
+ghost use Rattle.hippo_commands.specs.Commands.{state, statement_in, command_of, IsCommand};
 ghost use Rattle.hippo_commands.specs.Lent.{command};
 ghost use Rattle.hippo_engine.specs.declared.faults.EngineFault.TheVariants.{Keeper as KeeperFailed, Write as WriteFailed};
 ghost use Rattle.hippo_engine.specs.Carrying.{IsOfLine, Carries, Answers};
 
 use crate::faults::EngineFault;
-use crate::replies::refuse;
 use hippo_commands::{Command, command_of};
-use hippo_io::{Line, Sink, write_whole};
+use hippo_io::{Line, Sink};
 use hippo_keeper::Keeper;
 use hippo_model::Stmt;
 use hippo_replay::State;
-use hippo_report::{Format, Refusal};
+use hippo_report::Format;
 use hippo_values::{Memory, Moment, RoomyTxt};
 use hippo_world::World;
 use std::alloc::Global;
@@ -52,6 +51,17 @@ fn at_beginning(
     let world = World::new(alloc, clock, limit, format)?;
     let reply = Reply::with_room(alloc)?;
     Ok((world, reply))
+}
+
+// What a line commands; the end of the input commands nothing.
+fn command_in<'a>(alloc: Global, line: Line<'a>) -> Command<'a>
+    ensures found { IfSome (line_text line.entry) (λ text. IsCommand (command_of text) (command result)) }
+    ensures of_line { IsOfLine (command result) }
+{
+    match line {
+        Line::End => Command::Nothing,
+        _ => command_of(alloc, line),
+    }
 }
 
 impl Engine {
@@ -95,7 +105,9 @@ impl Engine {
         requires ready { IsReady true (P.state keeper.old) }
         requires told { (P.state keeper.old).tells → HasLoaded self.old.state (P.state keeper.old).kept }
         requires read { statement_in text.now ≡ Ok statement.now }
-        ensures { Carries (state session statement.now text.now) result self.old self.new (P.state keeper.old) (P.state keeper.new) }
+        ensures carries { Carries (state session statement.now text.now) result self.old self.new
+            (P.state keeper.old) (P.state keeper.new) }
+        ensures unwritten { result ≢ Err WriteFailed }
     {
         match statement {
             Stmt::Select { select, start, end } => {
@@ -127,7 +139,8 @@ impl Engine {
         requires ready { IsReady true (P.state keeper.old) }
         requires told { (P.state keeper.old).tells → HasLoaded self.old.state (P.state keeper.old).kept }
         requires of_line { IsOfLine (command found) }
-        ensures { Carries (command found.entry) result self.old self.new (P.state keeper.old) (P.state keeper.new) }
+        ensures carries { Carries (command found.entry) result self.old self.new (P.state keeper.old) (P.state keeper.new) }
+        ensures unwritten { result ≢ Err WriteFailed }
     {
         match found {
             Command::Nothing => self.say_nothing(),
@@ -162,7 +175,8 @@ impl Engine {
         ensures answers { Answers (line_text line.entry) result self.old self.new (P.state keeper.old) (P.state keeper.new) }
         ensures unwritten { result ≢ Err WriteFailed }
     {
-        self.carry_out(alloc, keeper, command_of(alloc, line))
+        let found = command_in(alloc, line);
+        self.carry_out(alloc, keeper, found)
     }
 
     /// Carries out a line, as `answer` does, and writes its reply. Answers `Write` only where the sink's count of faults

@@ -1,5 +1,5 @@
 -- What keeping an entry comes to, and taking it in.
-use Rattle.std.proofs.Common.{◌≡◌, ◌∙◌, sym, ap, refl, subst, ◌+◌, Bool, true, false, ◌&&◌, [], ◌∷◌, ◌++◌, map, length, Result, Ok, Err, OnOk}
+use Rattle.std.proofs.Common.{◌≡◌, ◌∙◌, sym, ap, refl, subst, ◌+◌, Bool, true, false, ◌&&◌, [], ◌∷◌, ◌++◌, length, Result, Ok, Err, OnOk}
 use Rattle.std.specs.Prelude.{◌==◌}
 use Rattle.std.proofs.lemmas.Bool.{and_parts, false≢true}
 use Rattle.std.proofs.lemmas.List.{map-append}

@@ -1,5 +1,5 @@
 -- The entry's form was handed over, or there was no memory for it.
-use Rattle.std.proofs.Common.{◌≡◌, ◌∙◌, ap, arith}
+use Rattle.std.proofs.Common.{◌∙◌, ap, arith}
 use Rattle.hippo_model.specs.declared.stored.StoredEntry.{StoredEntry}
 use Rattle.hippo_replay.proofs.RecordingLemmas.{Keeps-Appends, Keeps-short}
 use Rattle.hippo_replay.proofs.recording.append.Goals as goal
