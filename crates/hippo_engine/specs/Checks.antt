@@ -46,7 +46,8 @@ open_session world number = by_session number >>= λ _. ok_or (session_at world 
 
 -- the cursor of this number is open in such a session
 abbrev pub open_cursor : World → ℕ → ℕ → Checked Cursor
-open_cursor world number at = open_session world number >>= λ session. ok_or (at_number session.cursors at) (NoCursor at)
+open_cursor world number at =
+    open_session world number >>= λ session. ok_or (at_number session.cursors at) (NoCursor at)
 
 -- no session of this number is open
 abbrev pub closed_session : World → ℕ → Checked (Unit {0})

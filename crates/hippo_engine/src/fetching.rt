@@ -25,7 +25,8 @@ fn append_end(session: u8, total: usize, out: &mut Reply) -> Result<(), Memory>
 // How many rows were handed out, while there are more; else how many there are.
 fn append_handed(session: u8, given: usize, total: usize, out: &mut Reply) -> Result<(), Memory>
     ensures { OnOk result (out.new ≡ out.old
-        ++ (if nat_lt given total then number_line session (codes "part") given else number_line session (codes "end") total)) }
+        ++ (if nat_lt given total then number_line session (codes "part") given
+        else number_line session (codes "end") total)) }
 {
     if given < total {
         append_part(session, given, out)
@@ -49,7 +50,8 @@ pub(crate) fn print_next(
     reply: &mut Reply,
 ) -> Result<(), Memory>
     ensures { OnOk result (reply.new
-        ≡ flat_map (answer_line session) (rows_next cursor.now count) ++ handed_line session (moved_on cursor.now count)) }
+        ≡ flat_map (answer_line session) (rows_next cursor.now count)
+        ++ handed_line session (moved_on cursor.now count)) }
 {
     reply.clear();
     answer_lines(session, cursor.rows_next(count), reply)?;

@@ -18,7 +18,8 @@ use hippo_world::{Cursor, Session, World};
 
 /// The open session with a number. Its refusals are short.
 pub(crate) fn open_session(world: &World, number: u8) -> Result<&Session, Refusal>
-    ensures found { result_map_both (λ session. session.now) (λ refusal. refusal) result ≡ open_session (world_of world.now) number }
+    ensures found { result_map_both (λ session. session.now) (λ refusal. refusal) result
+        ≡ open_session (world_of world.now) number }
     ensures fits { IfErr result (λ refusal. length (refusal_line (Some number) refusal) ≤ reply_room) }
 {
     if number == 0 {
@@ -43,7 +44,8 @@ fn held_cursor(session: &Session, number: u8, cursor: u8) -> Result<&Cursor, Ref
 
 /// The cursor with a number in the open session with a number. Its refusals are short.
 pub(crate) fn open_cursor(world: &World, number: u8, cursor: u8) -> Result<&Cursor, Refusal>
-    ensures found { result_map_both (λ held. held.now) (λ refusal. refusal) result ≡ open_cursor (world_of world.now) number cursor }
+    ensures found { result_map_both (λ held. held.now) (λ refusal. refusal) result
+        ≡ open_cursor (world_of world.now) number cursor }
     ensures fits { IfErr result (λ refusal. length (refusal_line (Some number) refusal) ≤ reply_room) }
 {
     match open_session(world, number) {
