@@ -1,5 +1,5 @@
 -- What a load, and what follows it, come to.
-use Rattle.std.proofs.Common.{◌≡◌, ◌≢◌, ◌⊎◌, inl, inr, ℕ, ◌+◌, true, false, length, Option, Some, Result, Ok, Err, IfOk, refl, ap, sym, subst, ◌∙◌}
+use Rattle.std.proofs.Common.{◌≡◌, ◌≢◌, ◌⊎◌, inl, inr, [], ℕ, ◌+◌, true, false, length, Option, Some, Result, Ok, Err, IfOk, refl, ap, sym, subst, ◌∙◌}
 use Rattle.hippo_values.specs.Texts.{Txt}
 use Rattle.hippo_io.specs.Faults.{HasRisen}
 use Rattle.hippo_io.specs.Told.{Appends, AppendsFront}

@@ -1,7 +1,10 @@
 -- A run, one line more.
-use Rattle.std.proofs.Common.{◌≡◌, ℕ, ◌<◌, ◌≤◌, List, [], ◌∷◌, ◌++◌, flat_map, length, drop, take, false, Option, Some, None, Result, Ok, Err, refl, ap, sym, subst, ◌∙◌, append_assoc, append-nil, arith, length-drop}
+use Rattle.std.proofs.Common.{◌≡◌, ℕ, ◌<◌, ◌≤◌, ◌↔◌, List, [], ◌∷◌, ◌++◌, flat_map, length, drop, take, false, Option, Some, None, Result, Ok, Err, refl, ap, sym, subst, ◌∙◌, append_assoc, append-nil, arith, length-drop}
 use Rattle.hippo_values.specs.Texts.{Txt}
 use Rattle.hippo_io.specs.Lines.{LineText, lines}
+use Rattle.hippo_io.specs.declared.lines.Line.{Line}
+use Rattle.hippo_io.specs.declared.lines.LineFault.{LineFault}
+use Rattle.hippo_io.specs.declared.lines.LineFault.TheVariants.{TooMuch}
 use Rattle.hippo_io.specs.Position.{Position}
 use Rattle.hippo_io.specs.HandingOut.{HasHandedOut, HasGivenUp, input_limit}
 use Rattle.hippo_io.specs.Told.{Appends, AppendsFront}
@@ -48,6 +51,16 @@ world_after-append world (first ∷ effects) effect = world_after-append first.w
 
 pub replies-append : (effects : List Effect) (effect : Effect) → replies (effects ++ effect ∷ []) ≡ replies effects ++ effect.reply
 replies-append effects effect = flat_map-last (λ (e : Effect). e.reply) effects effect
+
+-- a line is answered where no more bytes were taken than are read
+pub within_limit : (line : Line) (taken : ℕ) → (◌≡◌ {A = Result Line LineFault} (Ok line) (Err TooMuch) ↔ (input_limit < taken)) → taken ≤ input_limit
+within_limit line taken same = not_above (λ more. differ (same.1 more))
+  where
+    differ : ◌≡◌ {A = Result Line LineFault} (Ok line) (Err TooMuch) → ⊥
+    differ e = cc
+
+    not_above : (input_limit < taken → ⊥) → taken ≤ input_limit
+    not_above no_more = omega arith
 
 -- no line was handed out yet
 pub served_none : (history : History) (input before : Txt) (reader : Position) (left : Option Txt) (engine : Engine) (keeper : KeeperState) (output : Option Txt)

@@ -59,6 +59,9 @@ module _ (line : Option LineText) (result : Option Ending) (engine engine' : Eng
       (λ text is carries writes. (λ e. cc, λ e. cc, λ e. cc))
       (λ text is carries writes. (λ e. cc, λ e. cc, λ e. cc))
 
+  pub no_read_fault : result ≢ Some ReadFault
+  no_read_fault = by_line (λ r. r ≢ Some ReadFault) (λ is. λ e. cc) (λ text is carries writes. λ e. cc) (λ text is carries writes. λ e. cc) (λ text is carries writes. λ e. cc)
+
   pub call_of_turn : IsReady true keeper → IsAfterCall true false (as_line_call result) keeper keeper'
   call_of_turn ready = by_line (λ r. IsAfterCall true false (as_line_call r) keeper keeper')
       (λ is. subst (λ (k : KeeperState). IsAfterCall true false (as_line_call (Some Served)) keeper k) (sym (same is)) (IsAfterCall-none keeper ready))

@@ -28,3 +28,8 @@ ok_then (Err fault) more p = tt
 pub err_then : {T E P Q : Type 0} (result : Result T E) → (P → Q) → OnErr result P → OnErr result Q
 err_then (Ok value) more p = tt
 err_then (Err fault) more p = more p
+
+-- what holds anyway holds of an error
+pub err_so : {T E : Type 0} (result : Result T E) (P : Type 0) → P → OnErr result P
+err_so (Ok value) P holds = tt
+err_so (Err fault) P holds = holds

@@ -5,6 +5,7 @@ mod endings;
 mod jobs;
 mod printing;
 mod serving;
+mod stub;
 mod top;
 
 pub use endings::Ending;

@@ -1,5 +1,5 @@
 //! The lines of the input, one after the other, each with its reply.
-ghost use Rattle.std.specs.Prelude.{◌≡◌, ◌≢◌, ◌<◌, ◌≤◌, List, [], ℕ, Some, None, IfNone, MatchOption, true, false};
+ghost use Rattle.std.specs.Prelude.{◌≡◌, ◌≢◌, ◌<◌, ◌≤◌, List, [], ℕ, Some, None, IfNone, IfOk, MatchOption, true, false};
 ghost use Rattle.hippo_io.specs.Faults.{HasRisen};
 ghost use Rattle.hippo_io.specs.HandingOut.{at_beginning, consumed, input_limit, HasHandedOut};
 ghost use Rattle.hippo_io.specs.Lines.{LineText};
@@ -7,16 +7,19 @@ ghost use Rattle.hippo_io.specs.LineTexts.{line_text};
 ghost use Rattle.hippo_model.specs.Terms.{History};
 ghost use Rattle.hippo_keeper.specs.Keeping.{IsReady, IsAfterCall};
 ghost use Rattle.hippo_commands.specs.Commands.{command_of};
+ghost use Rattle.hippo_report.specs.declared.format.Format.TheVariants.{Text};
 ghost use Rattle.hippo_replay.specs.Standing.{StandsFor, IsSound};
 ghost use Rattle.hippo_replay.specs.TakingIn.{HasLoaded};
 ghost use Rattle.hippo_world.specs.Holding.{world_of};
+ghost use Rattle.hippo_world.specs.Worlds.{opening};
 ghost use Rattle.hippo_serve.specs.declared.endings.Ending.TheVariants.{Served, Refused, ReadFault, WriteFault, Damaged, NoMemory};
 ghost use Rattle.hippo_serve.specs.Endings.{as_call, as_line_call};
 ghost use Rattle.hippo_serve.specs.Keeping.{KeepsHistory};
 ghost use Rattle.hippo_serve.specs.Outcomes.{ForTold};
-ghost use Rattle.hippo_serve.specs.Runs.{opening_after, LinesEnd, HasServed, Turn};
+ghost use Rattle.hippo_serve.specs.Runs.{entry_limit, opening_after, LinesEnd, HasServed, Turn};
 
 use crate::endings::Ending;
+use crate::stub::line_of;
 use hippo_engine::{Engine, EngineFault};
 use hippo_io::{Line, LineFault, LineReader, Sink, Source};
 use hippo_keeper::Keeper;
@@ -50,7 +53,7 @@ fn carry_out<K: Sink, P: Keeper>(
     if line == Line::End {
         return Some(Ending::Served);
     }
-    match engine.line(alloc, line, keeper, sink) {
+    match line_of(engine, alloc, line, keeper, sink) {
         Ok(()) => None,
         Err(EngineFault::Keeper) => Some(Ending::KeeperFault),
         Err(EngineFault::Write) => Some(Ending::WriteFault),
@@ -125,6 +128,14 @@ fn serve_lines<S: Source, K: Sink, P: Keeper>(
     }
 }
 
+// An engine over a state.
+fn open(alloc: Global, state: State) -> Result<Engine, Memory>
+    ensures state { IfOk result (λ engine. engine.state ≡ state) }
+    ensures world { IfOk result (λ engine. world_of engine.world ≡ opening state.last entry_limit Text) }
+{
+    crate::stub::new_engine(alloc, state, ENTRY_LIMIT, Format::Text)
+}
+
 /// Serves all lines over a state that was loaded from the keeper. Want of memory comes before anything is read.
 pub fn serve<S: Source, K: Sink, P: Keeper>(
     alloc: Global,
@@ -151,9 +162,11 @@ pub fn serve<S: Source, K: Sink, P: Keeper>(
         drop(state);
         return Ending::NoMemory;
     };
-    match Engine::new(alloc, state, ENTRY_LIMIT, Format::Text) {
+    match open(alloc, state) {
         Ok(mut engine) => {
-            serve_lines(alloc, &mut engine, &mut reader, source, keeper, sink)
+            let ending = serve_lines(alloc, &mut engine, &mut reader, source, keeper, sink);
+            drop(engine);
+            ending
         }
         Err(Memory) => Ending::NoMemory,
     }
