@@ -3,17 +3,11 @@
 //! `call` calls the program. What it wrote is written, and `status N`. Lines that begin with `#` say what a case shows.
 #![tactic(auto)]
 
-ghost use Rattle.std.specs.Prelude.{◌≡◌, ◌<◌};
-
 use hippo_io::{MemorySink, MemorySource};
-use hippo_keeper::{KeeperFails, MemoryKeeper, Steps};
-use hippo_model::StoredList;
 use hippo_serve::hippo_top;
 use hippo_values::{Bytes, Calls, Memory, Sequence, Txt};
 use std::alloc::Global;
 use std::io::{self, Write};
-use std::marker::Brand;
-use std::sync::ledger::{Blank, Ledger};
 
 // The most bytes that a case may write.
 const ROOM: usize = 1_000_000;
@@ -73,24 +67,11 @@ impl Case {
     }
 }
 
-// What the program writes for a case over an empty store in memory, and its exit status.
-fn outcome<L: Ledger>(alloc: Global, case: Case, blank: Blank) -> Result<(MemorySink, u8), Memory>
-    requires name { blank.name ≡ L.name }
-    requires parts { blank.parts ≡ L.parts }
-    requires some { 0 < blank.parts }
-{
+// What the program writes for a case, and its exit status.
+fn outcome(alloc: Global, case: Case) -> Result<(MemorySink, u8), Memory> {
     let mut source = MemorySource::new(Bytes::from_vec(case.input), Calls::new(alloc));
     let mut sink = MemorySink::new(alloc, ROOM, Calls::new(alloc))?;
-    let mut keeper = MemoryKeeper::new(StoredList::new(alloc), KeeperFails::new(alloc));
-    let mut steps = Steps::<L>::new(blank);
-    let status = hippo_top(
-        alloc,
-        case.words.as_slice(),
-        &mut source,
-        &mut sink,
-        &mut keeper,
-        &mut steps,
-    );
+    let status = hippo_top(alloc, case.words.as_slice(), &mut source, &mut sink);
     Ok((sink, status))
 }
 
@@ -104,8 +85,7 @@ fn main(rt: HostRuntime) -> io::Result<()> {
         {
             continue;
         }
-        let (sink, status) = outcome::<Brand>(alloc, case, Blank::new(1))
-            .map_err(|_| io::ErrorKind::OutOfMemory)?;
+        let (sink, status) = outcome(alloc, case).map_err(|_| io::ErrorKind::OutOfMemory)?;
         rt.stdout().write_all(sink.bytes())?;
         println!(rt; "status {status}")?;
         case = Case::new(alloc);
