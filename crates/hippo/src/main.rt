@@ -2,9 +2,13 @@
 #![tactic(auto)]
 
 use hippo_io::{StdSink, StdSource};
+use hippo_keeper::{KeeperFails, MemoryKeeper, Steps};
+use hippo_model::StoredList;
 use hippo_serve::{Ending, hippo_top};
 use hippo_values::{Memory, Sequence, Txt};
+use std::marker::Brand;
 use std::process::ExitCode;
+use std::sync::ledger::Blank;
 use std::{env, io};
 
 type Words = Sequence<Txt>;
@@ -28,7 +32,18 @@ fn main(rt: HostRuntime) -> ExitCode {
     let Ok(words) = words(&rt) else {
         return ExitCode::from(Ending::NoMemory.status());
     };
+    let alloc = rt.alloc();
     let mut source = StdSource::new(rt.stdin());
     let mut sink = StdSink::new(rt.stdout());
-    ExitCode::from(hippo_top(rt.alloc(), words.as_slice(), &mut source, &mut sink))
+    let mut keeper = MemoryKeeper::new(StoredList::new(alloc), KeeperFails::new(alloc));
+    let mut steps = Steps::<Brand>::new(Blank::new(1));
+    let status = hippo_top(
+        alloc,
+        words.as_slice(),
+        &mut source,
+        &mut sink,
+        &mut keeper,
+        &mut steps,
+    );
+    ExitCode::from(status)
 }

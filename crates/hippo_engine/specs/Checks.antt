@@ -1,5 +1,5 @@
 -- The checks of a line, one after the other; the first that fails refuses it.
-use Rattle.std.specs.Prelude.{ℕ, ◌==◌, ℤ, pos, Bool, true, false, not, nat_le, if◌then◌else◌, List, [], ◌∷◌, length, find, ◌&&◌, Option, Some, None, Result, Ok, Err, ok_or}
+use Rattle.std.specs.Prelude.{ℕ, ◌==◌, ℤ, pos, Bool, true, false, not, nat_le, if◌then◌else◌, List, [], ◌∷◌, length, find, ◌&&◌, Option, is_some, Result, Ok, Err, ok_or}
 use Rattle.std.specs.Ordering.{int_eq}
 use Rattle.hippo_model.specs.declared.audit.Pair.{Pair}
 use Rattle.hippo_values.specs.declared.names.Name.{Name}
@@ -14,9 +14,10 @@ use Rattle.hippo_model.specs.declared.table_fault.TableFault.TheVariants as tabl
 use Rattle.hippo_model.specs.Rules.{authorized_at}
 use Rattle.hippo_model.specs.Terms.{History}
 use Rattle.hippo_report.specs.declared.refusal.Refusal.{Refusal}
-use Rattle.hippo_report.specs.declared.refusal.Refusal.TheVariants.{NoSession, NotAuthorized, ConsoleOnly, SessionsOnly, Meaningless, KeyThere, KeyMissing, HistoryFull, Memory}
+use Rattle.hippo_report.specs.declared.refusal.Refusal.TheVariants.{NoSession, SessionOpen, NotAuthorized, ConsoleOnly, SessionsOnly, Meaningless, KeyThere, KeyMissing, HistoryFull, NoCursor, Memory}
+use Rattle.hippo_world.specs.declared.cursors.Cursor.{Cursor}
 use Rattle.hippo_world.specs.declared.sessions.Session.{Session}
-use Rattle.hippo_world.specs.Worlds.{World, session_at}
+use Rattle.hippo_world.specs.Worlds.{World, at_number, session_at}
 
 -- what a check finds, or the refusal
 abbrev pub Checked : Type 0 → Type 0
@@ -43,6 +44,15 @@ by_console number = refused_if (not (number == 0)) ConsoleOnly
 abbrev pub open_session : World → ℕ → Checked Session
 open_session world number = by_session number >>= λ _. ok_or (session_at world number) NoSession
 
+-- the cursor of this number is open in such a session
+abbrev pub open_cursor : World → ℕ → ℕ → Checked Cursor
+open_cursor world number at = open_session world number >>= λ session. ok_or (at_number session.cursors at) (NoCursor at)
+
+-- no session of this number is open
+abbrev pub closed_session : World → ℕ → Checked (Unit {0})
+closed_session world number =
+    by_session number >>= λ _. refused_if (is_some (session_at world number)) SessionOpen
+
 -- a user is authorized to ask for a purpose and recipient
 abbrev pub allowed_by : Authorization → Checked (Unit {0})
 allowed_by Yes = Ok tt
@@ -50,6 +60,10 @@ allowed_by (No number) = Err (NotAuthorized number)
 
 abbrev pub authorized : History → Name → Pair → Checked (Unit {0})
 authorized history user pair = allowed_by (authorized_at history user pair.purpose pair.recipient)
+
+-- a user may open the session of this number
+abbrev pub may_log_in : History → World → ℕ → Name → Pair → Checked (Unit {0})
+may_log_in history world number user pair = closed_session world number >>= λ _. authorized history user pair
 
 -- a statement means this, or is refused by the first of these
 abbrev pub meant : {A : Type 0} → List NameFault → A → Checked A

@@ -4,5 +4,7 @@ pub mod Records
 pub mod Judging
 pub mod Effects
 pub mod Carrying
+pub mod Changing
+pub mod Asking
 pub mod Runs
 pub mod EffectLaws

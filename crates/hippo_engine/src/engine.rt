@@ -1,5 +1,5 @@
 //! The engine: each line of the input is carried out, and has its reply.
-ghost use Rattle.std.specs.Prelude.{◌≡◌, ◌≢◌, ◌⊎◌, ◌×◌, true, false, [], Err, IfOk, OnOk};
+ghost use Rattle.std.specs.Prelude.{◌≡◌, ◌≢◌, true, [], Err, IfOk, IfSome, OnOk};
 ghost use Rattle.hippo_io.specs.Faults.{HasRisen};
 ghost use Rattle.hippo_io.specs.LineTexts.{line_text};
 ghost use Rattle.hippo_io.specs.Told.{Appends, AppendsFront};
@@ -8,17 +8,19 @@ ghost use Rattle.hippo_world.specs.Worlds.{opening};
 ghost use Rattle.hippo_world.specs.Holding.{world_of};
 ghost use Rattle.hippo_replay.specs.Standing.{IsSound};
 ghost use Rattle.hippo_replay.specs.TakingIn.{HasLoaded};
+ghost use Rattle.hippo_commands.specs.Commands.{state, statement_in, command_of, IsCommand};
 ghost use Rattle.hippo_commands.specs.Lent.{command};
 ghost use Rattle.hippo_engine.specs.declared.faults.EngineFault.TheVariants.{Keeper as KeeperFailed, Write as WriteFailed};
-ghost use Rattle.hippo_engine.specs.Carrying.{Carries, Answers};
+ghost use Rattle.hippo_engine.specs.Carrying.{IsOfLine, Carries, Answers};
 
 use crate::faults::EngineFault;
 use hippo_commands::{Command, command_of};
-use hippo_io::{Line, Sink, write_whole};
+use hippo_io::{Line, Sink};
 use hippo_keeper::Keeper;
+use hippo_model::Stmt;
 use hippo_replay::State;
 use hippo_report::Format;
-use hippo_values::{Memory, RoomyTxt};
+use hippo_values::{Memory, Moment, RoomyTxt};
 use hippo_world::World;
 use std::alloc::Global;
 
@@ -34,4 +36,171 @@ pub struct Engine {
     pub state: State,
     pub world: World,
     pub reply: Reply,
+}
+
+// What a run holds at its beginning, with the room for its replies.
+fn at_beginning(
+    alloc: Global,
+    clock: Moment,
+    limit: u32,
+    format: Format,
+) -> Result<(World, Reply), Memory>
+    ensures world { IfOk result (λ made. world_of made.0 ≡ opening clock limit format) }
+    ensures reply { IfOk result (λ made. made.1 ≡ []) }
+{
+    let world = World::new(alloc, clock, limit, format)?;
+    let reply = Reply::with_room(alloc)?;
+    Ok((world, reply))
+}
+
+// What a line commands; the end of the input commands nothing.
+fn command_in<'a>(alloc: Global, line: Line<'a>) -> Command<'a>
+    ensures found { IfSome (line_text line.entry) (λ text. IsCommand (command_of text) (command result)) }
+    ensures of_line { IsOfLine (command result) }
+{
+    match line {
+        Line::End => Command::Nothing,
+        _ => command_of(alloc, line),
+    }
+}
+
+impl Engine {
+    /// An engine that begins where a history ends: the clock stands at its last entry's moment, no session is open, and
+    /// the history may have so many entries. Or want of memory.
+    pub fn new(alloc: Global, state: State, limit: u32, format: Format) -> Result<Engine, Memory>
+        ensures state { IfOk result (λ engine. engine.state ≡ state) }
+        ensures world { IfOk result (λ engine. world_of engine.world ≡ opening state.last limit format) }
+        ensures reply { IfOk result (λ engine. engine.reply ≡ []) }
+    {
+        match at_beginning(alloc, state.last, limit, format) {
+            Ok((world, reply)) => Ok(Engine {
+                state,
+                world,
+                reply,
+            }),
+            Err(Memory) => {
+                drop(state);
+                Err(Memory)
+            }
+        }
+    }
+
+    /// The reply to the last line; empty before the first, and for a line that has none.
+    pub fn reply(&self) -> &str
+        ensures { result.now ≡ self.now.reply }
+    {
+        self.reply.as_str()
+    }
+
+    // Carries out a statement of a session or of the console.
+    fn state<P: Keeper>(
+        &mut self,
+        alloc: Global,
+        keeper: &mut P,
+        session: u8,
+        statement: &Stmt,
+        text: &str,
+    ) -> Result<(), EngineFault>
+        requires sound { IsSound self.old.state }
+        requires ready { IsReady true (P.state keeper.old) }
+        requires told { (P.state keeper.old).tells → HasLoaded self.old.state (P.state keeper.old).kept }
+        requires read { statement_in text.now ≡ Ok statement.now }
+        ensures carries { Carries (state session statement.now text.now) result self.old self.new
+            (P.state keeper.old) (P.state keeper.new) }
+        ensures unwritten { result ≢ Err WriteFailed }
+    {
+        match statement {
+            Stmt::Select { select, start, end } => {
+                self.select(alloc, keeper, session, select, *start, *end, text)
+            }
+            Stmt::Ask { select, start, end } => {
+                self.open(alloc, keeper, session, select, *start, *end, text)
+            }
+            Stmt::Extract { .. }
+            | Stmt::Explain(_)
+            | Stmt::Audit(_)
+            | Stmt::BeginAudit(_)
+            | Stmt::Watch(_) => {
+                self.refuse_unbuilt(session, statement);
+                Ok(())
+            }
+            _ => self.change(alloc, keeper, session, statement),
+        }
+    }
+
+    // Carries out what a line commands.
+    fn carry_out<P: Keeper>(
+        &mut self,
+        alloc: Global,
+        keeper: &mut P,
+        found: Command<'_>,
+    ) -> Result<(), EngineFault>
+        requires sound { IsSound self.old.state }
+        requires ready { IsReady true (P.state keeper.old) }
+        requires told { (P.state keeper.old).tells → HasLoaded self.old.state (P.state keeper.old).kept }
+        requires of_line { IsOfLine (command found) }
+        ensures carries { Carries (command found.entry) result self.old self.new (P.state keeper.old) (P.state keeper.new) }
+        ensures unwritten { result ≢ Err WriteFailed }
+    {
+        match found {
+            Command::Nothing => self.say_nothing(),
+            Command::Wrong { who, refusal } => self.refuse_whatever(who, &refusal),
+            Command::SetClock { moment } => self.set_clock(moment),
+            Command::Ask { session, request } => self.ask(alloc, session, request),
+            Command::State {
+                session,
+                statement,
+                text,
+            } => {
+                let result = self.state(alloc, keeper, session, &statement, text);
+                drop(statement);
+                return result;
+            }
+        }
+        Ok(())
+    }
+
+    /// Carries out a line, which must not be the end of the input, and makes its reply whole in memory. A change and a
+    /// question are kept before the reply is there. Answers `Keeper` only where the keeper's count of faults rose: the
+    /// engine is then of no more use.
+    pub fn answer<P: Keeper>(
+        &mut self,
+        alloc: Global,
+        line: Line<'_>,
+        keeper: &mut P,
+    ) -> Result<(), EngineFault>
+        requires sound { IsSound self.old.state }
+        requires ready { IsReady true (P.state keeper.old) }
+        requires told { (P.state keeper.old).tells → HasLoaded self.old.state (P.state keeper.old).kept }
+        ensures answers { Answers (line_text line.entry) result self.old self.new (P.state keeper.old) (P.state keeper.new) }
+        ensures unwritten { result ≢ Err WriteFailed }
+    {
+        let found = command_in(alloc, line);
+        self.carry_out(alloc, keeper, found)
+    }
+
+    /// Carries out a line, as `answer` does, and writes its reply. Answers `Write` only where the sink's count of faults
+    /// rose: a front of the reply is then written.
+    pub fn line<K: Sink, P: Keeper>(
+        &mut self,
+        alloc: Global,
+        line: Line<'_>,
+        keeper: &mut P,
+        sink: &mut K,
+    ) -> Result<(), EngineFault>
+        requires sound { IsSound self.old.state }
+        requires ready { IsReady true (P.state keeper.old) }
+        requires told { (P.state keeper.old).tells → HasLoaded self.old.state (P.state keeper.old).kept }
+        ensures answers { Answers (line_text line.entry) result self.old self.new (P.state keeper.old) (P.state keeper.new) }
+        ensures written { OnOk result (Appends (K.written sink.old) (K.written sink.new) self.new.reply) }
+        ensures cut { result ≡ Err WriteFailed → AppendsFront (K.written sink.old) (K.written sink.new) self.new.reply
+            × HasRisen (K.faults sink.old) (K.faults sink.new) }
+        ensures unwritten { result ≡ Err KeeperFailed → sink.new ≡ sink.old }
+        ensures unfailed { result ≢ Err WriteFailed → K.faults sink.new ≡ K.faults sink.old }
+    {
+        match self.answer(alloc, line, keeper) {
+            Ok(()) => self.write_reply(sink),
+            Err(fault) => Err(fault),
+        }
+    }
 }

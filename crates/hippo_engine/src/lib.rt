@@ -1,9 +1,17 @@
 //! What each line of the input does, and the engine that does it.
 #![tactic(auto)]
 
+mod asking;
+mod changes;
 mod engine;
 mod faults;
+mod fetching;
 pub mod laws;
+mod plain;
+mod questions;
+mod replies;
+mod session_checks;
+mod sessions;
 
 pub use engine::{Engine, Reply};
 pub use faults::EngineFault;

@@ -11,3 +11,4 @@ mod reading;
 
 pub use decoding::decode;
 pub use encoding::encode;
+pub use keeping::Keepable;

@@ -7,4 +7,5 @@ pub mod TakingInLemmas
 pub mod KeeperLemmas
 pub mod ReadingLemmas
 pub mod LoadingLemmas
+pub mod RecordingLemmas
 mod StandingExamples

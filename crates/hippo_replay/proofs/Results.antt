@@ -1,5 +1,5 @@
 -- Results whose other type is said.
-use Rattle.std.proofs.Common.{Result, Ok, Err, OnErr}
+use Rattle.std.proofs.Common.{Result, Ok, Err, OnOk, OnErr}
 
 abbrev pub err_of : (T : Type 0) → {E : Type 0} → E → Result T E
 err_of T fault = Err fault
@@ -14,3 +14,8 @@ well E = Ok tt
 pub on_err_from : {T E : Type 0} (result : Result T E) (P : Type 0) → P → OnErr result P
 on_err_from (Ok value) P holds = tt
 on_err_from (Err fault) P holds = holds
+
+-- or of a value
+pub on_ok_from : {T E : Type 0} (result : Result T E) (P : Type 0) → P → OnOk result P
+on_ok_from (Ok value) P holds = holds
+on_ok_from (Err fault) P holds = tt

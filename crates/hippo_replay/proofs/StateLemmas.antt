@@ -5,7 +5,7 @@ use Rattle.std.proofs.lemmas.Bool.{and_parts, false≢true}
 use Rattle.hippo_values.specs.Moments.{first_moment}
 use Rattle.hippo_values.specs.declared.moments.Moment.{Moment}
 use Rattle.hippo_model.specs.declared.entry.Act.{Act}
-use Rattle.hippo_model.specs.declared.entry.Act.TheVariants.{Delete}
+use Rattle.hippo_model.specs.declared.entry.Act.TheVariants.{Delete, Asked}
 use Rattle.hippo_model.specs.declared.entry.Entry.{Entry}
 use Rattle.hippo_model.specs.Terms.{History}
 use Rattle.hippo_model.specs.Keepable.{is_keepable}
@@ -16,12 +16,12 @@ use Rattle.hippo_catalog.specs.Catalogs.{KnownNames, known_at, known_after, crea
 use Rattle.hippo_catalog.specs.NewestNames.{Remembers as RemembersNames, creates_nothing}
 use Rattle.hippo_policy.specs.declared.book.PolicyBook.{PolicyBook}
 use Rattle.hippo_policy.specs.Books.{StandsFor as BookStandsFor, Remembers as RemembersMatter, Adds as BookAdds, is_silent}
-use Rattle.hippo_tables.specs.Standing.{is_delete, StandsFor as TablesStandFor, IsAsBefore as TablesAreAsBefore}
+use Rattle.hippo_tables.specs.Standing.{is_delete, is_silent as leaves_tables, StandsFor as TablesStandFor, IsAsBefore as TablesAreAsBefore}
 use Rattle.hippo_tables.proofs.NextLemmas.{IsNext-valid}
 use Rattle.hippo_typing.specs.Meanings.{meaning}
 use Rattle.hippo_typing.proofs.CatalogTheorem.{names_grow, entries_create_anew}
 use Rattle.hippo_replay.specs.declared.state.State.{State}
-use Rattle.hippo_replay.specs.Standing.{latest_moment, StandsFor, IsNext, PartsAdd, Remembers}
+use Rattle.hippo_replay.specs.Standing.{latest_moment, StandsFor, IsNext, takes_no_memory, PartsAdd, Remembers}
 
 -- the moment of the last entry is the latest
 pub latest_moment-append : (history : History) (entry : Entry) → latest_moment (history ++ entry ∷ []) ≡ entry.moment
@@ -70,14 +70,21 @@ module _ (history : History) (entry : Entry) (may : may_follow meaning history e
     last = last ∙ stands.last;
   }
 
--- a Delete creates nothing, and says nothing that a book keeps
-pub delete_creates_nothing : (act : Act) → is_delete act ≡ true → creates_nothing act ≡ true
-delete_creates_nothing (Delete table key) is = refl
-delete_creates_nothing act is = absurd (false≢true is)
+-- what takes no memory creates nothing, and says nothing that a book keeps; a question changes no row
+pub creates_nothing-room : (act : Act) → takes_no_memory act ≡ true → creates_nothing act ≡ true
+creates_nothing-room (Delete table key) is = refl
+creates_nothing-room (Asked user purpose recipient text) is = refl
+creates_nothing-room act is = absurd (false≢true is)
 
-pub delete_is_silent : (act : Act) → is_delete act ≡ true → is_silent act ≡ true
-delete_is_silent (Delete table key) is = refl
-delete_is_silent act is = absurd (false≢true is)
+pub is_silent-room : (act : Act) → takes_no_memory act ≡ true → is_silent act ≡ true
+is_silent-room (Delete table key) is = refl
+is_silent-room (Asked user purpose recipient text) is = refl
+is_silent-room act is = absurd (false≢true is)
+
+pub leaves_tables-room : (act : Act) → takes_no_memory act ≡ true → is_delete act ≡ false → leaves_tables act ≡ true
+leaves_tables-room (Delete table key) is other = absurd (false≢true (sym other))
+leaves_tables-room (Asked user purpose recipient text) is other = refl
+leaves_tables-room act is other = absurd (false≢true is)
 
 -- a book that has taken in an entry, and takes it back
 pub book_again : (old mid new : PolicyBook) (entry : Entry) → BookAdds old mid entry.seq entry.act → ((history : History) (entry : Entry) → RemembersMatter mid entry.act → BookStandsFor mid (history ++ entry ∷ []) → BookStandsFor new history) → (history : History) → entry.seq ≡ length history + 1 → BookStandsFor old history → BookStandsFor new history

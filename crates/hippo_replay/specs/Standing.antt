@@ -1,7 +1,9 @@
 -- What a state says of a history.
-use Rattle.std.specs.Prelude.{◌≡◌, true, [], ◌∷◌, ◌++◌, length, Some, unwrap_or}
+use Rattle.std.specs.Prelude.{◌≡◌, Bool, true, false, [], ◌∷◌, ◌++◌, length, Some, unwrap_or}
 use Rattle.hippo_values.specs.Moments.{first_moment}
 use Rattle.hippo_values.specs.declared.moments.Moment.{Moment}
+use Rattle.hippo_model.specs.declared.entry.Act.{Act}
+use Rattle.hippo_model.specs.declared.entry.Act.TheVariants.{Delete, Asked}
 use Rattle.hippo_model.specs.declared.entry.Entry.{Entry}
 use Rattle.hippo_model.specs.Terms.{History}
 use Rattle.hippo_model.specs.Histories.{last_word}
@@ -37,6 +39,12 @@ pub record IsNext (state : State) (entry : Entry) : Type 0 where
   pub history : History
   pub stands : StandsFor state history
   pub follows : may_follow meaning history entry ≡ true
+
+-- whether a state takes in an act without more memory: a Delete, or a question
+abbrev pub takes_no_memory : Act → Bool
+takes_no_memory (Delete table key) = true
+takes_no_memory (Asked user purpose recipient text) = true
+takes_no_memory act = false
 
 -- catalog, book and tables have taken in an entry
 pub record PartsAdd (old new : State) (entry : Entry) : Type 0 where

@@ -1,9 +1,11 @@
-//! Loading: the state of a kept history, taken in entry by entry, or the place where it is damaged.
+//! The state of a history: loaded from its keeper, or the place where the kept entries are damaged; and entries that are
+//! recorded behind the others.
 #![tactic(auto)]
 
 mod acceptance;
 mod faults;
 mod loading;
+mod recording;
 mod rows;
 mod schemas;
 mod state;

@@ -7,7 +7,7 @@ ghost use Rattle.hippo_model.specs.Validity.{may_follow};
 ghost use Rattle.hippo_policy.specs.Books.{StandsFor as BookStandsFor, Adds as BookAdds};
 ghost use Rattle.hippo_tables.specs.Standing.{is_delete, Adds as TablesAdd, IsAsBefore as TablesAreAsBefore};
 ghost use Rattle.hippo_typing.specs.Meanings.{meaning};
-ghost use Rattle.hippo_replay.specs.Standing.{StandsFor, IsNext, PartsAdd, Remembers};
+ghost use Rattle.hippo_replay.specs.Standing.{StandsFor, IsNext, takes_no_memory, PartsAdd, Remembers};
 
 use hippo_catalog::Catalog;
 use hippo_model::Entry;
@@ -48,7 +48,7 @@ fn add_to_both(
     ensures same_book { OnErr result ((history : History) → entry.now.seq ≡ length history + 1
         → BookStandsFor book.old history → BookStandsFor book.new history) }
     ensures same_tables { OnErr result (TablesAreAsBefore tables.old tables.new) }
-    ensures deletes { is_delete entry.now.act ≡ true → IsOk result }
+    ensures room { takes_no_memory entry.now.act ≡ true → IsOk result }
 {
     book.add(alloc, entry)?;
     match tables.apply(alloc, entry) {
@@ -86,7 +86,7 @@ impl State {
         ensures last { OnOk result (self.new.last ≡ self.old.last) }
         ensures err { OnErr result ((history : History) → StandsFor self.old history
             → may_follow meaning history entry.now ≡ true → StandsFor self.new history) }
-        ensures deletes { is_delete entry.now.act ≡ true → IsOk result }
+        ensures room { takes_no_memory entry.now.act ≡ true → IsOk result }
     {
         self.catalog.add(alloc, entry)?;
         match add_to_both(&mut self.book, &mut self.tables, alloc, entry) {
@@ -99,7 +99,7 @@ impl State {
     }
 
     /// Takes in the entry that comes next: the state then stands for the history with the entry behind. It stands for
-    /// what it stood for where memory is short, which it never is for a Delete.
+    /// what it stood for where memory is short, which it never is for a Delete or a question.
     pub fn add(&mut self, alloc: Global, entry: &Entry) -> Result<(), Memory>
         requires next { IsNext self.old entry.now }
         ensures stands { OnOk result ((history : History) → StandsFor self.old history
@@ -109,7 +109,7 @@ impl State {
         ensures count { OnOk result (self.new.count ≡ entry.now.seq) }
         ensures err { OnErr result ((history : History) → StandsFor self.old history
             → may_follow meaning history entry.now ≡ true → StandsFor self.new history) }
-        ensures deletes { is_delete entry.now.act ≡ true → IsOk result }
+        ensures room { takes_no_memory entry.now.act ≡ true → IsOk result }
     {
         self.add_to_parts(alloc, entry)?;
         self.earlier = self.last;

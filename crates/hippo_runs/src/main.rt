@@ -1,16 +1,42 @@
 //! Runs worked rows through the top call. Standard input holds cases: `word W` adds a word to the command, `line TEXT` a
-//! line to the input, `part TEXT` the text alone, `times N TEXT` the text N times, and `bytes N ..` bytes by their numbers;
-//! `call` calls the program. What it wrote is written, and `status N`. Lines that begin with `#` say what a case shows.
+//! line to the input, `part TEXT` the text alone, `times N TEXT` the text N times, `bytes N ..` bytes by their numbers, and
+//! `clinic` the lines of a small clinic; `call` calls the program over an empty store, `again` over what the last call
+//! left. What it wrote is written, and `status N`. Lines that begin with `#` say what a case shows.
 #![tactic(auto)]
 
 use hippo_io::{MemorySink, MemorySource};
+use hippo_keeper::{KeeperFails, MemoryKeeper, Steps};
+use hippo_model::StoredList;
 use hippo_serve::hippo_top;
 use hippo_values::{Bytes, Calls, Memory, Sequence, Txt};
 use std::alloc::Global;
 use std::io::{self, Write};
+use std::marker::Brand;
+use std::sync::ledger::Blank;
 
 // The most bytes that a case may write.
 const ROOM: usize = 1_000_000;
+
+// The clinic of most cases: seven entries, and one session.
+const CLINIC: [&str; 9] = [
+    "at 2024-01-02T08:00:00Z",
+    "0 CREATE TABLE patient (pid INTEGER, name TEXT, phone TEXT, zip INTEGER, PRIMARY KEY (pid), SUBJECT pid)",
+    "0 CREATE PURPOSE treatment",
+    "0 CREATE RECIPIENT nurse",
+    "0 AUTHORIZE ann FOR treatment, nurse",
+    "0 ALLOW treatment TO nurse ON patient (pid, name)",
+    "0 INSERT INTO patient VALUES (1, 'Ada', '555-1', 95120)",
+    "0 INSERT INTO patient VALUES (2, 'Bob', '555-2', NULL)",
+    "1 login ann treatment nurse",
+];
+
+// What a line of the rows asks for.
+#[derive(Clone, Copy, PartialEq, Eq)]
+enum Order {
+    Add,
+    Call,
+    Again,
+}
 
 // The words of a command and its input.
 #[derive(Drop)]
@@ -52,8 +78,15 @@ impl Case {
         Ok(())
     }
 
-    // Does what a line of the rows says; false where it calls the program.
-    fn take(&mut self, alloc: Global, line: &str) -> Result<bool, Memory> {
+    fn add_clinic(&mut self) -> Result<(), Memory> {
+        for line in CLINIC {
+            self.add_line(line)?;
+        }
+        Ok(())
+    }
+
+    // Adds what a line of the rows says, or answers that the program is to be called.
+    fn take(&mut self, alloc: Global, line: &str) -> Result<Order, Memory> {
         let (word, text) = line.split_once(' ').unwrap_or((line, ""));
         match word {
             "word" => self.words.push(Txt::from_str(alloc, text)?)?,
@@ -61,34 +94,60 @@ impl Case {
             "part" => self.add_text(text)?,
             "times" => self.add_times(text)?,
             "bytes" => self.add_bytes(text)?,
+            "clinic" => self.add_clinic()?,
+            "call" => return Ok(Order::Call),
+            "again" => return Ok(Order::Again),
             _ => {}
         }
-        Ok(word != "call")
+        Ok(Order::Add)
     }
 }
 
-// What the program writes for a case, and its exit status.
-fn outcome(alloc: Global, case: Case) -> Result<(MemorySink, u8), Memory> {
+fn empty_store(alloc: Global) -> MemoryKeeper {
+    MemoryKeeper::new(StoredList::new(alloc), KeeperFails::new(alloc))
+}
+
+// What the program writes for a case, its exit status, and the store that it leaves.
+fn outcome(
+    alloc: Global,
+    case: Case,
+    keeper: MemoryKeeper,
+) -> Result<(MemorySink, u8, MemoryKeeper), Memory> {
+    let mut keeper = keeper;
     let mut source = MemorySource::new(Bytes::from_vec(case.input), Calls::new(alloc));
     let mut sink = MemorySink::new(alloc, ROOM, Calls::new(alloc))?;
-    let status = hippo_top(alloc, case.words.as_slice(), &mut source, &mut sink);
-    Ok((sink, status))
+    let mut steps = Steps::<Brand>::new(Blank::new(1));
+    let status = hippo_top(
+        alloc,
+        case.words.as_slice(),
+        &mut source,
+        &mut sink,
+        &mut keeper,
+        &mut steps,
+    );
+    Ok((sink, status, keeper.restart()))
 }
 
 fn main(rt: HostRuntime) -> io::Result<()> {
     let alloc = rt.alloc();
     let mut case = Case::new(alloc);
+    let mut kept = empty_store(alloc);
     for line in rt.lines(alloc) {
-        if case
+        let order = case
             .take(alloc, line?.as_str())
-            .map_err(|_| io::ErrorKind::OutOfMemory)?
-        {
+            .map_err(|_| io::ErrorKind::OutOfMemory)?;
+        if order == Order::Add {
             continue;
         }
-        let (sink, status) = outcome(alloc, case).map_err(|_| io::ErrorKind::OutOfMemory)?;
+        if order == Order::Call {
+            kept = empty_store(alloc);
+        }
+        let (sink, status, keeper) =
+            outcome(alloc, case, kept).map_err(|_| io::ErrorKind::OutOfMemory)?;
         rt.stdout().write_all(sink.bytes())?;
         println!(rt; "status {status}")?;
         case = Case::new(alloc);
+        kept = keeper;
     }
     Ok(())
 }

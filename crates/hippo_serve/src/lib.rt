@@ -5,7 +5,6 @@ mod endings;
 mod jobs;
 mod printing;
 mod serving;
-mod stub;
 mod top;
 
 pub use endings::Ending;

@@ -19,7 +19,6 @@ ghost use Rattle.hippo_serve.specs.Outcomes.{ForTold};
 ghost use Rattle.hippo_serve.specs.Runs.{entry_limit, opening_after, LinesEnd, HasServed, Turn};
 
 use crate::endings::Ending;
-use crate::stub::line_of;
 use hippo_engine::{Engine, EngineFault};
 use hippo_io::{Line, LineFault, LineReader, Sink, Source};
 use hippo_keeper::Keeper;
@@ -53,7 +52,7 @@ fn carry_out<K: Sink, P: Keeper>(
     if line == Line::End {
         return Some(Ending::Served);
     }
-    match line_of(engine, alloc, line, keeper, sink) {
+    match engine.line(alloc, line, keeper, sink) {
         Ok(()) => None,
         Err(EngineFault::Keeper) => Some(Ending::KeeperFault),
         Err(EngineFault::Write) => Some(Ending::WriteFault),
@@ -133,7 +132,7 @@ fn open(alloc: Global, state: State) -> Result<Engine, Memory>
     ensures state { IfOk result (λ engine. engine.state ≡ state) }
     ensures world { IfOk result (λ engine. world_of engine.world ≡ opening state.last entry_limit Text) }
 {
-    crate::stub::new_engine(alloc, state, ENTRY_LIMIT, Format::Text)
+    Engine::new(alloc, state, ENTRY_LIMIT, Format::Text)
 }
 
 /// Serves all lines over a state that was loaded from the keeper. Want of memory comes before anything is read.

@@ -1,25 +1,39 @@
+ghost use Rattle.std.specs.Prelude.{◌≡◌, false};
+
 use hippo_io::{MemorySink, MemorySource};
+use hippo_keeper::{KeeperFail, KeeperFails, MemoryKeeper, Steps};
+use hippo_model::StoredList;
 use hippo_serve::{Ending, hippo_top};
 use hippo_values::{Bytes, Calls, Memory, Sequence, Txt};
 use std::alloc::Global;
+use std::marker::Brand;
 use std::process::Abort;
+use std::sync::ledger::Blank;
 
-const LINES: [&str; 6] = [
-    "0 INSERT INTO patient VALUES (1, 'Ada', '555-1', 95120)\n",
-    "1 SELECT name FROM patient\n",
+const LINES: [&str; 10] = [
+    "at 2024-01-02T08:00:00Z\n",
+    "0 CREATE TABLE patient (pid INTEGER, name TEXT, phone TEXT, PRIMARY KEY (pid), SUBJECT pid)\n",
+    "0 CREATE PURPOSE treatment\n",
+    "0 CREATE RECIPIENT nurse\n",
+    "0 AUTHORIZE ann FOR treatment, nurse\n",
     "0 ALLOW treatment TO nurse ON patient (pid, name)\n",
+    "0 INSERT INTO patient VALUES (1, 'Ada', '555-1')\n",
+    "1 login ann treatment nurse\n",
     "1 SELECT name, phone FROM patient\n",
-    "0 INSERT INTO patient VALUES (1, 'Eve', NULL, NULL)\n",
     "hello",
 ];
 
-const REPLIES: [&str; 6] = [
+const REPLIES: [&str; 10] = [
+    "- ok\n",
     "0 ok 1\n",
-    "1 end 0\n",
+    "0 ok 2\n",
     "0 ok 3\n",
+    "0 ok 4\n",
+    "0 ok 5\n",
+    "0 ok 6\n",
+    "1 ok\n",
     "1 row 'Ada', DENIED(0)\n1 end 1\n",
-    "0 no 43 KeyThere 1\n",
-    "- no 99 NotBuilt\n",
+    "- no 10 BadLine\n",
 ];
 
 // The calls of the source and of the sink that fail, and the sink's room.
@@ -60,7 +74,45 @@ fn words(alloc: Global, words: &[&str]) -> Result<Sequence<Txt>, Memory> {
     Ok(list)
 }
 
-// Calls the program, and compares its exit status and what it wrote.
+// A keeper of nothing on which some calls fail.
+fn keeper(alloc: Global, failing: &[KeeperFail]) -> Result<MemoryKeeper, Memory> {
+    let mut fails = KeeperFails::new(alloc);
+    for fail in failing {
+        fails.push(*fail)?;
+    }
+    Ok(MemoryKeeper::new(StoredList::new(alloc), fails))
+}
+
+// Calls the program over what a keeper keeps, compares its exit status and what it wrote, and answers a keeper of what
+// it left.
+fn check_over(
+    rt: &impl Abort,
+    alloc: Global,
+    command: &[&str],
+    input: &[u8],
+    outside: &Outside<'_>,
+    keeper: MemoryKeeper,
+    ending: Ending,
+    output: &str,
+) -> Result<MemoryKeeper, Memory>
+    requires { keeper.entry.started ≡ false }
+    requires { keeper.entry.spent ≡ false }
+{
+    let mut keeper = keeper;
+    let failing_reads = Calls::from_slice(alloc, outside.failing_reads)?;
+    let failing_writes = Calls::from_slice(alloc, outside.failing_writes)?;
+    let mut source = MemorySource::new(Bytes::from_slice(alloc, input)?, failing_reads);
+    let mut sink = MemorySink::new(alloc, outside.room, failing_writes)?;
+    let mut steps = Steps::<Brand>::new(Blank::new(1));
+    let command = words(alloc, command)?;
+    let words = command.as_slice();
+    let status = hippo_top(alloc, words, &mut source, &mut sink, &mut keeper, &mut steps);
+    assert_eq!(rt; status, ending.status());
+    assert_eq!(rt; sink.bytes(), output.as_bytes());
+    Ok(keeper.restart())
+}
+
+// Calls the program over an empty store.
 fn check(
     rt: &impl Abort,
     alloc: Global,
@@ -70,15 +122,18 @@ fn check(
     ending: Ending,
     output: &str,
 ) -> Result<(), Memory> {
-    let failing_reads = Calls::from_slice(alloc, outside.failing_reads)?;
-    let failing_writes = Calls::from_slice(alloc, outside.failing_writes)?;
-    let mut source = MemorySource::new(Bytes::from_slice(alloc, input)?, failing_reads);
-    let mut sink = MemorySink::new(alloc, outside.room, failing_writes)?;
-    let command = words(alloc, command)?;
-    let status = hippo_top(alloc, command.as_slice(), &mut source, &mut sink);
-    assert_eq!(rt; status, ending.status());
-    assert_eq!(rt; sink.bytes(), output.as_bytes());
+    let keeper = keeper(alloc, &[])?;
+    check_over(rt, alloc, command, input, outside, keeper, ending, output)?;
     Ok(())
+}
+
+// The first so many replies.
+fn replies(alloc: Global, count: usize) -> Result<Txt, Memory> {
+    let mut output = Txt::new(alloc);
+    for reply in REPLIES.iter().take(count) {
+        output.append(reply)?;
+    }
+    Ok(output)
 }
 
 #[test]
@@ -86,8 +141,10 @@ fn statuses(rt: HostRuntime) {
     let endings = [
         (Ending::Served, 0),
         (Ending::Refused, 2),
+        (Ending::KeeperFault, 3),
         (Ending::ReadFault, 4),
         (Ending::WriteFault, 5),
+        (Ending::Damaged, 6),
         (Ending::NoMemory, 7),
         (Ending::TooMuch, 8),
     ];
@@ -101,44 +158,84 @@ type Faults = (&'static [u64], &'static [u64], usize, Ending, usize);
 
 #[test]
 fn faults_one_at_a_time(rt: HostRuntime) -> Result<(), Memory> {
-    let cases: [Faults; 13] = [
+    let cases: [Faults; 12] = [
         (&[1], &[], 4000, Ending::ReadFault, 0),
         // The last line has no line feed, so it has no reply.
-        (&[2], &[], 4000, Ending::ReadFault, 5),
-        (&[3], &[], 4000, Ending::Served, 6),
+        (&[2], &[], 4000, Ending::ReadFault, 9),
+        (&[3], &[], 4000, Ending::Served, 10),
         (&[], &[1], 4000, Ending::WriteFault, 0),
         (&[], &[2], 4000, Ending::WriteFault, 1),
-        (&[], &[3], 4000, Ending::WriteFault, 2),
-        (&[], &[4], 4000, Ending::WriteFault, 3),
         (&[], &[5], 4000, Ending::WriteFault, 4),
-        (&[], &[6], 4000, Ending::WriteFault, 5),
-        (&[], &[7], 4000, Ending::Served, 6),
+        (&[], &[9], 4000, Ending::WriteFault, 8),
+        (&[], &[10], 4000, Ending::WriteFault, 9),
+        (&[], &[11], 4000, Ending::Served, 10),
         (&[], &[], 0, Ending::WriteFault, 0),
-        (&[], &[], 14, Ending::WriteFault, 1),
-        (&[2], &[3], 15, Ending::WriteFault, 2),
+        (&[], &[], 12, Ending::WriteFault, 2),
+        (&[2], &[3], 4000, Ending::WriteFault, 2),
     ];
     let alloc = rt.alloc();
     let input = joined(alloc, &LINES)?;
-    for (failing_reads, failing_writes, room, ending, replies) in cases {
+    for (failing_reads, failing_writes, room, ending, count) in cases {
         let outside = Outside {
             failing_reads,
             failing_writes,
             room,
         };
-        let mut output = Txt::new(alloc);
-        for reply in REPLIES.iter().take(replies) {
-            output.append(reply)?;
-        }
+        let output = replies(alloc, count)?;
         let bytes = input.as_str().as_bytes();
-        check(
-            &rt,
-            alloc,
-            &["run"],
-            bytes,
-            &outside,
-            ending,
-            output.as_str(),
-        )?;
+        check(&rt, alloc, &["run"], bytes, &outside, ending, output.as_str())?;
+    }
+    Ok(())
+}
+
+// A call of the keeper fails, and keeps its entry or not: so many lines are replied to, and so many entries are there
+// at the next start.
+fn keeper_fails(
+    rt: &impl Abort,
+    alloc: Global,
+    input: &[u8],
+    call: u64,
+    keeps: bool,
+    count: usize,
+    entries: &str,
+) -> Result<(), Memory> {
+    let ending = if count == 10 {
+        Ending::Served
+    } else {
+        Ending::KeeperFault
+    };
+    let output = replies(alloc, count)?;
+    let keeper = keeper(alloc, &[KeeperFail { call, keeps }])?;
+    let left = check_over(rt, alloc, &["run"], input, &FAULTLESS, keeper, ending, output.as_str())?;
+    check_over(rt, alloc, &["check"], b"", &FAULTLESS, left, Ending::Served, entries)?;
+    Ok(())
+}
+
+// The call that fails, how many lines are replied to, and what a check then says where the entry is not kept, and where
+// it is.
+type KeeperFaults = (u64, usize, &'static str, &'static str);
+
+#[test]
+fn a_keeper_that_fails_at_each_call(rt: HostRuntime) -> Result<(), Memory> {
+    // The first two calls start the keeper and read what it keeps.
+    let cases: [KeeperFaults; 10] = [
+        (1, 0, "entries 0\n", "entries 0\n"),
+        (2, 0, "entries 0\n", "entries 0\n"),
+        (3, 1, "entries 0\n", "entries 1\n"),
+        (4, 2, "entries 1\n", "entries 2\n"),
+        (5, 3, "entries 2\n", "entries 3\n"),
+        (6, 4, "entries 3\n", "entries 4\n"),
+        (7, 5, "entries 4\n", "entries 5\n"),
+        (8, 6, "entries 5\n", "entries 6\n"),
+        (9, 8, "entries 6\n", "entries 7\n"),
+        (10, 10, "entries 7\n", "entries 7\n"),
+    ];
+    let alloc = rt.alloc();
+    let input = joined(alloc, &LINES)?;
+    for (call, count, without, with) in cases {
+        let bytes = input.as_str().as_bytes();
+        keeper_fails(&rt, alloc, bytes, call, false, count, without)?;
+        keeper_fails(&rt, alloc, bytes, call, true, count, with)?;
     }
     Ok(())
 }
@@ -150,8 +247,9 @@ fn a_sink_without_room(rt: HostRuntime) -> Result<(), Memory> {
         room: 0,
         ..FAULTLESS
     };
-    // The usage line cannot be written.
+    // Neither the usage line nor that of a check can be written.
     check(&rt, alloc, &[], b"hello\n", &full, Ending::WriteFault, "")?;
+    check(&rt, alloc, &["check"], b"", &full, Ending::WriteFault, "")?;
     check(&rt, alloc, &["run"], b"", &full, Ending::Served, "")
 }
 
@@ -165,15 +263,8 @@ fn read_fault_behind_a_full_buffer(rt: HostRuntime) -> Result<(), Memory> {
         failing_reads: &[3],
         ..FAULTLESS
     };
-    let output = "- no 99 NotBuilt\n- no 99 NotBuilt\n";
+    let output = "- no 10 BadLine\n- no 10 BadLine\n";
     let bytes = input.as_str().as_bytes();
-    check(
-        &rt,
-        alloc,
-        &["run"],
-        bytes,
-        &outside,
-        Ending::ReadFault,
-        output,
-    )
+    let ending = Ending::ReadFault;
+    check(&rt, alloc, &["run"], bytes, &outside, ending, output)
 }

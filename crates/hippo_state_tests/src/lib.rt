@@ -6,3 +6,5 @@
 mod codec;
 #[cfg(test)]
 mod keepers;
+#[cfg(test)]
+mod recording;

@@ -1,0 +1,160 @@
+-- From the checks of a statement that changes something, and from recording its entry, to what carrying it out does.
+use Rattle.std.proofs.Common.{◌≡◌, ◌⊎◌, ◌∙◌, inl, inr, refl, sym, ap, subst, ℕ, Option, Some, None, Result, Ok, Err, true, false, append-nil}
+use Rattle.std.specs.Prelude.{ok_or}
+use Rattle.std.proofs.lemmas.Bool.{false≢true}
+use Rattle.hippo_values.specs.Texts.{Txt}
+use Rattle.hippo_model.specs.declared.entry.Entry.{Entry}
+use Rattle.hippo_model.specs.declared.statement.Stmt.{Stmt}
+use Rattle.hippo_model.specs.declared.statement.Stmt.TheVariants as stmt
+use Rattle.hippo_model.specs.declared.statement.Wanted.{Wanted}
+use Rattle.hippo_model.specs.Terms.{History}
+use Rattle.hippo_catalog.specs.ChangesWanted.{changes_something}
+use Rattle.hippo_keeper.specs.declared.faults.KeeperFault.{KeeperFault}
+use Rattle.hippo_keeper.specs.declared.faults.KeeperFault.TheVariants.{Memory}
+use Rattle.hippo_keeper.specs.Keeping.{KeeperState}
+use Rattle.hippo_replay.specs.Standing.{StandsFor, IsSound}
+use Rattle.hippo_replay.specs.Recording.{Records}
+use Rattle.hippo_replay.proofs.KeeperLemmas.{IsAfterCall-as}
+use Rattle.hippo_replay.proofs.Results.{err_of, well}
+use Rattle.hippo_report.specs.declared.refusal.Refusal.{Refusal}
+use Rattle.hippo_report.specs.declared.refusal.Refusal.TheVariants as refusals
+use Rattle.hippo_report.specs.Refusals.{refusal_line}
+use Rattle.hippo_world.specs.Worlds.{World}
+use Rattle.hippo_world.specs.Holding.{world_of}
+use Rattle.hippo_commands.specs.Commands.{Command, state, who_commands}
+use Rattle.hippo_engine.specs.declared.engine.Engine.{Engine}
+use Rattle.hippo_engine.specs.declared.faults.EngineFault.{EngineFault}
+use Rattle.hippo_engine.specs.Carrying.{IsQuiet, Carries}
+use Rattle.hippo_engine.specs.Changing.{Refuses, IsChange, Changes, IsRefused, changed}
+use Rattle.hippo_engine.specs.Checks.{Checked, ◌>>=◌}
+use Rattle.hippo_engine.specs.Deeds.{Deed}
+use Rattle.hippo_engine.specs.Deeds as deeds
+use Rattle.hippo_engine.specs.Effects.{only_reply, done, effect_of, carried_out, next_entry, IsEffect}
+use Rattle.hippo_engine.specs.Judging.{judged, judged_change}
+use Rattle.hippo_engine.proofs.ShortLemmas.{short, refused}
+
+-- what a statement means is what is asked for
+abbrev asked_for : Checked (Option Wanted) → Checked Wanted
+asked_for means = means >>= λ change. ok_or change refusals.BadSyntax
+
+-- the console's check and that of names and types, and then what is wanted is judged
+abbrev after_both : Checked (Unit {0}) → Checked (Option Wanted) → (Wanted → Checked Deed) → Checked Deed
+after_both console means next =
+    console >>= λ _. means >>= λ change. ok_or change refusals.BadSyntax >>= λ wanted. next wanted
+
+refusal_same : (one other : Refusal) → err_of Wanted one ≡ Err other → one ≡ other
+refusal_same one other e = cc
+
+-- names and types are refused behind the console's check
+pub names_refused : (console : Checked (Unit {0})) (means : Checked (Option Wanted)) (next : Wanted → Checked Deed) (refusal : Refusal)
+    → console ≡ Ok tt → Refuses (asked_for means) refusal → Refuses (after_both console means next) refusal
+names_refused (Err other) means next refusal passed why = absurd cc
+names_refused (Ok x) means next refusal passed (inr memory) = inr memory
+names_refused (Ok x) (Err other) next refusal passed (inl is) = inl (ap Err (refusal_same other refusal is))
+names_refused (Ok x) (Ok None) next refusal passed (inl is) = inl (ap Err (refusal_same refusals.BadSyntax refusal is))
+names_refused (Ok x) (Ok (Some w)) next refusal passed (inl is) = absurd cc
+
+-- a statement that changes something is judged as a change
+judged_as_change : (history : History) (world : World) (session : ℕ) (statement : Stmt) (text : Txt) → changes_something statement ≡ true
+    → judged history world (state session statement text) ≡ judged_change history world session statement
+judged_as_change history world session (stmt.Explain question) text changes = absurd (false≢true changes)
+judged_as_change history world session (stmt.Audit audit) text changes = absurd (false≢true changes)
+judged_as_change history world session (stmt.BeginAudit audit) text changes = absurd (false≢true changes)
+judged_as_change history world session (stmt.Watch audit) text changes = absurd (false≢true changes)
+judged_as_change history world session (stmt.Select select start end) text changes = absurd (false≢true changes)
+judged_as_change history world session (stmt.Ask select start end) text changes = absurd (false≢true changes)
+judged_as_change history world session (stmt.Extract select start end) text changes = absurd (false≢true changes)
+judged_as_change history world session statement text changes = refl
+
+-- what is told of a refusal: its line, or that of want of memory
+abbrev Tells : ℕ → Refusal → Txt → Type 0
+Tells session refusal reply =
+    (reply ≡ refusal_line (Some session) refusal) ⊎ (reply ≡ refusal_line (Some session) refusals.Memory)
+
+-- want of memory is told either way
+pub told_short : (reply : Txt) → Tells 0 refusals.Memory reply → reply ≡ refusal_line (Some 0) refusals.Memory
+told_short reply (inl is) = is
+told_short reply (inr is) = is
+
+-- a command that is refused adds nothing
+pub quiet_refusal : (command : Command) (session : ℕ) (refusal : Refusal) (old new : Engine) → IsRefused command session refusal old
+    → new.state ≡ old.state → new.world ≡ old.world → Tells session refusal new.reply → IsQuiet command old new
+quiet_refusal command session refusal old new is state_is world_is said = record {
+  same = state_is;
+  effect = λ history stands.
+      subst (λ (w : World). IsEffect history (world_of old.world) command (only_reply w new.reply)) (ap world_of (sym world_is))
+      (replied history (is.refused history stands) said);
+}
+  where
+    as_said : (history : History) (other : Refusal) → new.reply ≡ refusal_line (Some session) other
+        → IsEffect history (world_of old.world) command (only_reply (world_of old.world) (refusal_line (who_commands command) other))
+        → IsEffect history (world_of old.world) command (only_reply (world_of old.world) new.reply)
+    as_said history other told effect =
+        subst (λ (reply : Txt). IsEffect history (world_of old.world) command (only_reply (world_of old.world) reply))
+        (ap (λ (who : Option ℕ). refusal_line who other) is.who ∙ sym told) effect
+
+    replied : (history : History) → Refuses (judged history (world_of old.world) command) refusal → Tells session refusal new.reply
+        → IsEffect history (world_of old.world) command (only_reply (world_of old.world) new.reply)
+    replied history (inl so) (inl told) = as_said history refusal told (refused history (world_of old.world) command refusal so)
+    replied history (inr memory) (inl told) =
+        as_said history refusals.Memory (told ∙ ap (refusal_line (Some session)) memory)
+        (short history (world_of old.world) command is.memory)
+    replied history why (inr told) = as_said history refusals.Memory told (short history (world_of old.world) command is.memory)
+
+-- a change that is refused
+pub refused_change : (session : ℕ) (statement : Stmt) (text : Txt) (refusal : Refusal) (engine : Engine) → changes_something statement ≡ true
+    → ((history : History) → StandsFor engine.state history
+    → Refuses (judged_change history (world_of engine.world) session statement) refusal)
+    → IsRefused (state session statement text) session refusal engine
+refused_change session statement text refusal engine changes refuses = record {
+  who = refl;
+  memory = refl;
+  refused = λ history stands.
+      rw (judged_as_change history (world_of engine.world) session statement text changes) (refuses history stands);
+}
+
+-- what is done for a change that adds the next entry
+next_is : (history : History) (world : World) (entry : Entry) → entry ≡ next_entry history world entry.act
+    → done history world (deeds.change entry.act) ≡ changed world entry
+next_is history world entry is = sym (ap (changed world) is)
+
+-- a change that adds an entry
+pub found_change : (session : ℕ) (statement : Stmt) (text : Txt) (entry : Entry) (engine : Engine) → changes_something statement ≡ true
+    → session ≡ 0
+    → ((history : History) → StandsFor engine.state history
+    → IsChange history (world_of engine.world) (judged_change history (world_of engine.world) session statement) entry)
+    → Changes (state session statement text) entry engine
+found_change session statement text entry engine changes console found = record {
+  who = ap Some console;
+  memory = refl;
+  adds = λ history stands. effect history (found history stands);
+}
+  where
+    effect : (history : History)
+        → IsChange history (world_of engine.world) (judged_change history (world_of engine.world) session statement) entry
+        → effect_of history (world_of engine.world) (state session statement text) ≡ changed (world_of engine.world) entry
+    effect history change =
+        ap (carried_out history (world_of engine.world) (Some session))
+        (judged_as_change history (world_of engine.world) session statement text changes ∙ change.judged_so)
+        ∙ next_is history (world_of engine.world) entry change.next
+
+-- a change that was not recorded, since memory was short
+pub unrecorded : (command : Command) (entry : Entry) (old new : Engine) (before after : KeeperState) → Changes command entry old
+    → Records entry (err_of (Unit {0}) Memory) old.state new.state before after → IsSound new.state
+    → new.world ≡ old.world → new.reply ≡ refusal_line (Some 0) refusals.Memory
+    → Carries command (well EngineFault) old new before after
+unrecorded command entry old new before after changes records sound world_is reply_is = record {
+  call = IsAfterCall-as true false (err_of (Unit {0}) Memory) (well KeeperFault) before after refl records.keeps.call;
+  sound = λ fine. sound;
+  carried = λ fine history stands. record {
+    effect = only_reply (world_of old.world) (refusal_line (Some 0) refusals.Memory);
+    is = subst (λ (who : Option ℕ). IsEffect history (world_of old.world) command
+        (only_reply (world_of old.world) (refusal_line who refusals.Memory)))
+        changes.who (short history (world_of old.world) command changes.memory);
+    reply = reply_is;
+    world = ap world_of world_is;
+    stands = subst (StandsFor new.state) (sym (append-nil history)) (records.memory refl history stands);
+    kept = records.keeps.same refl;
+  };
+  failed = λ fails. absurd (false≢true fails);
+}

@@ -1,0 +1,259 @@
+-- From keeping and answering a question to what carrying out its command does.
+use Rattle.std.proofs.Common.{◌≡◌, ◌⊎◌, ◌∙◌, ◌+◌, inl, inr, refl, sym, ap, subst, ℕ, Bool, true, false, List, [], ◌∷◌, ◌++◌, Option, Some, None, Result, Ok, Err, length, append-nil}
+use Rattle.std.specs.Prelude.{◌==◌, ok_or, codes}
+use Rattle.std.proofs.lemmas.Bool.{false≢true}
+use Rattle.hippo_values.specs.Texts.{Txt}
+use Rattle.hippo_model.specs.declared.entry.Entry.{Entry}
+use Rattle.hippo_model.specs.declared.statement.RawSelect.{RawSelect}
+use Rattle.hippo_model.specs.declared.statement.Stmt.TheVariants as stmt
+use Rattle.hippo_model.specs.Terms.{History, ShownRow}
+use Rattle.hippo_report.specs.declared.refusal.Refusal.{Refusal}
+use Rattle.hippo_report.specs.declared.refusal.Refusal.TheVariants.{SessionsOnly, NoSession, Memory}
+use Rattle.hippo_report.specs.Cells.{answer_line}
+use Rattle.hippo_report.specs.Notices.{number_line}
+use Rattle.hippo_report.specs.Refusals.{refusal_line}
+use Rattle.hippo_keeper.specs.declared.faults.KeeperFault.{KeeperFault}
+use Rattle.hippo_keeper.specs.declared.faults.KeeperFault.TheVariants.{Failed, Memory as KeeperMemory}
+use Rattle.hippo_keeper.specs.Keeping.{KeeperState}
+use Rattle.hippo_eval.specs.declared.answers.EvalFault.{EvalFault}
+use Rattle.hippo_eval.specs.Answering.{IsAnswered}
+use Rattle.hippo_replay.specs.declared.state.State.{State}
+use Rattle.hippo_replay.specs.Standing.{StandsFor, IsSound}
+use Rattle.hippo_replay.specs.Recording.{Keeps}
+use Rattle.hippo_replay.proofs.KeeperLemmas.{IsAfterCall-as}
+use Rattle.hippo_replay.proofs.Results.{ok_of, err_of, well}
+use Rattle.hippo_world.specs.declared.sessions.Session.{Session}
+use Rattle.hippo_world.specs.declared.worlds.World.{World as HeldWorld}
+use Rattle.hippo_world.specs.Worlds.{World, session_at}
+use Rattle.hippo_world.specs.Holding.{world_of}
+use Rattle.hippo_commands.specs.Commands.{Command, state, who_commands, takes_memory}
+use Rattle.hippo_engine.specs.declared.engine.Engine.{Engine}
+use Rattle.hippo_engine.specs.declared.faults.EngineFault.{EngineFault}
+use Rattle.hippo_engine.specs.declared.faults.EngineFault.TheVariants.{Keeper}
+use Rattle.hippo_engine.specs.declared.asking.Asking.{Asking}
+use Rattle.hippo_engine.specs.declared.asking.Opening.{Opening}
+use Rattle.hippo_engine.specs.Checks.{Checked, ◌>>=◌, refused_if, open_session}
+use Rattle.hippo_engine.specs.Deeds.{Deed, Question, asked_by}
+use Rattle.hippo_engine.specs.Judging.{judged}
+use Rattle.hippo_engine.specs.Effects.{Effect, only_reply, next_entry, row_limit, question_rows, within_limit, listed, alarms, asked, done, effect_of, IsShortAnswer, IsShort, IsEffect}
+use Rattle.hippo_engine.specs.Carrying.{Carries}
+use Rattle.hippo_engine.specs.Asking.{question_of, answers, opens, entry_of, KeptAnswer, Asks, RepliesRows, RepliesCursor, with_answer}
+use Rattle.hippo_engine.specs.Asking as asking
+use Rattle.hippo_engine.proofs.ShortLemmas.{short, refused, done_for}
+
+-- what is kept does not hang on what is answered
+pub Keeps-ok : {A B : Type 0} (one : A) (other : B) (entry : Entry) (held : State) (before after : KeeperState) → Keeps entry (ok_of KeeperFault one) held before after → Keeps entry (ok_of KeeperFault other) held before after
+Keeps-ok one other entry held before after keeps = record {
+  call = IsAfterCall-as true false (ok_of KeeperFault one) (ok_of KeeperFault other) before after refl keeps.call;
+  follows = keeps.follows;
+  kept = keeps.kept;
+  failed = keeps.failed;
+  same = keeps.same;
+}
+
+-- a question that is refused, or for which memory is short, has that effect
+pub refused_effect : (history : History) (world : World) (command : Command) (refusal : Refusal) (reply : Txt) → takes_memory command ≡ true
+    → (judged history world command ≡ Err refusal) ⊎ (refusal ≡ Memory)
+    → (reply ≡ refusal_line (who_commands command) refusal) ⊎ (reply ≡ refusal_line (who_commands command) Memory)
+    → IsEffect history world command (only_reply world reply)
+refused_effect history world command refusal reply takes found (inr said) =
+    subst (λ (r : Txt). IsEffect history world command (only_reply world r)) (sym said) (short history world command takes)
+refused_effect history world command refusal reply takes (inl is) (inl said) =
+    subst (λ (r : Txt). IsEffect history world command (only_reply world r)) (sym said) (refused history world command refusal is)
+refused_effect history world command refusal reply takes (inr is) (inl said) =
+    subst (λ (r : Txt). IsEffect history world command (only_reply world r)) (sym (said ∙ ap (λ (r : Refusal). refusal_line (who_commands command) r) is)) (short history world command takes)
+
+-- there are no watches
+no_alarms : (history : History) (held : HeldWorld) (entry : Entry) → alarms history (world_of held) entry ≡ []
+no_alarms history held entry = refl
+
+-- the entry of a question is the next one
+next_is : (history : History) (held : State) (world : HeldWorld) (question : Question) → StandsFor held history
+    → entry_of held world.clock question ≡ next_entry history (world_of world) (asked_by question)
+next_is history held world question stands =
+    let number : held.count + 1 ≡ length history + 1 = ap (λ (n : ℕ). n + 1) stands.count in
+    λ i. record { seq = number i; moment = world.clock; act = asked_by question }
+
+-- a deed that asks a question, says this of its rows, and leaves this world
+record IsQuestion (world : World) (deed : Deed) (question : Question) (said : List ShownRow → Txt) (left : List ShownRow → World) : Type 0 where
+  effect : (history : History) → done history world deed ≡ asked history world question (said (question_rows history world question)) (left (question_rows history world question))
+  short : (history : History) (reply : Txt) (result : Effect) → IsShortAnswer history world reply question result → IsShort history world reply (Ok deed) result
+
+-- an engine says that memory was short, and its world is the same
+record SaysShort (command : Command) (old new : Engine) : Type 0 where
+  said : new.reply ≡ refusal_line (who_commands command) Memory
+  same : world_of new.world ≡ world_of old.world
+
+-- it says what is to be said of these rows
+record SaysSo (new : Engine) (said : List ShownRow → Txt) (left : List ShownRow → World) (rows : List ShownRow) : Type 0 where
+  reply : new.reply ≡ said rows
+  world : world_of new.world ≡ left rows
+
+module _ (command : Command) (deed : Deed) (question : Question) (said : List ShownRow → Txt) (left : List ShownRow → World) (old new : Engine) (before after : KeeperState)
+    (takes : takes_memory command ≡ true) (sound : IsSound old.state)
+    (judged_is : (history : History) → StandsFor old.state history → judged history (world_of old.world) command ≡ Ok deed)
+    (asks : IsQuestion (world_of old.world) deed question said left) where
+
+  abbrev entry : Entry
+  entry = entry_of old.state old.world.clock question
+
+  effect_is : (history : History) → StandsFor old.state history
+      → effect_of history (world_of old.world) command ≡ asked history (world_of old.world) question (said (question_rows history (world_of old.world) question)) (left (question_rows history (world_of old.world) question))
+  effect_is history stands = done_for history (world_of old.world) command deed (judged_is history stands) ∙ asks.effect history
+
+  abbrev shown : Effect
+  shown = record { reply = new.reply; added = entry ∷ []; world = world_of new.world }
+
+  has_effect : (history : History) → StandsFor old.state history
+      → SaysSo new said left (question_rows history (world_of old.world) question) ⊎ SaysShort command old new
+      → IsEffect history (world_of old.world) command shown
+  has_effect history stands (inl so) =
+      let rows : List ShownRow = question_rows history (world_of old.world) question in
+      let next = next_is history old.state old.world question stands in
+      let reply : new.reply ≡ said rows ++ alarms history (world_of old.world) (next_entry history (world_of old.world) (asked_by question)) =
+      so.reply ∙ sym (append-nil (said rows)) ∙ ap (λ (more : Txt). said rows ++ more) (sym (no_alarms history old.world (next_entry history (world_of old.world) (asked_by question)))) in
+      let shown_is : shown ≡ asked history (world_of old.world) question (said rows) (left rows) = λ i. record { reply = reply i; added = next i ∷ []; world = so.world i } in
+      inl (shown_is ∙ sym (effect_is history stands))
+  has_effect history stands (inr none) =
+      let line : Txt = refusal_line (who_commands command) Memory in
+      let next = next_is history old.state old.world question stands in
+      let so : IsShort history (world_of old.world) line (Ok deed) shown = asks.short history line shown (record { said = none.said; kept = inr (λ i. next i ∷ []); same = none.same }) in
+      inr (takes, subst (λ (judgement : Checked Deed). IsShort history (world_of old.world) line judgement shown) (sym (judged_is history stands)) so)
+
+  -- it was kept and answered
+  Carries-kept : (answer : Result (List ShownRow) EvalFault) → Asks entry (world_of old.world) question (ok_of KeeperFault answer) old.state new.state before after
+      → ((rows : List ShownRow) → IsAnswered row_limit rows answer → SaysSo new said left rows ⊎ SaysShort command old new)
+      → Carries {A = Unit {0}} command (Ok tt) old new before after
+  Carries-kept answer kept says = record {
+    call = IsAfterCall-as true false (ok_of KeeperFault answer) (well KeeperFault) before after refl kept.keeps.call;
+    sound = λ fine. record { history = sound.history ++ entry ∷ []; stands = kept.added sound.history sound.stands };
+    carried = λ fine history stands. record {
+      effect = shown;
+      is = has_effect history stands (says (question_rows history (world_of old.world) question) (kept.rows history stands));
+      reply = refl;
+      world = refl;
+      stands = kept.added history stands;
+      kept = kept.keeps.kept;
+    };
+    failed = λ fails. absurd (false≢true fails);
+  }
+
+  -- memory was short before it was kept
+  Carries-short : Asks entry (world_of old.world) question (err_of (Result (List ShownRow) EvalFault) KeeperMemory) old.state new.state before after
+      → SaysShort command old new → Carries {A = Unit {0}} command (Ok tt) old new before after
+  Carries-short kept none = record {
+    call = IsAfterCall-as true false (err_of (Result (List ShownRow) EvalFault) KeeperMemory) (well KeeperFault) before after refl kept.keeps.call;
+    sound = λ fine. subst IsSound (sym kept.same) sound;
+    carried = λ fine history stands. record {
+      effect = only_reply (world_of old.world) (refusal_line (who_commands command) Memory);
+      is = short history (world_of old.world) command takes;
+      reply = none.said;
+      world = none.same;
+      stands = subst (StandsFor new.state) (sym (append-nil history)) (subst (λ (held : State). StandsFor held history) (sym kept.same) stands);
+      kept = kept.keeps.same refl;
+    };
+    failed = λ fails. absurd (false≢true fails);
+  }
+
+  -- the keeper failed
+  Carries-failed : Asks entry (world_of old.world) question (err_of (Result (List ShownRow) EvalFault) Failed) old.state new.state before after
+      → Carries command (err_of (Unit {0}) Keeper) old new before after
+  Carries-failed kept = record {
+    call = IsAfterCall-as true false (err_of (Result (List ShownRow) EvalFault) Failed) (err_of (Unit {0}) Failed) before after refl kept.keeps.call;
+    sound = λ fine. absurd (false≢true (sym fine));
+    carried = λ fine. absurd (false≢true (sym fine));
+    failed = λ fails history stands. record {
+      entry = entry;
+      adds = ap (λ (effect : Effect). effect.added) (effect_is history stands) ∙ (λ i. sym (next_is history old.state old.world question stands) i ∷ []);
+      follows = kept.keeps.follows refl history stands;
+      kept = kept.keeps.failed refl;
+    };
+  }
+
+module _ (session : ℕ) (select : RawSelect) (start end : ℕ) (text : Txt) (old new : Engine) (before after : KeeperState) (sound : IsSound old.state) where
+  -- a SELECT that is not refused
+  module _ (asked_for : Asking) where
+    abbrev selects : Command
+    selects = state session (stmt.Select select start end) text
+
+    abbrev question : Question
+    question = question_of session asked_for
+
+    abbrev rows_said : List ShownRow → Txt
+    rows_said rows = within_limit session rows (listed session (answer_line session) rows)
+
+    is_select : IsQuestion (world_of old.world) (answers session asked_for) question rows_said (λ rows. world_of old.world)
+    is_select = record { effect = λ history. refl; short = λ history reply result answer. answer }
+
+    says_rows : world_of new.world ≡ world_of old.world → (rows : List ShownRow)
+        → (new.reply ≡ rows_said rows) ⊎ (new.reply ≡ asking.short_line session)
+        → SaysSo new rows_said (λ rows. world_of old.world) rows ⊎ SaysShort selects old new
+    says_rows same rows (inl said) = inl (record { reply = said; world = same })
+    says_rows same rows (inr said) = inr (record { said = said; same = same })
+
+    pub Carries-select : world_of new.world ≡ world_of old.world
+        → ((history : History) → StandsFor old.state history → judged history (world_of old.world) selects ≡ Ok (answers session asked_for))
+        → (kept : KeptAnswer) → Asks (entry_of old.state old.world.clock question) (world_of old.world) question kept old.state new.state before after
+        → (result : Result (Unit {0}) EngineFault) → RepliesRows session kept result new.reply → Carries selects result old new before after
+    Carries-select same judged_is (Ok answer) asks result replies =
+        subst (λ (r : Result (Unit {0}) EngineFault). Carries selects r old new before after) (sym replies.0)
+        (Carries-kept selects (answers session asked_for) question rows_said (λ rows. world_of old.world) old new before after refl sound judged_is is_select answer asks
+        (λ rows answered. says_rows same rows (replies.1 rows answered)))
+    Carries-select same judged_is (Err KeeperMemory) asks result replies =
+        subst (λ (r : Result (Unit {0}) EngineFault). Carries selects r old new before after) (sym replies.0)
+        (Carries-short selects (answers session asked_for) question rows_said (λ rows. world_of old.world) old new before after refl sound judged_is is_select asks
+        (record { said = replies.1; same = same }))
+    Carries-select same judged_is (Err Failed) asks result replies =
+        subst (λ (r : Result (Unit {0}) EngineFault). Carries selects r old new before after) (sym replies)
+        (Carries-failed selects (answers session asked_for) question rows_said (λ rows. world_of old.world) old new before after refl sound judged_is is_select asks)
+
+-- a session that is open is there
+found_session : (console : Bool) (held : Option Session) (session : Session) → (refused_if console SessionsOnly >>= λ _. ok_or held NoSession) ≡ Ok session → held ≡ Some session
+found_session true held session is = absurd cc
+found_session false None session is = absurd cc
+found_session false (Some one) session is = ap (λ (c : Checked Session). found c) is
+  where
+    found : Checked Session → Option Session
+    found (Ok one) = Some one
+    found (Err refusal) = None
+
+module _ (session : ℕ) (select : RawSelect) (start end : ℕ) (text : Txt) (old new : Engine) (before after : KeeperState) (sound : IsSound old.state) (opening : Opening) where
+  -- an OPEN that is not refused
+  abbrev opens_select : Command
+  opens_select = state session (stmt.Ask select start end) text
+
+  abbrev opened_question : Question
+  opened_question = question_of session opening.asking
+
+  abbrev cursor_said : List ShownRow → Txt
+  cursor_said rows = within_limit session rows (number_line session (codes "cursor") opening.cursor)
+
+  abbrev world_left : List ShownRow → World
+  world_left rows = with_answer (world_of old.world) session opening.asking.asker.now opening.cursor rows
+
+  is_open : IsQuestion (world_of old.world) (opens session opening) opened_question cursor_said world_left
+  is_open = record { effect = λ history. refl; short = λ history reply result answer. answer }
+
+  says_cursor : session_at (world_of old.world) session ≡ Some opening.asking.asker.now → (rows : List ShownRow)
+      → asking.IsOpened session opening.cursor rows new.reply (world_of old.world) (world_of new.world) ⊎ asking.IsShort session new.reply (world_of old.world) (world_of new.world)
+      → SaysSo new cursor_said world_left rows ⊎ SaysShort opens_select old new
+  says_cursor there rows (inl opened) = inl (record { reply = opened.said; world = opened.held opening.asking.asker.now there })
+  says_cursor there rows (inr none) = inr (record { said = none.said; same = none.same })
+
+  pub Carries-open : open_session (world_of old.world) session ≡ Ok opening.asking.asker.now
+      → ((history : History) → StandsFor old.state history → judged history (world_of old.world) opens_select ≡ Ok (opens session opening))
+      → (kept : KeptAnswer) → Asks (entry_of old.state old.world.clock opened_question) (world_of old.world) opened_question kept old.state new.state before after
+      → (result : Result (Unit {0}) EngineFault) → RepliesCursor session opening.cursor kept result new.reply (world_of old.world) (world_of new.world)
+      → Carries opens_select result old new before after
+  Carries-open there judged_is (Ok answer) asks result replies =
+      let at = found_session (session == 0) (session_at (world_of old.world) session) opening.asking.asker.now there in
+      subst (λ (r : Result (Unit {0}) EngineFault). Carries opens_select r old new before after) (sym replies.0)
+      (Carries-kept opens_select (opens session opening) opened_question cursor_said world_left old new before after refl sound judged_is is_open answer asks
+      (λ rows answered. says_cursor at rows (replies.1 rows answered)))
+  Carries-open there judged_is (Err KeeperMemory) asks result replies =
+      subst (λ (r : Result (Unit {0}) EngineFault). Carries opens_select r old new before after) (sym replies.0.0)
+      (Carries-short opens_select (opens session opening) opened_question cursor_said world_left old new before after refl sound judged_is is_open asks
+      (record { said = replies.0.1; same = replies.1 }))
+  Carries-open there judged_is (Err Failed) asks result replies =
+      subst (λ (r : Result (Unit {0}) EngineFault). Carries opens_select r old new before after) (sym replies.0)
+      (Carries-failed opens_select (opens session opening) opened_question cursor_said world_left old new before after refl sound judged_is is_open asks)

@@ -1,0 +1,144 @@
+-- A line that takes memory may be answered by want of it.
+use Rattle.std.proofs.Common.{◌≡◌, inl, inr, refl, ap, sym, true, Bool, false, [], ◌∷◌, Option, Some, None, Result, Ok, Err, List}
+use Rattle.std.specs.Prelude.{ℕ, ℤ, int_lt, ok_or, is_some, if◌then◌else◌}
+use Rattle.hippo_model.specs.declared.audit.Pair.{Pair}
+use Rattle.hippo_model.specs.declared.entry.Act.{Act}
+use Rattle.hippo_model.specs.declared.name_fault.NameFault.{NameFault}
+use Rattle.hippo_model.specs.declared.statement.RawSelect.{RawSelect}
+use Rattle.hippo_model.specs.declared.statement.Stmt.{Stmt}
+use Rattle.hippo_model.specs.declared.statement.Stmt.TheVariants as stmt
+use Rattle.hippo_model.specs.declared.statement.Wanted.{Wanted}
+use Rattle.hippo_model.specs.Terms.{History}
+use Rattle.hippo_values.specs.Texts.{Txt}
+use Rattle.hippo_values.specs.declared.names.Name.{Name}
+use Rattle.hippo_catalog.specs.Catalogs.{known_at}
+use Rattle.hippo_catalog.specs.ChangesRefused.{change_refused}
+use Rattle.hippo_catalog.specs.ChangesWanted.{wanted_by}
+use Rattle.hippo_tables.specs.Finished.{finished}
+use Rattle.hippo_report.specs.declared.refusal.Refusal.{Refusal}
+use Rattle.hippo_report.specs.declared.refusal.Refusal.TheVariants.{Memory, NotBuilt, BadSyntax, CursorLimit, SessionOpen, NoCursor, MomentBack}
+use Rattle.hippo_report.specs.Refusals.{refusal_line}
+use Rattle.hippo_world.specs.declared.cursors.Cursor.{Cursor}
+use Rattle.hippo_world.specs.declared.sessions.Session.{Session}
+use Rattle.hippo_world.specs.Worlds.{World, session_at, at_number, free_number}
+use Rattle.hippo_lines.specs.Forms.{Request, logs_in, logs_out, fetches, closes, steps, drops, unwatches, loads}
+use Rattle.hippo_commands.specs.Commands.{Command, nothing, wrong, ask, state, who_commands, takes_memory}
+use Rattle.hippo_commands.specs.Commands as commands
+use Rattle.hippo_engine.specs.Deeds.{Deed, Question}
+use Rattle.hippo_engine.specs.Deeds as deeds
+use Rattle.hippo_engine.specs.Checks.{Checked, ◌>>=◌, refused_if, by_session, by_console, open_session, authorized, meant, act_made, has_room}
+use Rattle.hippo_engine.specs.Judging.{judged, judged_login, judged_fetch, judged_close, judged_wanted, judged_change, text_between, question_in, judged_select, judged_open, is_plain}
+use Rattle.hippo_engine.specs.Effects.{Effect, only_reply, carried_out, effect_of, IsShort, IsMemoryEffect, IsEffect}
+
+-- a judgement is no step of a job
+abbrev Stepless : Checked Deed → Type 0
+Stepless (Ok (deeds.step_job number job count)) = ⊥
+Stepless judgement = Unit {0}
+
+check : {A : Type 0} (found : Checked A) (next : A → Checked Deed) → ((one : A) → Stepless (next one)) → Stepless (found >>= next)
+check (Ok one) next all = all one
+check (Err refusal) next all = tt
+
+built : (is : Bool) (judgement : Checked Deed) → Stepless judgement → Stepless (if is then judgement else Err NotBuilt)
+built true judgement none = none
+built false judgement none = tt
+
+made : (history : History) (world : World) (wanted : Wanted) → Stepless (judged_wanted history world wanted)
+made history world wanted =
+    check {A = Act} (act_made (finished history wanted)) (λ act. has_room history world >>= λ room. Ok (deeds.change act))
+    (λ act. check {A = Unit {0}} (has_room history world) (λ room. Ok (deeds.change act)) (λ room. tt))
+
+named : (history : History) (world : World) (wanted : Option Wanted) → Stepless (ok_or wanted BadSyntax >>= λ one. judged_wanted history world one)
+named history world wanted = check {A = Wanted} (ok_or wanted BadSyntax) (λ one. judged_wanted history world one) (λ one. made history world one)
+
+change : (history : History) (world : World) (number : ℕ) (statement : Stmt) → Stepless (judged_change history world number statement)
+change history world number statement =
+    let refusals : List NameFault = change_refused (known_at history) statement in
+    let wanted : Option Wanted = wanted_by (known_at history) statement in
+    check {A = Unit {0}} (by_console number)
+    (λ console. meant refusals wanted >>= λ found. ok_or found BadSyntax >>= λ one. judged_wanted history world one)
+    (λ console. check {A = Option Wanted} (meant refusals wanted) (λ found. ok_or found BadSyntax >>= λ one. judged_wanted history world one) (λ found. named history world found))
+
+select : (history : History) (world : World) (number : ℕ) (written : RawSelect) (text : Txt) → Stepless (judged_select history world number written text)
+select history world number written text =
+    check {A = Question} (question_in history world number written text) (λ question. has_room history world >>= λ room. Ok (deeds.answer question))
+    (λ question. check {A = Unit {0}} (has_room history world) (λ room. Ok (deeds.answer question)) (λ room. tt))
+
+free : (history : History) (world : World) (session : Session) (question : Question) → Stepless (ok_or (free_number session.cursors) CursorLimit >>= λ number. has_room history world >>= λ room. Ok (deeds.open_cursor session number question))
+free history world session question =
+    check {A = ℕ} (ok_or (free_number session.cursors) CursorLimit) (λ number. has_room history world >>= λ room. Ok (deeds.open_cursor session number question))
+    (λ number. check {A = Unit {0}} (has_room history world) (λ room. Ok (deeds.open_cursor session number question)) (λ room. tt))
+
+opens : (history : History) (world : World) (number : ℕ) (written : RawSelect) (text : Txt) → Stepless (judged_open history world number written text)
+opens history world number written text =
+    check {A = Question} (question_in history world number written text)
+    (λ question. open_session world number >>= λ session. ok_or (free_number session.cursors) CursorLimit >>= λ place. has_room history world >>= λ room. Ok (deeds.open_cursor session place question))
+    (λ question. check {A = Session} (open_session world number)
+    (λ session. ok_or (free_number session.cursors) CursorLimit >>= λ place. has_room history world >>= λ room. Ok (deeds.open_cursor session place question))
+    (λ session. free history world session question))
+
+login : (history : History) (world : World) (number : ℕ) (user : Name) (pair : Pair) → Stepless (judged_login history world number user pair)
+login history world number user pair =
+    check {A = Unit {0}} (by_session number) (λ session. refused_if (is_some (session_at world number)) SessionOpen >>= λ closed. authorized history user pair >>= λ allowed. Ok (deeds.log_in number user pair))
+    (λ session. check {A = Unit {0}} (refused_if (is_some (session_at world number)) SessionOpen) (λ closed. authorized history user pair >>= λ allowed. Ok (deeds.log_in number user pair))
+    (λ closed. check {A = Unit {0}} (authorized history user pair) (λ allowed. Ok (deeds.log_in number user pair)) (λ allowed. tt)))
+
+fetch : (world : World) (number at count : ℕ) → Stepless (judged_fetch world number at count)
+fetch world number at count =
+    check {A = Session} (open_session world number) (λ session. ok_or (at_number session.cursors at) (NoCursor at) >>= λ cursor. Ok (deeds.hand_out number session at cursor count))
+    (λ session. check {A = Cursor} (ok_or (at_number session.cursors at) (NoCursor at)) (λ cursor. Ok (deeds.hand_out number session at cursor count)) (λ cursor. tt))
+
+close : (world : World) (number at : ℕ) → Stepless (judged_close world number at)
+close world number at =
+    check {A = Session} (open_session world number) (λ session. ok_or (at_number session.cursors at) (NoCursor at) >>= λ cursor. Ok (deeds.close_cursor number session at))
+    (λ session. check {A = Cursor} (ok_or (at_number session.cursors at) (NoCursor at)) (λ cursor. Ok (deeds.close_cursor number session at)) (λ cursor. tt))
+
+-- no command that is carried out is a step of a job
+stepless : (history : History) (world : World) (command : Command) → Stepless (judged history world command)
+stepless history world nothing = tt
+stepless history world (wrong who refusal) = tt
+stepless history world (commands.set_clock moment) =
+    check {A = Unit {0}} (refused_if (int_lt moment world.clock) (MomentBack world.clock)) (λ later. Ok (deeds.set_clock moment)) (λ later. tt)
+stepless history world (ask number (logs_in user purpose recipient)) =
+    login history world number user (record { purpose = purpose; recipient = recipient })
+stepless history world (ask number logs_out) = check {A = Session} (open_session world number) (λ session. Ok (deeds.log_out number)) (λ session. tt)
+stepless history world (ask number (fetches cursor count)) = fetch world number cursor count
+stepless history world (ask number (closes cursor)) = close world number cursor
+stepless history world (ask number (steps job count)) = tt
+stepless history world (ask number (drops job)) = tt
+stepless history world (ask number (unwatches watch)) = tt
+stepless history world (ask number (loads table text)) = tt
+stepless history world (state number (stmt.Select written start end) text) =
+    built (is_plain written.form) (judged_select history world number written (text_between text start end)) (select history world number written (text_between text start end))
+stepless history world (state number (stmt.Ask written start end) text) =
+    built (is_plain written.form) (judged_open history world number written (text_between text start end)) (opens history world number written (text_between text start end))
+stepless history world (state number (stmt.Extract written start end) text) = tt
+stepless history world (state number (stmt.Explain question) text) = tt
+stepless history world (state number (stmt.Audit audit) text) = tt
+stepless history world (state number (stmt.BeginAudit audit) text) = tt
+stepless history world (state number (stmt.Watch audit) text) = tt
+stepless history world (state number statement text) = change history world number statement
+
+short_of : (history : History) (world : World) (reply : Txt) (judgement : Checked Deed) → Stepless judgement → IsShort history world reply judgement (only_reply world reply)
+short_of history world reply (Ok (deeds.answer question)) none = record { said = refl; kept = inl refl; same = refl }
+short_of history world reply (Ok (deeds.open_cursor session number question)) none = record { said = refl; kept = inl refl; same = refl }
+short_of history world reply (Ok (deeds.extract question)) none = record { said = refl; kept = inl refl; same = refl }
+short_of history world reply (Ok (deeds.step_job number job count)) none = absurd none
+short_of history world reply judgement none = refl
+
+-- a command that takes memory may be answered by want of it, and nothing changes
+pub short : (history : History) (world : World) (command : Command) → takes_memory command ≡ true
+    → IsEffect history world command (only_reply world (refusal_line (who_commands command) Memory))
+short history world command takes =
+    inr (takes, short_of history world (refusal_line (who_commands command) Memory) (judged history world command) (stepless history world command))
+
+-- a command that is refused is answered by its refusal, and nothing changes
+pub refused : (history : History) (world : World) (command : Command) (refusal : Refusal) → judged history world command ≡ Err refusal
+    → IsEffect history world command (only_reply world (refusal_line (who_commands command) refusal))
+refused history world command refusal is =
+    inl (sym (ap (λ (judgement : Checked Deed). carried_out history world (who_commands command) judgement) is))
+
+-- a command that is judged to be carried out has what is done as its effect
+pub done_for : (history : History) (world : World) (command : Command) (deed : Deed) → judged history world command ≡ Ok deed
+    → effect_of history world command ≡ carried_out history world (who_commands command) (Ok deed)
+done_for history world command deed is = ap (λ (judgement : Checked Deed). carried_out history world (who_commands command) judgement) is

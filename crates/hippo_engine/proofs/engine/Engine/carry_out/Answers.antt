@@ -1,0 +1,20 @@
+use Rattle.hippo_commands.specs.Commands.{nothing, wrong, ask}
+use Rattle.hippo_lines.specs.Lent.{request}
+use Rattle.hippo_engine.proofs.CarryingLemmas.{Carries-quiet}
+use Rattle.hippo_engine.proofs.engine.Engine.carry_out.Goals as goal
+
+pub returns-in-Nothing-clause-carries : goal.returns-in-Nothing-clause-carries
+returns-in-Nothing-clause-carries g c =
+    rw c.in-Nothing.is
+    (Carries-quiet nothing c.args.self.now c.say_nothing.new.self (g.P.Keeper.state c.args.keeper.now) c.requires.ready c.requires.sound c.say_nothing.ensures)
+
+pub returns-in-Wrong-clause-carries : goal.returns-in-Wrong-clause-carries
+returns-in-Wrong-clause-carries g c =
+    rw c.in-Wrong.is
+    (Carries-quiet (wrong c.in-Wrong.who c.in-Wrong.refusal) c.args.self.now c.refuse_whatever.new.self (g.P.Keeper.state c.args.keeper.now) c.requires.ready c.requires.sound
+    c.refuse_whatever.ensures)
+
+pub returns-in-Ask-clause-carries : goal.returns-in-Ask-clause-carries
+returns-in-Ask-clause-carries g c =
+    rw c.in-Ask.is
+    (Carries-quiet (ask c.in-Ask.session (request c.in-Ask.request)) c.args.self.now c.ask.new.self (g.P.Keeper.state c.args.keeper.now) c.requires.ready c.requires.sound c.ask.ensures)

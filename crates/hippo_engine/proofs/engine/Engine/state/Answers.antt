@@ -1,0 +1,11 @@
+use Rattle.hippo_commands.specs.Commands.{state}
+use Rattle.hippo_engine.proofs.CarryingLemmas.{Carries-quiet}
+use Rattle.hippo_engine.proofs.engine.Engine.state.Goals as goal
+
+pub returns-in_default-clause-carries : goal.returns-in_default-clause-carries
+returns-in_default-clause-carries g c = c.change.ensures.carries c.args.text.now
+
+pub returns-in-Extract-clause-carries : goal.returns-in-Extract-clause-carries
+returns-in-Extract-clause-carries g c =
+    Carries-quiet (state c.args.session c.args.statement.now c.args.text.now) c.args.self.now c.refuse_unbuilt.new.self
+    (g.P.Keeper.state c.args.keeper.now) c.requires.ready c.requires.sound (c.refuse_unbuilt.ensures c.args.text.now)

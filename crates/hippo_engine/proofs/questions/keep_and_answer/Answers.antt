@@ -1,0 +1,13 @@
+-- The entry that is kept is that of the question.
+use Rattle.std.proofs.Common.{subst}
+use Rattle.hippo_model.specs.declared.entry.Entry.{Entry}
+use Rattle.hippo_world.specs.Holding.{world_of}
+use Rattle.hippo_engine.specs.Asking.{question_of, Asks}
+use Rattle.hippo_engine.proofs.questions.keep_and_answer.Goals as goal
+
+pub returns-in-Ok : goal.returns-in-Ok
+returns-in-Ok g c = record {
+  asks = λ session.
+    subst (λ (entry : Entry). Asks entry (world_of c.args.world.now) (question_of session c.args.asking.now) c.keep_entry-answer.result c.args.state.now c.keep_entry-answer.new.state (g.P.Keeper.state c.args.keeper.now) (g.P.Keeper.state c.keep_entry-answer.new.keeper))
+    c.in-Ok.ensures (c.keep_entry-answer.ensures.asks session);
+}

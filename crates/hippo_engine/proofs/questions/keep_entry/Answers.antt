@@ -1,0 +1,16 @@
+-- The entry is kept, and the answer is that of before.
+use Rattle.std.proofs.Common.{refl}
+use Rattle.hippo_engine.proofs.QuestionLemmas.{Keeps-ok}
+use Rattle.hippo_engine.proofs.questions.keep_entry.Goals as goal
+
+pub returns-in-Ok : goal.returns-in-Ok
+returns-in-Ok g c =
+    let keeps = c.in-Ok.ensures.keeps in
+    record {
+      asks = λ session. record {
+        keeps = Keeps-ok c.in-Ok.field-0 c.answered-answer.result c.args.entry.now c.args.state.now (g.P.Keeper.state c.args.keeper.now) (g.P.Keeper.state c.keep.new.keeper) keeps;
+        added = λ history stands. c.take_in.ensures history stands (keeps.follows refl history stands);
+        same = tt;
+        rows = λ history stands. c.answered-answer.ensures session history stands;
+      };
+    }

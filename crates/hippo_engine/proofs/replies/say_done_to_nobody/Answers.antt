@@ -1,0 +1,9 @@
+use Rattle.std.proofs.Common.{None, sym, ◌∙◌}
+use Rattle.hippo_report.specs.Notices.{done_line}
+use Rattle.hippo_engine.proofs.LengthLemmas.{done_fits, never_short}
+use Rattle.hippo_engine.proofs.replies.say_done_to_nobody.Goals as goal
+
+pub unreachable-requires : goal.unreachable-requires
+unreachable-requires c =
+    never_short c.done_line.result _ (done_line None) _ c.done_line.ensures.room c.clear.ensures (done_fits None tt)
+    (sym c.is_err.ensures.value ∙ c.if-is_err.true)

@@ -1,0 +1,56 @@
+//! What a line does that says nothing, is refused whatever the history, or is not carried out yet; and writing a reply.
+ghost use Rattle.std.specs.Prelude.{◌≡◌, ◌≢◌, false, Err, OnOk};
+ghost use Rattle.hippo_values.specs.Texts.{Txt as Text};
+ghost use Rattle.hippo_io.specs.Faults.{HasRisen};
+ghost use Rattle.hippo_io.specs.Told.{Appends, AppendsFront};
+ghost use Rattle.hippo_report.specs.declared.refusal.Refusal.TheVariants.{NotBuilt as Unbuilt};
+ghost use Rattle.hippo_commands.specs.Commands.{nothing, wrong, state};
+ghost use Rattle.hippo_engine.specs.Judging.{is_statement_built};
+ghost use Rattle.hippo_engine.specs.declared.faults.EngineFault.TheVariants.{Write as WriteFailed};
+ghost use Rattle.hippo_engine.specs.Carrying.{IsOfLine, IsQuiet};
+
+use crate::engine::Engine;
+use crate::faults::EngineFault;
+use crate::replies::refuse;
+use hippo_io::{Sink, write_whole};
+use hippo_model::Stmt;
+use hippo_report::Refusal;
+
+impl Engine {
+    /// A line that says nothing has no reply.
+    pub(crate) fn say_nothing(&mut self)
+        ensures { IsQuiet nothing self.old self.new }
+    {
+        self.reply.clear();
+    }
+
+    /// A line that is refused whatever the history.
+    pub(crate) fn refuse_whatever(&mut self, who: Option<u8>, refusal: &Refusal)
+        requires { IsOfLine (wrong who refusal.now) }
+        ensures { IsQuiet (wrong who refusal.now) self.old self.new }
+    {
+        refuse(who, refusal, &mut self.reply);
+    }
+
+    /// A statement that is not carried out yet.
+    pub(crate) fn refuse_unbuilt(&mut self, session: u8, statement: &Stmt)
+        requires { is_statement_built statement.now ≡ false }
+        ensures { (text : Text) → IsQuiet (state session statement.now text) self.old self.new }
+    {
+        refuse(Some(session), &Refusal::NotBuilt, &mut self.reply);
+    }
+
+    /// Writes the reply to the last line.
+    pub(crate) fn write_reply<K: Sink>(&self, sink: &mut K) -> Result<(), EngineFault>
+        ensures written { OnOk result (Appends (K.written sink.old) (K.written sink.new) self.now.reply) }
+        ensures cut { result ≡ Err WriteFailed → AppendsFront (K.written sink.old) (K.written sink.new) self.now.reply
+            × HasRisen (K.faults sink.old) (K.faults sink.new) }
+        ensures only { result ≢ Err EngineFault.Keeper }
+        ensures unfailed { result ≢ Err WriteFailed → K.faults sink.new ≡ K.faults sink.old }
+    {
+        match write_whole(sink, self.reply.as_str().as_bytes()) {
+            Ok(()) => Ok(()),
+            Err(_) => Err(EngineFault::Write),
+        }
+    }
+}

@@ -1,0 +1,327 @@
+//! Questions: each is kept before it is answered.
+ghost use Rattle.std.specs.Prelude.{◌≡◌, ◌≢◌, ◌⊎◌, ℕ, ◌+◌, ◌<◌, ◌^◌, List, [], ◌∷◌, ◌++◌, true, length, Ok as Good, Err as Bad, IfOk, OnOk, OnErr};
+ghost use Rattle.hippo_model.specs.declared.entry.Act.TheVariants.{Asked};
+ghost use Rattle.hippo_model.specs.declared.statement.Stmt.TheVariants as stmt;
+ghost use Rattle.hippo_model.specs.Terms.{History, ShownRow};
+ghost use Rattle.hippo_model.specs.Validity.{may_follow};
+ghost use Rattle.hippo_report.specs.Cells.{answer_line};
+ghost use Rattle.hippo_keeper.specs.Keeping.{IsReady};
+ghost use Rattle.hippo_eval.specs.Answering.{IsAnswered};
+ghost use Rattle.hippo_typing.specs.Meanings.{meaning};
+ghost use Rattle.hippo_replay.specs.Standing.{StandsFor, IsSound, IsNext, takes_no_memory};
+ghost use Rattle.hippo_replay.specs.TakingIn.{HasLoaded};
+ghost use Rattle.hippo_world.specs.Holding.{world_of};
+ghost use Rattle.hippo_commands.specs.Commands.{state, statement_in};
+ghost use Rattle.hippo_engine.specs.declared.faults.EngineFault.TheVariants.{Write as WriteFailed};
+ghost use Rattle.hippo_engine.specs.Carrying.{Carries};
+ghost use Rattle.hippo_engine.specs.Effects.{row_limit, question_rows, within_limit, listed};
+ghost use Rattle.hippo_engine.specs.Asking.{question_of, IsAnswerable, entry_of, Asks, short_line, IsUnkept, RepliesRows, IsOpened, IsShort, RepliesCursor};
+
+use crate::asking::{Asking, Opening, open_asks, select_asks};
+use crate::engine::{Engine, Reply};
+use crate::faults::EngineFault;
+use crate::replies::{refuse, say_number};
+use hippo_answering::answer;
+use hippo_eval::EvalFault;
+use hippo_keeper::{Keeper, KeeperFault};
+use hippo_model::{Act, Answer, CellRow, Entry, RawSelect};
+use hippo_replay::State;
+use hippo_report::{Refusal, answer_lines, number_line};
+use hippo_values::{Duplicate, Memory, Moment, Txt};
+use hippo_world::{Session, World};
+use std::alloc::Global;
+
+fn asked_act(alloc: Global, asker: &Session, text: &str) -> Result<Act, Memory>
+    ensures { IfOk result (λ act. act ≡ Asked asker.now.user asker.now.pair.purpose asker.now.pair.recipient text.now) }
+{
+    let user = asker.user.copy(alloc)?;
+    let purpose = asker.pair.purpose.copy(alloc)?;
+    let recipient = asker.pair.recipient.copy(alloc)?;
+    let text = Txt::from_str(alloc, text)?;
+    Ok(Act::Asked {
+        user,
+        purpose,
+        recipient,
+        text,
+    })
+}
+
+// The entry of a question, which comes next.
+fn entry_of(
+    alloc: Global,
+    state: &State,
+    clock: &Moment,
+    asking: &Asking<'_>,
+) -> Result<Entry, Memory>
+    requires { state.now.count + 1 < 2 ^ 63 }
+    ensures { IfOk result (λ entry. entry ≡ entry_of state.now clock.now (question_of 0 asking.now)) }
+{
+    let act = asked_act(alloc, asking.asker, asking.text)?;
+    Ok(Entry {
+        seq: state.count + 1,
+        moment: *clock,
+        act,
+    })
+}
+
+// What a question answers as of now.
+fn answered(
+    alloc: Global,
+    state: &State,
+    world: &World,
+    asking: &Asking<'_>,
+) -> Result<Answer, EvalFault>
+    requires { IsAnswerable state.now asking.now.query }
+    ensures { (session : ℕ) (history : History) → StandsFor state.now history
+        → IsAnswered row_limit (question_rows history (world_of world.now) (question_of session asking.now)) result }
+{
+    answer(
+        alloc,
+        &state.book,
+        &state.tables,
+        state.count,
+        world.clock,
+        &asking.asker.pair,
+        &asking.query,
+    )
+}
+
+// Takes in the next entry, which takes no memory.
+fn take_in(alloc: Global, state: &mut State, entry: &Entry)
+    requires next { IsNext state.old entry.now }
+    requires room { takes_no_memory entry.now.act ≡ true }
+    ensures { (history : History) → StandsFor state.old history → may_follow meaning history entry.now ≡ true
+        → StandsFor state.new (history ++ entry.now ∷ []) }
+{
+    state.add(alloc, entry).unwrap();
+}
+
+// Keeps a question's entry, answers the question as of before, and takes the entry in.
+fn keep_entry<P: Keeper>(
+    alloc: Global,
+    keeper: &mut P,
+    state: &mut State,
+    world: &World,
+    asking: &Asking<'_>,
+    entry: &Entry,
+) -> Result<Result<Answer, EvalFault>, KeeperFault>
+    requires sound { IsSound state.old }
+    requires ready { IsReady true (P.state keeper.old) }
+    requires told { (P.state keeper.old).tells → HasLoaded state.old (P.state keeper.old).kept }
+    requires number { entry.now.seq < 2 ^ 63 }
+    requires room { takes_no_memory entry.now.act ≡ true }
+    requires answerable { IsAnswerable state.old asking.now.query }
+    ensures asks { (session : ℕ) → Asks entry.now (world_of world.now) (question_of session asking.now) result
+        state.old state.new (P.state keeper.old) (P.state keeper.new) }
+{
+    match state.keep(alloc, keeper, entry) {
+        Ok(()) => {
+            let answer = answered(alloc, state, world, asking);
+            take_in(alloc, state, entry);
+            Ok(answer)
+        }
+        Err(fault) => Err(fault),
+    }
+}
+
+// Keeps a question behind the other entries, and answers it as of before.
+fn keep_and_answer<P: Keeper>(
+    alloc: Global,
+    keeper: &mut P,
+    state: &mut State,
+    world: &World,
+    asking: &Asking<'_>,
+) -> Result<Result<Answer, EvalFault>, KeeperFault>
+    requires sound { IsSound state.old }
+    requires ready { IsReady true (P.state keeper.old) }
+    requires told { (P.state keeper.old).tells → HasLoaded state.old (P.state keeper.old).kept }
+    requires number { state.old.count + 1 < 2 ^ 63 }
+    requires answerable { IsAnswerable state.old asking.now.query }
+    ensures asks { (session : ℕ) → Asks (entry_of state.old world.now.clock (question_of session asking.now))
+        (world_of world.now) (question_of session asking.now) result
+        state.old state.new (P.state keeper.old) (P.state keeper.new) }
+{
+    match entry_of(alloc, state, &world.clock, asking) {
+        Ok(entry) => {
+            let answer = keep_entry(alloc, keeper, state, world, asking, &entry);
+            drop(entry);
+            answer
+        }
+        Err(Memory) => Err(KeeperFault::Memory),
+    }
+}
+
+fn append_rows(session: u8, rows: &[CellRow], reply: &mut Reply) -> Result<(), Memory>
+    ensures { OnOk result (reply.new ≡ reply.old ++ listed session (answer_line session) rows.now) }
+{
+    answer_lines(session, rows, reply)?;
+    number_line(session, "end", rows.len() as u64, reply)
+}
+
+// Says the rows of an answer and how many they are, or that memory was short.
+fn say_rows(session: u8, rows: &Answer, reply: &mut Reply)
+    ensures { (reply.new ≡ listed session (answer_line session) rows.now) ⊎ (reply.new ≡ short_line session) }
+{
+    reply.clear();
+    if append_rows(session, rows.as_slice(), reply).is_err() {
+        refuse(Some(session), &Refusal::Memory, reply);
+    }
+}
+
+// Says what a SELECT answers.
+fn say_answer(session: u8, answer: &Result<Answer, EvalFault>, reply: &mut Reply)
+    ensures { (rows : List ShownRow) → IsAnswered row_limit rows answer.now
+        → (reply.new ≡ within_limit session rows (listed session (answer_line session) rows)) ⊎ (reply.new ≡ short_line session) }
+{
+    match answer {
+        Ok(rows) => say_rows(session, rows, reply),
+        Err(EvalFault::TooManyRows) => refuse(Some(session), &Refusal::TooManyRows, reply),
+        Err(EvalFault::Memory) => refuse(Some(session), &Refusal::Memory, reply),
+    }
+}
+
+// What follows where a question is not kept.
+fn say_unkept(session: u8, fault: KeeperFault, reply: &mut Reply) -> Result<(), EngineFault>
+    ensures said { IsUnkept fault session result reply.new }
+    ensures unwritten { result ≢ Bad WriteFailed }
+{
+    match fault {
+        KeeperFault::Failed => Err(EngineFault::Keeper),
+        KeeperFault::Memory => {
+            refuse(Some(session), &Refusal::Memory, reply);
+            Ok(())
+        }
+    }
+}
+
+// The reply to a SELECT.
+fn reply_rows(
+    session: u8,
+    kept: Result<Result<Answer, EvalFault>, KeeperFault>,
+    reply: &mut Reply,
+) -> Result<(), EngineFault>
+    ensures said { RepliesRows session kept result reply.new }
+    ensures unwritten { result ≢ Bad WriteFailed }
+{
+    match kept {
+        Ok(answer) => {
+            say_answer(session, &answer, reply);
+            drop(answer);
+            Ok(())
+        }
+        Err(fault) => say_unkept(session, fault, reply),
+    }
+}
+
+// Opens a cursor over rows, or says that they are too many, or that memory was short.
+fn open_answer(
+    session: u8,
+    cursor: u8,
+    answer: Result<Answer, EvalFault>,
+    world: &mut World,
+    reply: &mut Reply,
+)
+    ensures { (rows : List ShownRow) → IsAnswered row_limit rows answer
+        → IsOpened session cursor rows reply.new (world_of world.old) (world_of world.new)
+        ⊎ IsShort session reply.new (world_of world.old) (world_of world.new) }
+{
+    match answer {
+        Ok(rows) => {
+            say_number(session, "cursor", u64::from(cursor), reply);
+            world.open_cursor(session, cursor, rows);
+        }
+        Err(EvalFault::TooManyRows) => refuse(Some(session), &Refusal::TooManyRows, reply),
+        Err(EvalFault::Memory) => refuse(Some(session), &Refusal::Memory, reply),
+    }
+}
+
+// The reply to an OPEN.
+fn reply_cursor(
+    session: u8,
+    cursor: u8,
+    kept: Result<Result<Answer, EvalFault>, KeeperFault>,
+    world: &mut World,
+    reply: &mut Reply,
+) -> Result<(), EngineFault>
+    ensures said { RepliesCursor session cursor kept result reply.new (world_of world.old) (world_of world.new) }
+    ensures unwritten { result ≢ Bad WriteFailed }
+{
+    match kept {
+        Ok(answer) => {
+            open_answer(session, cursor, answer, world, reply);
+            Ok(())
+        }
+        Err(fault) => say_unkept(session, fault, reply),
+    }
+}
+
+impl Engine {
+    /// Answers a plain SELECT of a session: the question is kept first, and then answered over the history before it.
+    /// Answers `Keeper` only where the keeper failed.
+    pub(crate) fn select<P: Keeper>(
+        &mut self,
+        alloc: Global,
+        keeper: &mut P,
+        session: u8,
+        select: &RawSelect,
+        start: usize,
+        end: usize,
+        text: &str,
+    ) -> Result<(), EngineFault>
+        requires sound { IsSound self.old.state }
+        requires ready { IsReady true (P.state keeper.old) }
+        requires told { (P.state keeper.old).tells → HasLoaded self.old.state (P.state keeper.old).kept }
+        requires read { statement_in text.now ≡ Good (stmt.Select select.now start end) }
+        ensures carries { Carries (state session (stmt.Select select.now start end) text.now) result self.old self.new
+            (P.state keeper.old) (P.state keeper.new) }
+        ensures unwritten { result ≢ Bad WriteFailed }
+    {
+        match select_asks(alloc, &self.state, &self.world, session, select, text, start, end) {
+            Ok(asking) => {
+                let kept = keep_and_answer(alloc, keeper, &mut self.state, &self.world, &asking);
+                drop(asking);
+                reply_rows(session, kept, &mut self.reply)
+            }
+            Err(refusal) => {
+                refuse(Some(session), &refusal, &mut self.reply);
+                drop(refusal);
+                Ok(())
+            }
+        }
+    }
+
+    /// Opens a cursor over the answer of a plain OPEN of a session, which is kept and answered as a SELECT is. Answers
+    /// `Keeper` only where the keeper failed.
+    pub(crate) fn open<P: Keeper>(
+        &mut self,
+        alloc: Global,
+        keeper: &mut P,
+        session: u8,
+        select: &RawSelect,
+        start: usize,
+        end: usize,
+        text: &str,
+    ) -> Result<(), EngineFault>
+        requires sound { IsSound self.old.state }
+        requires ready { IsReady true (P.state keeper.old) }
+        requires told { (P.state keeper.old).tells → HasLoaded self.old.state (P.state keeper.old).kept }
+        requires read { statement_in text.now ≡ Good (stmt.Ask select.now start end) }
+        ensures carries { Carries (state session (stmt.Ask select.now start end) text.now) result self.old self.new
+            (P.state keeper.old) (P.state keeper.new) }
+        ensures unwritten { result ≢ Bad WriteFailed }
+    {
+        match open_asks(alloc, &self.state, &self.world, session, select, text, start, end) {
+            Ok(opening) => {
+                let Opening { asking, cursor } = opening;
+                let kept = keep_and_answer(alloc, keeper, &mut self.state, &self.world, &asking);
+                drop(asking);
+                reply_cursor(session, cursor, kept, &mut self.world, &mut self.reply)
+            }
+            Err(refusal) => {
+                refuse(Some(session), &refusal, &mut self.reply);
+                drop(refusal);
+                Ok(())
+            }
+        }
+    }
+}

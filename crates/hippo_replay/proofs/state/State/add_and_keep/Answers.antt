@@ -1,0 +1,23 @@
+-- The entry is taken in, and kept or taken back.
+use Rattle.hippo_replay.proofs.RecordingLemmas.{keepable_next, number_next, Records-kept, Records-short}
+use Rattle.hippo_replay.proofs.state.State.add_and_keep.Goals as goal
+
+pub keep_last-requires : goal.keep_last-requires
+keep_last-requires g c = record {
+  keepable = keepable_next c.args.entry.now c.args.self.now c.requires.sound c.in-Ok.ensures.follows;
+  ready = c.requires.ready;
+  number = c.requires.number;
+  next = number_next c.args.entry.now c.args.self.now (g.P.Keeper.state c.args.keeper.now) c.in-Ok.ensures.follows c.requires.told;
+}
+
+pub returns-in-Ok : goal.returns-in-Ok
+returns-in-Ok g c =
+    let before = g.P.Keeper.state c.args.keeper.now in
+    let after = g.P.Keeper.state c.keep_last.new.keeper in
+    record {
+      records = Records-kept c.args.entry.now c.keep_last.result c.args.self.now c.add_next.new.self c.keep_last.new.self before after (c.keep_last.ensures.keeps c.args.self.now c.in-Ok.ensures.follows)
+          (c.in-Ok.ensures.remembers c.requires.remembered) c.keep_last.ensures.ok c.keep_last.ensures.memory;
+    }
+
+pub returns-in-Err : goal.returns-in-Err
+returns-in-Err g c = record { records = Records-short c.args.entry.now c.args.self.now c.add_next.new.self (g.P.Keeper.state c.args.keeper.now) c.requires.ready c.in-Err.ensures.same }

@@ -1,0 +1,209 @@
+//! Recording: an entry is taken in to the state, and kept behind the others.
+ghost use Rattle.std.specs.Prelude.{◌≡◌, ◌^◌, ◌<◌, true, false, [], ◌∷◌, ◌++◌, OnOk, OnErr};
+ghost use Rattle.hippo_model.specs.Terms.{History};
+ghost use Rattle.hippo_model.specs.Keepable.{is_keepable};
+ghost use Rattle.hippo_model.specs.Validity.{may_follow};
+ghost use Rattle.hippo_tables.specs.Standing.{is_delete};
+ghost use Rattle.hippo_keeper.specs.Answering.{has_failed, wants_memory};
+ghost use Rattle.hippo_keeper.specs.Keeping.{IsReady, next_number};
+ghost use Rattle.hippo_typing.specs.Meanings.{meaning};
+ghost use Rattle.hippo_replay.specs.declared.state.State.{State as StateOf};
+ghost use Rattle.hippo_replay.specs.Standing.{StandsFor, IsSound, IsNext, takes_no_memory, Remembers};
+ghost use Rattle.hippo_replay.specs.TakingIn.{HasLoaded};
+ghost use Rattle.hippo_replay.specs.Recording.{Keeps, Records};
+
+use crate::state::State;
+use crate::taking_in::let_fall;
+use hippo_entry::{Keepable, encode};
+use hippo_keeper::{Keeper, KeeperFault};
+use hippo_model::{Act, Entry};
+use hippo_values::Memory;
+use std::alloc::Global;
+
+// Whether the state takes in an act without more memory.
+fn takes_no_memory(act: &Act) -> bool
+    ensures { result ≡ takes_no_memory act.now }
+{
+    match act {
+        Act::Delete { .. } => true,
+        Act::Asked { .. } => true,
+        _ => false,
+    }
+}
+
+// Keeps an entry in its stored form.
+fn append<P: Keeper>(alloc: Global, keeper: &mut P, entry: &Entry) -> Result<(), KeeperFault>
+    requires keepable { is_keepable entry.now ≡ true }
+    requires ready { IsReady true (P.state keeper.old) }
+    requires number { entry.now.seq < 2 ^ 63 }
+    requires next { (P.state keeper.old).tells → entry.now.seq ≡ next_number (P.state keeper.old).kept }
+    ensures keeps { (state : StateOf) → ((history : History) → StandsFor state history
+        → may_follow meaning history entry.now ≡ true)
+        → Keeps entry.now result state (P.state keeper.old) (P.state keeper.new) }
+{
+    match encode(alloc, entry) {
+        Ok(kept) => {
+            let result = keeper.append(alloc, &kept);
+            let_fall(kept);
+            result
+        }
+        Err(Memory) => Err(KeeperFault::Memory),
+    }
+}
+
+impl State {
+    // Ok where an entry can be kept and may come next; one that may not is answered by want of memory.
+    fn test_next(&self, alloc: Global, entry: &Entry) -> Result<(), Memory>
+        ensures { OnOk result ((history : History) → StandsFor self.now history
+            → may_follow meaning history entry.now ≡ true) }
+    {
+        if !entry.is_keepable() {
+            return Err(Memory);
+        }
+        match self.accepts(alloc, entry) {
+            Ok(true) => Ok(()),
+            Ok(false) => Err(Memory),
+            Err(Memory) => Err(Memory),
+        }
+    }
+
+    /// Keeps an entry behind the others. It is tested first, and handed to the keeper only where it can be kept and may come
+    /// next; one that may not is answered by `Memory`, as is want of memory, and the keeper then keeps what it kept.
+    /// `Failed` comes only where the keeper failed: the entry is then kept or not.
+    pub fn keep<P: Keeper>(
+        &self,
+        alloc: Global,
+        keeper: &mut P,
+        entry: &Entry,
+    ) -> Result<(), KeeperFault>
+        requires sound { IsSound self.now }
+        requires ready { IsReady true (P.state keeper.old) }
+        requires told { (P.state keeper.old).tells → HasLoaded self.now (P.state keeper.old).kept }
+        requires number { entry.now.seq < 2 ^ 63 }
+        ensures keeps { Keeps entry.now result self.now (P.state keeper.old) (P.state keeper.new) }
+    {
+        match self.test_next(alloc, entry) {
+            Ok(()) => append(alloc, keeper, entry),
+            Err(Memory) => Err(KeeperFault::Memory),
+        }
+    }
+
+    // Takes in the next entry, which takes no memory.
+    fn add_at_once(&mut self, alloc: Global, entry: &Entry)
+        requires next { IsNext self.old entry.now }
+        requires room { takes_no_memory entry.now.act ≡ true }
+        ensures stands { (history : History) → StandsFor self.old history → may_follow meaning history entry.now ≡ true
+            → StandsFor self.new (history ++ entry.now ∷ []) }
+    {
+        self.add(alloc, entry).unwrap();
+    }
+
+    // Keeps an entry that takes no memory, and then takes it in.
+    fn keep_and_add<P: Keeper>(
+        &mut self,
+        alloc: Global,
+        keeper: &mut P,
+        entry: &Entry,
+    ) -> Result<(), KeeperFault>
+        requires sound { IsSound self.old }
+        requires ready { IsReady true (P.state keeper.old) }
+        requires told { (P.state keeper.old).tells → HasLoaded self.old (P.state keeper.old).kept }
+        requires number { entry.now.seq < 2 ^ 63 }
+        requires room { takes_no_memory entry.now.act ≡ true }
+        ensures records { Records entry.now result self.old self.new (P.state keeper.old) (P.state keeper.new) }
+    {
+        match self.keep(alloc, keeper, entry) {
+            Ok(()) => {
+                self.add_at_once(alloc, entry);
+                Ok(())
+            }
+            Err(fault) => Err(fault),
+        }
+    }
+
+    // Takes in an entry that can be kept and may come next; one that may not is answered by want of memory.
+    fn add_next(&mut self, alloc: Global, entry: &Entry) -> Result<(), Memory>
+        requires sound { IsSound self.old }
+        ensures follows { OnOk result ((history : History) → StandsFor self.old history
+            → may_follow meaning history entry.now ≡ true) }
+        ensures remembers { OnOk result (is_delete entry.now.act ≡ false → (history : History)
+            → StandsFor self.old history → Remembers self.new history entry.now) }
+        ensures same { OnErr result ((history : History) → StandsFor self.old history → StandsFor self.new history) }
+    {
+        match self.test_next(alloc, entry) {
+            Ok(()) => self.add(alloc, entry),
+            Err(Memory) => Err(Memory),
+        }
+    }
+
+    // Keeps the entry that was taken in last, which is taken back where memory is short.
+    fn keep_last<P: Keeper>(
+        &mut self,
+        alloc: Global,
+        keeper: &mut P,
+        entry: &Entry,
+    ) -> Result<(), KeeperFault>
+        requires keepable { is_keepable entry.now ≡ true }
+        requires ready { IsReady true (P.state keeper.old) }
+        requires number { entry.now.seq < 2 ^ 63 }
+        requires next { (P.state keeper.old).tells → entry.now.seq ≡ next_number (P.state keeper.old).kept }
+        ensures keeps { (state : StateOf) → ((history : History) → StandsFor state history
+            → may_follow meaning history entry.now ≡ true)
+            → Keeps entry.now result state (P.state keeper.old) (P.state keeper.new) }
+        ensures ok { OnOk result (self.new ≡ self.old) }
+        ensures memory { wants_memory result ≡ true → (history : History) → Remembers self.old history entry.now
+            → StandsFor self.new history }
+    {
+        match append(alloc, keeper, entry) {
+            Ok(()) => Ok(()),
+            Err(KeeperFault::Failed) => Err(KeeperFault::Failed),
+            Err(KeeperFault::Memory) => {
+                self.take_back();
+                Err(KeeperFault::Memory)
+            }
+        }
+    }
+
+    // Takes in an entry that is no Delete, and then keeps it.
+    fn add_and_keep<P: Keeper>(
+        &mut self,
+        alloc: Global,
+        keeper: &mut P,
+        entry: &Entry,
+    ) -> Result<(), KeeperFault>
+        requires sound { IsSound self.old }
+        requires ready { IsReady true (P.state keeper.old) }
+        requires told { (P.state keeper.old).tells → HasLoaded self.old (P.state keeper.old).kept }
+        requires number { entry.now.seq < 2 ^ 63 }
+        requires remembered { is_delete entry.now.act ≡ false }
+        ensures records { Records entry.now result self.old self.new (P.state keeper.old) (P.state keeper.new) }
+    {
+        match self.add_next(alloc, entry) {
+            Ok(()) => self.keep_last(alloc, keeper, entry),
+            Err(Memory) => Err(KeeperFault::Memory),
+        }
+    }
+
+    /// Takes in the entry that comes next and keeps it. One that can not be kept or may not come next is answered by `Memory`,
+    /// as is want of memory: state and keeper then are what they were. After `Failed`, which comes only where the keeper
+    /// failed, the entry is kept or not, and the state is of no use.
+    pub fn record<P: Keeper>(
+        &mut self,
+        alloc: Global,
+        keeper: &mut P,
+        entry: &Entry,
+    ) -> Result<(), KeeperFault>
+        requires sound { IsSound self.old }
+        requires ready { IsReady true (P.state keeper.old) }
+        requires told { (P.state keeper.old).tells → HasLoaded self.old (P.state keeper.old).kept }
+        requires number { entry.now.seq < 2 ^ 63 }
+        ensures records { Records entry.now result self.old self.new (P.state keeper.old) (P.state keeper.new) }
+        ensures sound { has_failed result ≡ false → IsSound self.new }
+    {
+        if takes_no_memory(&entry.act) {
+            self.keep_and_add(alloc, keeper, entry)
+        } else {
+            self.add_and_keep(alloc, keeper, entry)
+        }
+    }
+}
