@@ -36,9 +36,11 @@ pub IsRun-append : (history : History) (world : World) (replied : List LineText)
 IsRun-append history world [] [] line effect run is = (subst (λ (h : History). IsEffect h world (command_of line) effect) (append-nil history) is, tt)
 IsRun-append history world [] (first ∷ effects) line effect run is = absurd run
 IsRun-append history world (text ∷ replied) [] line effect run is = absurd run
-IsRun-append history world (text ∷ replied) (first ∷ effects) line effect run is =
-    (run.0, IsRun-append (history ++ first.added) first.world replied effects line effect run.1
-    (subst (λ (h : History). IsEffect h (world_after first.world effects) (command_of line) effect) (sym (append_assoc history first.added (flat_map (λ (e : Effect). e.added) effects))) is))
+IsRun-append history world (text ∷ replied) (first ∷ effects) line effect run is = (
+  run.0,
+  IsRun-append (history ++ first.added) first.world replied effects line effect run.1
+      (subst (λ (h : History). IsEffect h (world_after first.world effects) (command_of line) effect) (sym (append_assoc history first.added (flat_map (λ (e : Effect). e.added) effects))) is),
+)
 
 pub history_after-append : (history : History) (effects : List Effect) (effect : Effect) → history_after history (effects ++ effect ∷ []) ≡ history_after history effects ++ effect.added
 history_after-append history effects effect =

@@ -57,7 +57,8 @@ pub record BeginsDamaged (finds : Survivors) (before after : Option Txt) (keeper
   pub written : AppendsFront before after (damaged_line place)
 
 -- how a run ends; unread and unwritten say that source and sink are as before
-abbrev pub RunEnds : Ending → Type 0 → Type 0 → Survivors → Option Txt → Option Txt → Option Txt → Option Txt → KeeperState → ℕ → ℕ → Type 0
+abbrev pub RunEnds : Ending → Type 0 → Type 0 → Survivors → Option Txt → Option Txt → Option Txt → Option Txt
+    → KeeperState → ℕ → ℕ → Type 0
 RunEnds Served unread unwritten finds left written left' written' keeper steps steps' =
     ServesAll finds left written left' written' keeper steps steps'
 RunEnds Refused unread unwritten finds left written left' written' keeper steps steps' = ⊥
@@ -66,7 +67,7 @@ RunEnds KeeperFault unread unwritten finds left written left' written' keeper st
     ⊎ ForRun finds left written (λ history input before. IsBrokenOff history input before left' written' keeper)
 RunEnds ReadFault unread unwritten finds left written left' written' keeper steps steps' =
     ForRun finds left written (λ history input before.
-    (taken : ℕ) × IsCutOff history input before left' written' keeper taken × (taken ≤ input_limit))
+    (taken : ℕ) × (taken ≤ input_limit) × IsCutOff history input before left' written' keeper taken)
 RunEnds WriteFault unread unwritten finds left written left' written' keeper steps steps' =
     (unread × BeginsDamaged finds written written' keeper)
     ⊎ ForRun finds left written (λ history input before. IsUnwritten history input before left' written' keeper)
@@ -75,12 +76,13 @@ RunEnds Damaged unread unwritten finds left written left' written' keeper steps 
 RunEnds NoMemory unread unwritten finds left written left' written' keeper steps steps' = IsIdle finds keeper
 RunEnds TooMuch unread unwritten finds left written left' written' keeper steps steps' =
     ForRun finds left written (λ history input before.
-    (taken : ℕ) × IsCutOff history input before left' written' keeper taken × (input_limit < taken))
+    (taken : ℕ) × (input_limit < taken) × IsCutOff history input before left' written' keeper taken)
 
 -- there was one step for each version in what is found, which is kept, and this holds of the number of its entries
 abbrev pub Counts : Survivors → KeeperState → ℕ → ℕ → (ℕ → Type 0) → Type 0
 Counts finds keeper steps_before steps holds =
-    FromFound finds (λ history. (steps ≡ steps_before + versions history) × KeepsHistory history keeper × holds (length history))
+    FromFound finds (λ history.
+    (steps ≡ steps_before + versions history) × KeepsHistory history keeper × holds (length history))
 
 -- how a check ends
 abbrev pub CheckEnds : Ending → Type 0 → Survivors → Option Txt → Option Txt → KeeperState → ℕ → ℕ → Type 0
@@ -96,9 +98,10 @@ CheckEnds Damaged unwritten finds written written' keeper steps steps' = SaysDam
 CheckEnds NoMemory unwritten finds written written' keeper steps steps' = unwritten × IsIdle finds keeper
 CheckEnds TooMuch unwritten finds written written' keeper steps steps' = ⊥
 
--- how the program ends where what is kept was not loaded: the keeper failed or memory was short, and nothing is written; or
--- the place of damage is said
+-- how the program ends where what is kept was not loaded: the keeper failed or memory was short, and nothing is
+-- written; or the place of damage is said
 abbrev pub Stops : LoadFault → Ending → Type 0 → Option Txt → Option Txt → ℕ → ℕ → Type 0
 Stops Keeper ending unwritten before after faults faults' = (ending ≡ KeeperFault) × unwritten × (faults' ≡ faults)
-Stops (DamagedAt place) ending unwritten before after faults faults' = Says Damaged (damaged_line place) ending before after faults faults'
+Stops (DamagedAt place) ending unwritten before after faults faults' =
+    Says Damaged (damaged_line place) ending before after faults faults'
 Stops Memory ending unwritten before after faults faults' = (ending ≡ NoMemory) × unwritten × (faults' ≡ faults)

@@ -34,7 +34,8 @@ abbrev pub opening_after : History → World
 opening_after history = opening (latest_moment history) entry_limit Text
 
 -- the input was read to its end, every line has its reply, and what the last one left is kept
-pub record IsServed (history : History) (input before : Txt) (rest output : Option Txt) (keeper : KeeperState) : Type 0 where
+pub record IsServed (history : History) (input before : Txt) (rest output : Option Txt)
+    (keeper : KeeperState) : Type 0 where
   pub effects : List Effect
   pub run : IsRun history (opening_after history) (lines input) effects
   pub written : output ≡ Some (before ++ replies effects)
@@ -44,7 +45,8 @@ pub record IsServed (history : History) (input before : Txt) (rest output : Opti
 
 -- so many bytes were taken, and just the lines whose line feeds are among them, up to the limit, have their replies;
 -- what the last one left is kept
-pub record IsCutOff (history : History) (input before : Txt) (rest output : Option Txt) (keeper : KeeperState) (taken : ℕ) : Type 0 where
+pub record IsCutOff (history : History) (input before : Txt) (rest output : Option Txt)
+    (keeper : KeeperState) (taken : ℕ) : Type 0 where
   pub effects : List Effect
   pub within : taken ≤ length input
   pub left : rest ≡ Some (drop taken input)
@@ -53,7 +55,8 @@ pub record IsCutOff (history : History) (input before : Txt) (rest output : Opti
   pub kept : KeepsHistory (history_after history effects) keeper
 
 -- the first lines have their replies, and then a front of the next line's reply is written; what that line left is kept
-pub record IsUnwritten (history : History) (input before : Txt) (rest output : Option Txt) (keeper : KeeperState) : Type 0 where
+pub record IsUnwritten (history : History) (input before : Txt) (rest output : Option Txt)
+    (keeper : KeeperState) : Type 0 where
   pub effects : List Effect
   pub last : Effect
   pub replied : List LineText
@@ -68,9 +71,16 @@ pub record IsUnwritten (history : History) (input before : Txt) (rest output : O
   pub limit : taken ≤ input_limit
   pub kept : KeepsHistory (history_after history (effects ++ last ∷ [])) keeper
 
--- the first lines have their replies, and nothing is written of the next one's; what they left is kept, or that with the
--- one entry that the rules add for the next line
-pub record IsBrokenOff (history : History) (input before : Txt) (rest output : Option Txt) (keeper : KeeperState) : Type 0 where
+-- what the rules add for a line behind some effects
+abbrev pub added_next : History → List Effect → LineText → History
+added_next history effects line =
+    let world : World = world_after (opening_after history) effects in
+    (effect_of (history_after history effects) world (command_of line)).added
+
+-- the first lines have their replies, and nothing is written of the next one's; what they left is kept, or that with
+-- the one entry that the rules add for the next line
+pub record IsBrokenOff (history : History) (input before : Txt) (rest output : Option Txt)
+    (keeper : KeeperState) : Type 0 where
   pub effects : List Effect
   pub replied : List LineText
   pub next : LineText
@@ -83,7 +93,7 @@ pub record IsBrokenOff (history : History) (input before : Txt) (rest output : O
   pub within : taken ≤ length input
   pub left : rest ≡ Some (drop taken input)
   pub limit : taken ≤ input_limit
-  pub adds : (effect_of (history_after history effects) (world_after (opening_after history) effects) (command_of next)).added ≡ entry ∷ []
+  pub adds : added_next history effects next ≡ entry ∷ []
   pub follows : may_follow meaning (history_after history effects) entry ≡ true
   pub kept : KeepsEither (history_after history effects) (history_after history effects ++ entry ∷ []) keeper
 
@@ -93,16 +103,17 @@ LinesEnd Served history input before left written keeper = IsServed history inpu
 LinesEnd Refused history input before left written keeper = ⊥
 LinesEnd KeeperFault history input before left written keeper = IsBrokenOff history input before left written keeper
 LinesEnd ReadFault history input before left written keeper =
-    (taken : ℕ) × IsCutOff history input before left written keeper taken × (taken ≤ input_limit)
+    (taken : ℕ) × (taken ≤ input_limit) × IsCutOff history input before left written keeper taken
 LinesEnd WriteFault history input before left written keeper = IsUnwritten history input before left written keeper
 LinesEnd Damaged history input before left written keeper = ⊥
 LinesEnd NoMemory history input before left written keeper = ⊥
 LinesEnd TooMuch history input before left written keeper =
-    (taken : ℕ) × IsCutOff history input before left written keeper taken × (input_limit < taken)
+    (taken : ℕ) × (input_limit < taken) × IsCutOff history input before left written keeper taken
 
 -- so far the lines that were handed out have their replies, and the engine is as the last one left it; where the keeper
 -- tells what it keeps, that is kept
-pub record HasServed (history : History) (input before : Txt) (reader : Position) (left : Option Txt) (engine : Engine) (keeper : KeeperState) (output : Option Txt) : Type 0 where
+pub record HasServed (history : History) (input before : Txt) (reader : Position) (left : Option Txt)
+    (engine : Engine) (keeper : KeeperState) (output : Option Txt) : Type 0 where
   pub handed : List LineText
   pub effects : List Effect
   pub handing : HasHandedOut input handed reader left
@@ -117,7 +128,8 @@ abbrev pub carried : Result (Unit {0}) EngineFault → Result (Unit {0}) EngineF
 carried result = result
 
 -- what a call with a line did: the line was carried out and replied to, or the keeper failed, or the sink did
-abbrev pub Turn : Option Ending → Command → Engine → Engine → KeeperState → KeeperState → Option Txt → Option Txt → Type 0
+abbrev pub Turn : Option Ending → Command → Engine → Engine → KeeperState → KeeperState → Option Txt → Option Txt
+    → Type 0
 Turn None command old new before after written_before written_after =
     Carries command (carried (Ok tt)) old new before after × Appends written_before written_after new.reply
 Turn (Some Served) command old new before after written_before written_after = ⊥

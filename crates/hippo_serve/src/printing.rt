@@ -14,7 +14,8 @@ const USAGE: &str = "usage: hippo run|check\n";
 // Writes words, a number and a line feed.
 fn write_numbered<K: Sink>(sink: &mut K, words: &str, number: u64) -> Result<(), Failed>
     ensures ok { OnOk result (Appends (K.written sink.old) (K.written sink.new) (numbered_line words.now number)) }
-    ensures failed { OnErr result (AppendsFront (K.written sink.old) (K.written sink.new) (numbered_line words.now number)) }
+    ensures failed { OnErr result
+        (AppendsFront (K.written sink.old) (K.written sink.new) (numbered_line words.now number)) }
     ensures cause { OnErr result (HasRisen (K.faults sink.old) (K.faults sink.new)) }
     ensures unfailed { OnOk result (K.faults sink.new ≡ K.faults sink.old) }
 {
@@ -26,7 +27,8 @@ fn write_numbered<K: Sink>(sink: &mut K, words: &str, number: u64) -> Result<(),
 /// Writes the usage line.
 #[tactic(auto, unfolding(crate::specs::Saying::usage))]
 pub fn refuse<K: Sink>(sink: &mut K) -> Ending
-    ensures says { Says Refused usage result (K.written sink.old) (K.written sink.new) (K.faults sink.old) (K.faults sink.new) }
+    ensures says { Says Refused usage result
+        (K.written sink.old) (K.written sink.new) (K.faults sink.old) (K.faults sink.new) }
 {
     match write_whole(sink, USAGE.as_bytes()) {
         Ok(()) => Ending::Refused,

@@ -73,16 +73,19 @@ fn serve_line<S: Source, K: Sink, P: Keeper>(
     requires ready { IsReady true (P.state keeper.old) }
     requires told { (P.state keeper.old).tells → HasLoaded engine.old.state (P.state keeper.old).kept }
     ensures status { (result ≢ Some Refused) × (result ≢ Some Damaged) × (result ≢ Some NoMemory) }
-    ensures goes_on { IfNone result ((reader.new.failure ≡ None) × (consumed reader.old < consumed reader.new) × (reader.new.taken ≤ input_limit)) }
+    ensures goes_on { IfNone result ((reader.new.failure ≡ None)
+        × (consumed reader.old < consumed reader.new) × (reader.new.taken ≤ input_limit)) }
     ensures sound { IfNone result (IsSound engine.new.state) }
     ensures told { IfNone result ((P.state keeper.new).tells → HasLoaded engine.new.state (P.state keeper.new).kept) }
     ensures call { IsAfterCall true false (as_line_call result) (P.state keeper.old) (P.state keeper.new) }
     ensures served { (history : History) (input before : List ℕ) →
-        HasServed history input before reader.old (S.left source.old) engine.old (P.state keeper.old) (K.written sink.old) →
+        HasServed history input before reader.old (S.left source.old) engine.old (P.state keeper.old)
+        (K.written sink.old) →
         MatchOption result
-        (HasServed history input before reader.new (S.left source.new) engine.new (P.state keeper.new) (K.written sink.new))
+        (HasServed history input before reader.new (S.left source.new) engine.new (P.state keeper.new)
+        (K.written sink.new))
         (λ ending. (P.state keeper.new).tells →
-            LinesEnd ending history input before (S.left source.new) (K.written sink.new) (P.state keeper.new)) }
+        LinesEnd ending history input before (S.left source.new) (K.written sink.new) (P.state keeper.new)) }
     ensures read_fault { result ≡ Some ReadFault → HasRisen (S.faults source.old) (S.faults source.new) }
     ensures write_fault { result ≡ Some WriteFault → HasRisen (K.faults sink.old) (K.faults sink.new) }
     ensures unfailed_read { result ≢ Some ReadFault → S.faults source.new ≡ S.faults source.old }
@@ -114,7 +117,7 @@ fn serve_lines<S: Source, K: Sink, P: Keeper>(
     ensures ends { (P.state keeper.new).tells → (history : History) → StandsFor engine.old.state history →
         world_of engine.old.world ≡ opening_after history → KeepsHistory history (P.state keeper.old) →
         ForTold (S.left source.old) (K.written sink.old) (λ input before.
-            LinesEnd result history input before (S.left source.new) (K.written sink.new) (P.state keeper.new)) }
+        LinesEnd result history input before (S.left source.new) (K.written sink.new) (P.state keeper.new)) }
     ensures read_fault { result ≡ ReadFault → HasRisen (S.faults source.old) (S.faults source.new) }
     ensures write_fault { result ≡ WriteFault → HasRisen (K.faults sink.old) (K.faults sink.new) }
     ensures unfailed_read { result ≢ ReadFault → S.faults source.new ≡ S.faults source.old }
@@ -148,10 +151,11 @@ pub fn serve<S: Source, K: Sink, P: Keeper>(
     requires told { (P.state keeper.old).tells → HasLoaded state (P.state keeper.old).kept }
     ensures status { (result ≢ Refused) × (result ≢ Damaged) }
     ensures call { IsAfterCall true false (as_call result) (P.state keeper.old) (P.state keeper.new) }
-    ensures nothing { result ≡ NoMemory → (source.new ≡ source.old) × (keeper.new ≡ keeper.old) × (sink.new ≡ sink.old) }
+    ensures nothing { result ≡ NoMemory →
+        (source.new ≡ source.old) × (keeper.new ≡ keeper.old) × (sink.new ≡ sink.old) }
     ensures ends { result ≢ NoMemory → (P.state keeper.new).tells → (history : History) → StandsFor state history →
         KeepsHistory history (P.state keeper.old) → ForTold (S.left source.old) (K.written sink.old) (λ input before.
-            LinesEnd result history input before (S.left source.new) (K.written sink.new) (P.state keeper.new)) }
+        LinesEnd result history input before (S.left source.new) (K.written sink.new) (P.state keeper.new)) }
     ensures read_fault { result ≡ ReadFault → HasRisen (S.faults source.old) (S.faults source.new) }
     ensures write_fault { result ≡ WriteFault → HasRisen (K.faults sink.old) (K.faults sink.new) }
     ensures unfailed_read { result ≢ ReadFault → S.faults source.new ≡ S.faults source.old }

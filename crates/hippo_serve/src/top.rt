@@ -4,7 +4,6 @@ ghost use Rattle.hippo_io.specs.Faults.{HasRisen};
 ghost use Rattle.hippo_io.specs.HandingOut.{input_limit};
 ghost use Rattle.hippo_io.specs.Told.{Appends, AppendsFront};
 ghost use Rattle.hippo_keeper.specs.Keeping.{IsReady, IsAfterCall};
-ghost use Rattle.hippo_replay.specs.Loading.{KeepsFound};
 ghost use Rattle.hippo_serve.specs.declared.endings.Ending.TheVariants.{Served, Refused, ReadFault, WriteFault, Damaged, NoMemory, TooMuch};
 ghost use Rattle.hippo_serve.specs.declared.jobs.Job.TheVariants.{Run, Check};
 ghost use Rattle.hippo_serve.specs.Endings.{as_call};
@@ -27,7 +26,8 @@ use std::sync::ledger::Ledger;
 
 // How the program ends where what is kept was not loaded.
 fn stop<K: Sink>(fault: LoadFault, sink: &mut K) -> Ending
-    ensures stops { Stops fault result (sink.new ≡ sink.old) (K.written sink.old) (K.written sink.new) (K.faults sink.old) (K.faults sink.new) }
+    ensures stops { Stops fault result (sink.new ≡ sink.old)
+        (K.written sink.old) (K.written sink.new) (K.faults sink.old) (K.faults sink.new) }
 {
     match fault {
         LoadFault::Keeper => Ending::KeeperFault,
@@ -55,7 +55,8 @@ fn run<S: Source, K: Sink, P: Keeper, L: Ledger>(
 ) -> Ending
     requires ready { IsReady false (P.state keeper.old) }
     ensures status { result ≢ Refused }
-    ensures call { IsAfterCall (P.state keeper.new).started (P.state keeper.new).closed (as_call result) (P.state keeper.old) (P.state keeper.new) }
+    ensures call { IsAfterCall (P.state keeper.new).started (P.state keeper.new).closed (as_call result)
+        (P.state keeper.old) (P.state keeper.new) }
     ensures ends { (P.state keeper.new).tells → RunEnds result (source.new ≡ source.old) (sink.new ≡ sink.old)
         ((P.state keeper.old).finds []) (S.left source.old) (K.written sink.old)
         (S.left source.new) (K.written sink.new) (P.state keeper.new) steps.old steps.new }
@@ -81,7 +82,8 @@ fn check<K: Sink, P: Keeper, L: Ledger>(
 ) -> Ending
     requires ready { IsReady false (P.state keeper.old) }
     ensures status { (result ≢ Refused) × (result ≢ ReadFault) × (result ≢ TooMuch) }
-    ensures call { IsAfterCall (P.state keeper.new).started (P.state keeper.new).closed (as_call result) (P.state keeper.old) (P.state keeper.new) }
+    ensures call { IsAfterCall (P.state keeper.new).started (P.state keeper.new).closed (as_call result)
+        (P.state keeper.old) (P.state keeper.new) }
     ensures ends { (P.state keeper.new).tells → CheckEnds result (sink.new ≡ sink.old) ((P.state keeper.old).finds [])
         (K.written sink.old) (K.written sink.new) (P.state keeper.new) steps.old steps.new }
     ensures idle { (P.state keeper.new).tells → IsIdle ((P.state keeper.old).finds []) (P.state keeper.new) }
@@ -100,7 +102,8 @@ fn check<K: Sink, P: Keeper, L: Ledger>(
 ///
 /// - 0: for `run` the input was read to its end, and every line has its reply; for `check` the line `entries N` is
 ///   written, with N the number of kept entries.
-/// - 2: exactly where the words are neither the one word `run` nor `check`; the usage line is written, and nothing is read.
+/// - 2: exactly where the words are neither the one word `run` nor `check`; the usage line is written, and nothing is
+///   read.
 /// - 3: the keeper failed; the lines before have their replies, and the next one's entry is kept or not.
 /// - 4: the source failed; just the lines that were read whole have their replies.
 /// - 5: the sink failed; what was written is a front of what was to be written.
@@ -120,29 +123,36 @@ pub fn hippo_top<S: Source, K: Sink, P: Keeper, L: Ledger>(
     ensures status { Any (λ status. result ≡ status) (0 ∷ 2 ∷ 3 ∷ 4 ∷ 5 ∷ 6 ∷ 7 ∷ 8 ∷ []) }
 
     // Words that are not those of a job are refused, and nothing is read or kept.
-    ensures refused { job_of words.now ≡ None → ((result ≡ 2) ⊎ (result ≡ 5)) × (source.new ≡ source.old) × (keeper.new ≡ keeper.old) × (steps.new ≡ steps.old) }
+    ensures refused { job_of words.now ≡ None → ((result ≡ 2) ⊎ (result ≡ 5))
+        × (source.new ≡ source.old) × (keeper.new ≡ keeper.old) × (steps.new ≡ steps.old) }
     ensures accepted { job_of words.now ≢ None → result ≢ 2 }
     ensures usage { result ≡ 2 → Appends (K.written sink.old) (K.written sink.new) usage }
-    ensures usage_cut { job_of words.now ≡ None → result ≡ 5 → AppendsFront (K.written sink.old) (K.written sink.new) usage }
+    ensures usage_cut { job_of words.now ≡ None → result ≡ 5 →
+        AppendsFront (K.written sink.old) (K.written sink.new) usage }
 
     // A run over what a start may find, where the keeper tells, and over an input and an output that are told.
     ensures served { job_of words.now ≡ Some Run → result ≡ 0 → (P.state keeper.new).tells →
         ServesAll ((P.state keeper.old).finds []) (S.left source.old) (K.written sink.old)
         (S.left source.new) (K.written sink.new) (P.state keeper.new) steps.old steps.new }
-    ensures kept_cut { job_of words.now ≡ Some Run → result ≡ 3 → (P.state keeper.new).tells →
-        ((source.new ≡ source.old) × (sink.new ≡ sink.old) × IsIdle ((P.state keeper.old).finds []) (P.state keeper.new))
+    ensures keeper_cut { job_of words.now ≡ Some Run → result ≡ 3 → (P.state keeper.new).tells →
+        ((source.new ≡ source.old) × (sink.new ≡ sink.old)
+        × IsIdle ((P.state keeper.old).finds []) (P.state keeper.new))
         ⊎ ForRun ((P.state keeper.old).finds []) (S.left source.old) (K.written sink.old) (λ history input before.
-            IsBrokenOff history input before (S.left source.new) (K.written sink.new) (P.state keeper.new)) }
+        IsBrokenOff history input before (S.left source.new) (K.written sink.new) (P.state keeper.new)) }
     ensures read_cut { result ≡ 4 → (P.state keeper.new).tells →
         ForRun ((P.state keeper.old).finds []) (S.left source.old) (K.written sink.old) (λ history input before.
-            (taken : ℕ) × IsCutOff history input before (S.left source.new) (K.written sink.new) (P.state keeper.new) taken × (taken ≤ input_limit)) }
+        (taken : ℕ) × (taken ≤ input_limit)
+        × IsCutOff history input before (S.left source.new) (K.written sink.new) (P.state keeper.new) taken) }
     ensures write_cut { job_of words.now ≡ Some Run → result ≡ 5 → (P.state keeper.new).tells →
-        ((source.new ≡ source.old) × BeginsDamaged ((P.state keeper.old).finds []) (K.written sink.old) (K.written sink.new) (P.state keeper.new))
+        ((source.new ≡ source.old)
+        × BeginsDamaged ((P.state keeper.old).finds []) (K.written sink.old) (K.written sink.new)
+        (P.state keeper.new))
         ⊎ ForRun ((P.state keeper.old).finds []) (S.left source.old) (K.written sink.old) (λ history input before.
-            IsUnwritten history input before (S.left source.new) (K.written sink.new) (P.state keeper.new)) }
+        IsUnwritten history input before (S.left source.new) (K.written sink.new) (P.state keeper.new)) }
     ensures too_much { result ≡ 8 → (P.state keeper.new).tells →
         ForRun ((P.state keeper.old).finds []) (S.left source.old) (K.written sink.old) (λ history input before.
-            (taken : ℕ) × IsCutOff history input before (S.left source.new) (K.written sink.new) (P.state keeper.new) taken × (input_limit < taken)) }
+        (taken : ℕ) × (input_limit < taken)
+        × IsCutOff history input before (S.left source.new) (K.written sink.new) (P.state keeper.new) taken) }
 
     // A check reads nothing and keeps what it finds.
     ensures counted { job_of words.now ≡ Some Check → result ≡ 0 → (P.state keeper.new).tells →
@@ -151,9 +161,11 @@ pub fn hippo_top<S: Source, K: Sink, P: Keeper, L: Ledger>(
     ensures count_cut { job_of words.now ≡ Some Check → result ≡ 5 → (P.state keeper.new).tells →
         BeginsDamaged ((P.state keeper.old).finds []) (K.written sink.old) (K.written sink.new) (P.state keeper.new)
         ⊎ Counts ((P.state keeper.old).finds []) (P.state keeper.new) steps.old steps.new
-            (λ count. AppendsFront (K.written sink.old) (K.written sink.new) (entries_line count)) }
-    ensures uncounted { job_of words.now ≡ Some Check → result ≡ 3 → (P.state keeper.new).tells → sink.new ≡ sink.old }
-    ensures same { job_of words.now ≡ Some Check → (P.state keeper.new).tells → IsIdle ((P.state keeper.old).finds []) (P.state keeper.new) }
+        (λ count. AppendsFront (K.written sink.old) (K.written sink.new) (entries_line count)) }
+    ensures uncounted { job_of words.now ≡ Some Check → result ≡ 3 → (P.state keeper.new).tells →
+        sink.new ≡ sink.old }
+    ensures same { job_of words.now ≡ Some Check → (P.state keeper.new).tells →
+        IsIdle ((P.state keeper.old).finds []) (P.state keeper.new) }
     ensures unread { job_of words.now ≡ Some Check → source.new ≡ source.old }
 
     // Either finds damage, or no memory, before it reads.
@@ -163,10 +175,12 @@ pub fn hippo_top<S: Source, K: Sink, P: Keeper, L: Ledger>(
         × ((P.state keeper.new).tells → IsIdle ((P.state keeper.old).finds []) (P.state keeper.new)) }
 
     // A fault comes where its object's count rose, and only there.
-    ensures kept_fault { result ≡ 3 → HasRisen (P.state keeper.old).faults (P.state keeper.new).faults × ((P.state keeper.new).spent ≡ true) }
+    ensures keeper_fault { result ≡ 3 → HasRisen (P.state keeper.old).faults (P.state keeper.new).faults
+        × ((P.state keeper.new).spent ≡ true) }
     ensures read_fault { result ≡ 4 → HasRisen (S.faults source.old) (S.faults source.new) }
     ensures write_fault { result ≡ 5 → HasRisen (K.faults sink.old) (K.faults sink.new) }
-    ensures unfailed_keeper { result ≢ 3 → ((P.state keeper.new).faults ≡ (P.state keeper.old).faults) × ((P.state keeper.new).spent ≡ false) }
+    ensures unfailed_keeper { result ≢ 3 → ((P.state keeper.new).faults ≡ (P.state keeper.old).faults)
+        × ((P.state keeper.new).spent ≡ false) }
     ensures unfailed_read { result ≢ 4 → S.faults source.new ≡ S.faults source.old }
     ensures unfailed_write { result ≢ 5 → K.faults sink.new ≡ K.faults sink.old }
 {
