@@ -1,9 +1,6 @@
-mod CutLemmas
-mod ColumnLemmas
-pub mod ListLemmas
-mod EntryLemmas
-mod ClinicLemmas
-mod ViewLemmas
-mod EffectLemmas
-mod RunLemmas
+mod WriteLemmas
 mod StatusLemmas
+mod KeptLemmas
+mod RunLemmas
+mod TurnLemmas
+mod OutcomeLemmas

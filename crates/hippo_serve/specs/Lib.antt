@@ -1,10 +1,6 @@
-pub mod Cuts
-pub mod World
-pub mod Pushes
-pub mod Forms
-pub mod Requests
-pub mod Replies
-pub mod ReplyTexts
-pub mod Clinics
-pub mod Turns
+pub mod Endings
+pub mod Jobs
+pub mod Saying
+pub mod Keeping
 pub mod Runs
+pub mod Outcomes

@@ -1,59 +1,62 @@
--- A run: the lines of an input, each with its effect, one after the other.
-use Rattle.std.specs.Prelude.{◌≡◌, ℕ, ◌<◌, ◌≤◌, min, Bool, List, [], ◌∷◌, ◌++◌, length, take, drop, flat_map, Option, Some, codes, bytes_eq}
-use Rattle.std.specs.Cmp.Lexicographic.{pointwise}
+-- A run over the lines of an input, from a history on, and how it ends.
+use Rattle.std.specs.Prelude.{◌≡◌, ℕ, ◌<◌, ◌≤◌, min, true, List, [], ◌∷◌, ◌++◌, length, take, drop, Option, Some, None, Result, Ok, Err}
+use Rattle.hippo_values.specs.Texts.{Txt}
 use Rattle.hippo_io.specs.Lines.{LineText, lines}
 use Rattle.hippo_io.specs.HandingOut.{input_limit, whole_lines, HasHandedOut}
 use Rattle.hippo_io.specs.Position.{Position}
+use Rattle.hippo_io.specs.Told.{Appends, AppendsFront}
 use Rattle.hippo_model.specs.declared.entry.Entry.{Entry}
-use Rattle.hippo_serve.specs.declared.top.Ending.{Ending}
-use Rattle.hippo_serve.specs.declared.top.Ending.TheVariants.{Served, Refused, ReadFault, WriteFault, NoMemory, TooMuch}
-use Rattle.hippo_serve.specs.Replies.{Effect}
-use Rattle.hippo_serve.specs.Turns.{IsLineEffect}
+use Rattle.hippo_model.specs.Terms.{History}
+use Rattle.hippo_model.specs.Validity.{may_follow}
+use Rattle.hippo_keeper.specs.Keeping.{KeeperState}
+use Rattle.hippo_typing.specs.Meanings.{meaning}
+use Rattle.hippo_report.specs.declared.format.Format.TheVariants.{Text}
+use Rattle.hippo_replay.specs.Standing.{StandsFor, latest_moment}
+use Rattle.hippo_world.specs.Worlds.{World, opening}
+use Rattle.hippo_world.specs.Holding.{world_of}
+use Rattle.hippo_commands.specs.Commands.{Command, command_of}
+use Rattle.hippo_engine.specs.declared.engine.Engine.{Engine}
+use Rattle.hippo_engine.specs.declared.faults.EngineFault.{EngineFault}
+use Rattle.hippo_engine.specs.declared.faults.EngineFault.TheVariants.{Keeper, Write}
+use Rattle.hippo_engine.specs.Carrying.{Carries}
+use Rattle.hippo_engine.specs.Effects.{Effect, effect_of}
+use Rattle.hippo_engine.specs.Runs.{IsRun, replies, history_after, world_after}
+use Rattle.hippo_serve.specs.declared.endings.Ending.{Ending}
+use Rattle.hippo_serve.specs.declared.endings.Ending.TheVariants.{Served, Refused, KeeperFault, ReadFault, WriteFault, Damaged, NoMemory, TooMuch}
+use Rattle.hippo_serve.specs.Keeping.{KeepsHistory, KeepsEither}
 
--- each line has its effect on the history that the line before it left
-abbrev pub IsRun : List Entry → List LineText → List Effect → Type 0
-IsRun history [] [] = Unit {0}
-IsRun history (line ∷ lines) (effect ∷ effects) = IsLineEffect history line effect × IsRun effect.after lines effects
-IsRun history [] (effect ∷ effects) = ⊥
-IsRun history (line ∷ lines) [] = ⊥
+-- how many entries a history may have
+abbrev pub entry_limit : ℕ
+entry_limit = 4000000
 
--- the replies, one after the other
-abbrev pub replies : List Effect → List ℕ
-replies effects = flat_map (λ effect. effect.reply) effects
+-- the world in which a run over a history begins
+abbrev pub opening_after : History → World
+opening_after history = opening (latest_moment history) entry_limit Text
 
--- the history after the last effect
-abbrev pub history_after : List Entry → List Effect → List Entry
-history_after history [] = history
-history_after history (effect ∷ effects) = history_after effect.after effects
-
--- the words of the one command
-abbrev pub is_run : List (List ℕ) → Bool
-is_run words = pointwise bytes_eq words (codes "run" ∷ [])
-
-unfoldable pub usage : List ℕ
-usage =
-    codes "usage: hippo run|check|drill [--store NAME] [--history N] [--size N] [--number N] [--format text|json|csv]\n"
-
--- how a run ends, between what is left of an input and what a sink has written, before the run and after it:
-
--- the input was read to its end, and every line has its reply
-pub record IsServed (input before : List ℕ) (rest output : Option (List ℕ)) : Type 0 where
+-- the input was read to its end, every line has its reply, and what the last one left is kept
+pub record IsServed (history : History) (input before : Txt) (rest output : Option Txt)
+    (keeper : KeeperState) : Type 0 where
   pub effects : List Effect
-  pub run : IsRun [] (lines input) effects
+  pub run : IsRun history (opening_after history) (lines input) effects
   pub written : output ≡ Some (before ++ replies effects)
   pub left : rest ≡ Some []
   pub limit : length input ≤ input_limit
+  pub kept : KeepsHistory (history_after history effects) keeper
 
--- so many bytes were taken, and just the lines whose line feeds are among them, up to the limit, have their replies
-pub record IsCutOff (input before : List ℕ) (rest output : Option (List ℕ)) (taken : ℕ) : Type 0 where
+-- so many bytes were taken, and just the lines whose line feeds are among them, up to the limit, have their replies;
+-- what the last one left is kept
+pub record IsCutOff (history : History) (input before : Txt) (rest output : Option Txt)
+    (keeper : KeeperState) (taken : ℕ) : Type 0 where
   pub effects : List Effect
   pub within : taken ≤ length input
   pub left : rest ≡ Some (drop taken input)
-  pub run : IsRun [] (whole_lines input (min taken input_limit)) effects
+  pub run : IsRun history (opening_after history) (whole_lines input (min taken input_limit)) effects
   pub written : output ≡ Some (before ++ replies effects)
+  pub kept : KeepsHistory (history_after history effects) keeper
 
--- the first lines have their replies, and then a front of the next line's reply is written
-pub record IsUnwritten (input before : List ℕ) (rest output : Option (List ℕ)) : Type 0 where
+-- the first lines have their replies, and then a front of the next line's reply is written; what that line left is kept
+pub record IsUnwritten (history : History) (input before : Txt) (rest output : Option Txt)
+    (keeper : KeeperState) : Type 0 where
   pub effects : List Effect
   pub last : Effect
   pub replied : List LineText
@@ -61,38 +64,81 @@ pub record IsUnwritten (input before : List ℕ) (rest output : Option (List ℕ
   pub front : ℕ
   pub taken : ℕ
   pub order : lines input ≡ replied ++ others
-  pub run : IsRun [] replied (effects ++ last ∷ [])
+  pub run : IsRun history (opening_after history) replied (effects ++ last ∷ [])
   pub written : output ≡ Some (before ++ replies effects ++ take front last.reply)
   pub within : taken ≤ length input
   pub left : rest ≡ Some (drop taken input)
   pub limit : taken ≤ input_limit
+  pub kept : KeepsHistory (history_after history (effects ++ last ∷ [])) keeper
 
-abbrev pub Ends : Ending → List ℕ → List ℕ → Option (List ℕ) → Option (List ℕ) → Type 0
-Ends Served input before left written = IsServed input before left written
-Ends ReadFault input before left written =
-    (taken : ℕ) × IsCutOff input before left written taken × (taken ≤ input_limit)
-Ends TooMuch input before left written = (taken : ℕ) × IsCutOff input before left written taken × (input_limit < taken)
-Ends WriteFault input before left written = IsUnwritten input before left written
-Ends Refused input before left written = ⊥
-Ends NoMemory input before left written = ⊥
+-- what the rules add for a line behind some effects
+abbrev pub added_next : History → List Effect → LineText → History
+added_next history effects line =
+    let world : World = world_after (opening_after history) effects in
+    (effect_of (history_after history effects) world (command_of line)).added
 
--- so far the lines that were handed out have their replies
-pub record HasServed (input before : List ℕ) (reader : Position) (left : Option (List ℕ)) (entries : List Entry) (output : Option (List ℕ)) : Type 0 where
+-- the first lines have their replies, and nothing is written of the next one's; what they left is kept, or that with
+-- the one entry that the rules add for the next line
+pub record IsBrokenOff (history : History) (input before : Txt) (rest output : Option Txt)
+    (keeper : KeeperState) : Type 0 where
+  pub effects : List Effect
+  pub replied : List LineText
+  pub next : LineText
+  pub others : List LineText
+  pub entry : Entry
+  pub taken : ℕ
+  pub order : lines input ≡ replied ++ next ∷ others
+  pub run : IsRun history (opening_after history) replied effects
+  pub written : output ≡ Some (before ++ replies effects)
+  pub within : taken ≤ length input
+  pub left : rest ≡ Some (drop taken input)
+  pub limit : taken ≤ input_limit
+  pub adds : added_next history effects next ≡ entry ∷ []
+  pub follows : may_follow meaning (history_after history effects) entry ≡ true
+  pub kept : KeepsEither (history_after history effects) (history_after history effects ++ entry ∷ []) keeper
+
+-- how a run over lines ends, between what is left of an input and what a sink has written
+abbrev pub LinesEnd : Ending → History → Txt → Txt → Option Txt → Option Txt → KeeperState → Type 0
+LinesEnd Served history input before left written keeper = IsServed history input before left written keeper
+LinesEnd Refused history input before left written keeper = ⊥
+LinesEnd KeeperFault history input before left written keeper = IsBrokenOff history input before left written keeper
+LinesEnd ReadFault history input before left written keeper =
+    (taken : ℕ) × (taken ≤ input_limit) × IsCutOff history input before left written keeper taken
+LinesEnd WriteFault history input before left written keeper = IsUnwritten history input before left written keeper
+LinesEnd Damaged history input before left written keeper = ⊥
+LinesEnd NoMemory history input before left written keeper = ⊥
+LinesEnd TooMuch history input before left written keeper =
+    (taken : ℕ) × (input_limit < taken) × IsCutOff history input before left written keeper taken
+
+-- so far the lines that were handed out have their replies, and the engine is as the last one left it; where the keeper
+-- tells what it keeps, that is kept
+pub record HasServed (history : History) (input before : Txt) (reader : Position) (left : Option Txt)
+    (engine : Engine) (keeper : KeeperState) (output : Option Txt) : Type 0 where
   pub handed : List LineText
   pub effects : List Effect
   pub handing : HasHandedOut input handed reader left
-  pub run : IsRun [] handed effects
-  pub history : entries ≡ history_after [] effects
+  pub run : IsRun history (opening_after history) handed effects
+  pub stands : StandsFor engine.state (history_after history effects)
+  pub world : world_of engine.world ≡ world_after (opening_after history) effects
   pub written : output ≡ Some (before ++ replies effects)
+  pub kept : keeper.tells → KeepsHistory (history_after history effects) keeper
 
--- what holds of whatever input and output are told
-abbrev pub ForTold : Option (List ℕ) → Option (List ℕ) → (List ℕ → List ℕ → Type 0) → Type 0
-ForTold left written holds = (input before : List ℕ) → left ≡ Some input → written ≡ Some before → holds input before
+-- what a line's call answered
+abbrev pub carried : Result (Unit {0}) EngineFault → Result (Unit {0}) EngineFault
+carried result = result
 
-abbrev pub status_of : Ending → ℕ
-status_of Served = 0
-status_of Refused = 2
-status_of ReadFault = 4
-status_of WriteFault = 5
-status_of NoMemory = 7
-status_of TooMuch = 8
+-- what a call with a line did: the line was carried out and replied to, or the keeper failed, or the sink did
+abbrev pub Turn : Option Ending → Command → Engine → Engine → KeeperState → KeeperState → Option Txt → Option Txt
+    → Type 0
+Turn None command old new before after written_before written_after =
+    Carries command (carried (Ok tt)) old new before after × Appends written_before written_after new.reply
+Turn (Some Served) command old new before after written_before written_after = ⊥
+Turn (Some Refused) command old new before after written_before written_after = ⊥
+Turn (Some KeeperFault) command old new before after written_before written_after =
+    Carries command (carried (Err Keeper)) old new before after × (written_after ≡ written_before)
+Turn (Some ReadFault) command old new before after written_before written_after = ⊥
+Turn (Some WriteFault) command old new before after written_before written_after =
+    Carries command (carried (Err Write)) old new before after × AppendsFront written_before written_after new.reply
+Turn (Some Damaged) command old new before after written_before written_after = ⊥
+Turn (Some NoMemory) command old new before after written_before written_after = ⊥
+Turn (Some TooMuch) command old new before after written_before written_after = ⊥

@@ -1,15 +1,12 @@
 //! The database as a service of lines: each line of the input has its reply before the next is read.
 #![tactic(auto)]
 
-mod clinic;
-mod columns;
-mod cuts;
-mod entries;
+mod endings;
+mod jobs;
 mod printing;
-mod replies;
-mod requests;
+mod serving;
 mod top;
-mod turns;
-mod world;
 
-pub use top::{Ending, hippo_top};
+pub use endings::Ending;
+pub use jobs::Job;
+pub use top::hippo_top;

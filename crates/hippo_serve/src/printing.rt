@@ -1,127 +1,59 @@
-//! Replies, byte for byte.
-ghost use Rattle.std.specs.Prelude.{◌≡◌, ◌+◌, ◌∷◌, [], ◌++◌, ◌<◌, length, map, flat_map, decimal, codes, All, OnOk};
-ghost use Rattle.hippo_model.specs.declared.cells.Cell.TheVariants.{Shown, Denied};
-ghost use Rattle.hippo_serve.specs.Replies.{cell_text, cells_text, later_cells, row_line, answer_lines, ok_line, key_there_line};
-ghost use Rattle.hippo_serve.specs.Clinics.{cell_shown, all_shown, rows_shown};
+//! The lines that the program writes of its own.
+ghost use Rattle.std.specs.Prelude.{◌≡◌, OnOk, OnErr};
+ghost use Rattle.hippo_io.specs.Faults.{HasRisen};
+ghost use Rattle.hippo_io.specs.Told.{Appends, AppendsFront};
+ghost use Rattle.hippo_serve.specs.declared.endings.Ending.TheVariants.{Served, Refused, Damaged};
+ghost use Rattle.hippo_serve.specs.Saying.{usage, numbered_line, damaged_line, entries_line, Says};
 
-use hippo_model::RowSet;
-use hippo_values::{Memory, Txt, Value, print_value};
+use crate::endings::Ending;
+use hippo_io::{Failed, Sink, write_whole};
 use itoa::Buffer;
 
-fn print_number(number: u64, out: &mut Txt) -> Result<(), Memory>
-    ensures { OnOk result (out.new ≡ out.old ++ decimal number) }
+const USAGE: &str = "usage: hippo run|check\n";
+
+// Writes words, a number and a line feed.
+fn write_numbered<K: Sink>(sink: &mut K, words: &str, number: u64) -> Result<(), Failed>
+    ensures ok { OnOk result (Appends (K.written sink.old) (K.written sink.new) (numbered_line words.now number)) }
+    ensures failed { OnErr result
+        (AppendsFront (K.written sink.old) (K.written sink.new) (numbered_line words.now number)) }
+    ensures cause { OnErr result (HasRisen (K.faults sink.old) (K.faults sink.new)) }
+    ensures unfailed { OnOk result (K.faults sink.new ≡ K.faults sink.old) }
 {
-    out.append(Buffer::new().format(number))
+    write_whole(sink, words.as_bytes())?;
+    write_whole(sink, Buffer::new().format(number).as_bytes())?;
+    write_whole(sink, b"\n")
 }
 
-fn print_numbered(words: &str, number: u64, end: &str, out: &mut Txt) -> Result<(), Memory>
-    ensures { OnOk result (out.new ≡ out.old ++ (words.now ++ decimal number ++ end.now)) }
+/// Writes the usage line.
+#[tactic(auto, unfolding(crate::specs::Saying::usage))]
+pub fn refuse<K: Sink>(sink: &mut K) -> Ending
+    ensures says { Says Refused usage result
+        (K.written sink.old) (K.written sink.new) (K.faults sink.old) (K.faults sink.new) }
 {
-    out.append(words)?;
-    print_number(number, out)?;
-    out.append(end)
-}
-
-/// Adds `0 ok N` and a line feed.
-pub fn print_ok(number: u64, out: &mut Txt) -> Result<(), Memory>
-    ensures { OnOk result (out.new ≡ out.old ++ ok_line number) }
-{
-    print_numbered("0 ok ", number, "\n", out)
-}
-
-/// Adds the refusal of a row whose key the entry with this number names, and a line feed.
-pub fn print_key_there(number: u64, out: &mut Txt) -> Result<(), Memory>
-    ensures { OnOk result (out.new ≡ out.old ++ key_there_line number) }
-{
-    print_numbered("0 no 43 KeyThere ", number, "\n", out)
-}
-
-fn print_denied(rule: u64, out: &mut Txt) -> Result<(), Memory>
-    ensures { OnOk result (out.new ≡ out.old ++ cell_text (Denied rule)) }
-{
-    print_numbered("DENIED(", rule, ")", out)
-}
-
-fn print_cell(row: &[Value], column: usize, allowing: &[u64], out: &mut Txt) -> Result<(), Memory>
-    requires { column < length allowing.now }
-    ensures { OnOk result (out.new ≡ out.old ++ cell_text (cell_shown allowing.now row.now column)) }
-{
-    match row.get(column) {
-        Some(value) if allowing[column] != 0 => print_value(value, out),
-        _ => print_denied(0, out),
+    match write_whole(sink, USAGE.as_bytes()) {
+        Ok(()) => Ending::Refused,
+        Err(Failed) => Ending::WriteFault,
     }
 }
 
-fn print_later_cells(
-    row: &[Value],
-    places: &[usize],
-    allowing: &[u64],
-    out: &mut Txt,
-) -> Result<(), Memory>
-    requires { All (λ place. place < length allowing.now) places.now }
-    ensures { OnOk result (out.new ≡ out.old ++ later_cells (map (cell_shown allowing.now row.now) places.now)) }
+/// Writes at which place the kept entries are damaged.
+pub fn say_damaged<K: Sink>(sink: &mut K, place: u64) -> Ending
+    ensures says { Says Damaged (damaged_line place) result
+        (K.written sink.old) (K.written sink.new) (K.faults sink.old) (K.faults sink.new) }
 {
-    for place in places {
-        out.append(", ")?;
-        print_cell(row, *place, allowing, out)?;
+    match write_numbered(sink, "damaged ", place) {
+        Ok(()) => Ending::Damaged,
+        Err(Failed) => Ending::WriteFault,
     }
-    Ok(())
 }
 
-fn print_cells(
-    row: &[Value],
-    places: &[usize],
-    allowing: &[u64],
-    out: &mut Txt,
-) -> Result<(), Memory>
-    requires { All (λ place. place < length allowing.now) places.now }
-    ensures { OnOk result (out.new ≡ out.old ++ cells_text (map (cell_shown allowing.now row.now) places.now)) }
+/// Writes how many entries are kept.
+pub fn say_entries<K: Sink>(sink: &mut K, count: u64) -> Ending
+    ensures says { Says Served (entries_line count) result
+        (K.written sink.old) (K.written sink.new) (K.faults sink.old) (K.faults sink.new) }
 {
-    if places.is_empty() {
-        return Ok(());
+    match write_numbered(sink, "entries ", count) {
+        Ok(()) => Ending::Served,
+        Err(Failed) => Ending::WriteFault,
     }
-    print_cell(row, places[0], allowing, out)?;
-    print_later_cells(row, &places[1..], allowing, out)
-}
-
-fn print_row(row: &[Value], places: &[usize], allowing: &[u64], out: &mut Txt) -> Result<(), Memory>
-    requires { All (λ place. place < length allowing.now) places.now }
-    ensures { OnOk result (out.new ≡ out.old ++ row_line (map (cell_shown allowing.now row.now) places.now)) }
-{
-    out.append("1 row ")?;
-    print_cells(row, places, allowing, out)?;
-    out.append("\n")
-}
-
-fn print_rows(
-    rows: &RowSet,
-    places: &[usize],
-    allowing: &[u64],
-    out: &mut Txt,
-) -> Result<(), Memory>
-    requires { All (λ place. place < length allowing.now) places.now }
-    ensures { OnOk result (out.new ≡ out.old ++ flat_map row_line (all_shown allowing.now places.now rows.now.rows)) }
-{
-    for place in 0..rows.len() {
-        print_row(rows.row(place).as_slice(), places, allowing, out)?;
-    }
-    Ok(())
-}
-
-/// Adds the answer for these columns of all rows: a line for each row, and one with their number.
-pub fn print_answer(
-    rows: &RowSet,
-    places: &[usize],
-    allowing: &[u64],
-    out: &mut Txt,
-) -> Result<(), Memory>
-    requires columns { All (λ place. place < length allowing.now) places.now }
-    requires key { 0 < length allowing.now }
-    ensures { OnOk result (out.new ≡ out.old ++ answer_lines (rows_shown allowing.now places.now rows.now.rows)) }
-{
-    if allowing[0] == 0 {
-        return print_numbered("1 end ", 0, "\n", out);
-    }
-    print_rows(rows, places, allowing, out)?;
-    print_numbered("1 end ", rows.len() as u64, "\n", out)
 }

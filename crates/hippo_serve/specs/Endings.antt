@@ -1,0 +1,32 @@
+-- How a call of the program ends, as a status and as one call of its keeper.
+use Rattle.std.specs.Prelude.{ℕ, Option, Some, None, Result, Ok, Err}
+use Rattle.hippo_keeper.specs.declared.faults.KeeperFault.{KeeperFault as Fault}
+use Rattle.hippo_keeper.specs.declared.faults.KeeperFault.TheVariants.{Failed}
+use Rattle.hippo_serve.specs.declared.endings.Ending.{Ending}
+use Rattle.hippo_serve.specs.declared.endings.Ending.TheVariants.{Served, Refused, KeeperFault, ReadFault, WriteFault, Damaged, NoMemory, TooMuch}
+
+abbrev pub status_of : Ending → ℕ
+status_of Served = 0
+status_of Refused = 2
+status_of KeeperFault = 3
+status_of ReadFault = 4
+status_of WriteFault = 5
+status_of Damaged = 6
+status_of NoMemory = 7
+status_of TooMuch = 8
+
+-- all that a program did with its keeper, as one call of it
+abbrev pub as_call : Ending → Result (Unit {0}) Fault
+as_call Served = Ok tt
+as_call Refused = Ok tt
+as_call KeeperFault = Err Failed
+as_call ReadFault = Ok tt
+as_call WriteFault = Ok tt
+as_call Damaged = Ok tt
+as_call NoMemory = Ok tt
+as_call TooMuch = Ok tt
+
+-- what a line did with it, where the run may end there
+abbrev pub as_line_call : Option Ending → Result (Unit {0}) Fault
+as_line_call None = Ok tt
+as_line_call (Some ending) = as_call ending

@@ -1,0 +1,176 @@
+//! The lines of the input, one after the other, each with its reply.
+ghost use Rattle.std.specs.Prelude.{◌≡◌, ◌≢◌, ◌<◌, ◌≤◌, List, [], ℕ, Some, None, IfNone, IfOk, MatchOption, true, false};
+ghost use Rattle.hippo_io.specs.Faults.{HasRisen};
+ghost use Rattle.hippo_io.specs.HandingOut.{at_beginning, consumed, input_limit, HasHandedOut};
+ghost use Rattle.hippo_io.specs.Lines.{LineText};
+ghost use Rattle.hippo_io.specs.LineTexts.{line_text};
+ghost use Rattle.hippo_model.specs.Terms.{History};
+ghost use Rattle.hippo_keeper.specs.Keeping.{IsReady, IsAfterCall};
+ghost use Rattle.hippo_commands.specs.Commands.{command_of};
+ghost use Rattle.hippo_report.specs.declared.format.Format.TheVariants.{Text};
+ghost use Rattle.hippo_replay.specs.Standing.{StandsFor, IsSound};
+ghost use Rattle.hippo_replay.specs.TakingIn.{HasLoaded};
+ghost use Rattle.hippo_world.specs.Holding.{world_of};
+ghost use Rattle.hippo_world.specs.Worlds.{opening};
+ghost use Rattle.hippo_serve.specs.declared.endings.Ending.TheVariants.{Served, Refused, ReadFault, WriteFault, Damaged, NoMemory};
+ghost use Rattle.hippo_serve.specs.Endings.{as_call, as_line_call};
+ghost use Rattle.hippo_serve.specs.Keeping.{KeepsHistory};
+ghost use Rattle.hippo_serve.specs.Outcomes.{ForTold};
+ghost use Rattle.hippo_serve.specs.Runs.{entry_limit, opening_after, LinesEnd, HasServed, Turn};
+
+use crate::endings::Ending;
+use hippo_engine::{Engine, EngineFault};
+use hippo_io::{Line, LineFault, LineReader, Sink, Source};
+use hippo_keeper::Keeper;
+use hippo_replay::State;
+use hippo_report::Format;
+use hippo_values::Memory;
+use std::alloc::Global;
+
+// How many entries a history may have.
+const ENTRY_LIMIT: u32 = 4_000_000;
+
+// Carries out a line and writes its reply; answers how the run ends, where it does.
+fn carry_out<K: Sink, P: Keeper>(
+    alloc: Global,
+    engine: &mut Engine,
+    line: Line<'_>,
+    keeper: &mut P,
+    sink: &mut K,
+) -> Option<Ending>
+    requires sound { IsSound engine.old.state }
+    requires ready { IsReady true (P.state keeper.old) }
+    requires told { (P.state keeper.old).tells → HasLoaded engine.old.state (P.state keeper.old).kept }
+    ensures line { (text : LineText) → line_text line.entry ≡ Some text →
+        Turn result (command_of text) engine.old engine.new (P.state keeper.old) (P.state keeper.new)
+        (K.written sink.old) (K.written sink.new) }
+    ensures end { line_text line.entry ≡ None →
+        (result ≡ Some Served) × (engine.new ≡ engine.old) × (keeper.new ≡ keeper.old) × (sink.new ≡ sink.old) }
+    ensures write_fault { result ≡ Some WriteFault → HasRisen (K.faults sink.old) (K.faults sink.new) }
+    ensures unfailed_write { result ≢ Some WriteFault → K.faults sink.new ≡ K.faults sink.old }
+{
+    if line == Line::End {
+        return Some(Ending::Served);
+    }
+    match engine.line(alloc, line, keeper, sink) {
+        Ok(()) => None,
+        Err(EngineFault::Keeper) => Some(Ending::KeeperFault),
+        Err(EngineFault::Write) => Some(Ending::WriteFault),
+    }
+}
+
+// Reads the next line and carries it out; answers how the run ends, where it does.
+fn serve_line<S: Source, K: Sink, P: Keeper>(
+    alloc: Global,
+    engine: &mut Engine,
+    reader: &mut LineReader,
+    source: &mut S,
+    keeper: &mut P,
+    sink: &mut K,
+) -> Option<Ending>
+    requires reader { reader.old.failure ≡ None }
+    requires sound { IsSound engine.old.state }
+    requires ready { IsReady true (P.state keeper.old) }
+    requires told { (P.state keeper.old).tells → HasLoaded engine.old.state (P.state keeper.old).kept }
+    ensures status { (result ≢ Some Refused) × (result ≢ Some Damaged) × (result ≢ Some NoMemory) }
+    ensures goes_on { IfNone result ((reader.new.failure ≡ None)
+        × (consumed reader.old < consumed reader.new) × (reader.new.taken ≤ input_limit)) }
+    ensures sound { IfNone result (IsSound engine.new.state) }
+    ensures told { IfNone result ((P.state keeper.new).tells → HasLoaded engine.new.state (P.state keeper.new).kept) }
+    ensures call { IsAfterCall true false (as_line_call result) (P.state keeper.old) (P.state keeper.new) }
+    ensures served { (history : History) (input before : List ℕ) →
+        HasServed history input before reader.old (S.left source.old) engine.old (P.state keeper.old)
+        (K.written sink.old) →
+        MatchOption result
+        (HasServed history input before reader.new (S.left source.new) engine.new (P.state keeper.new)
+        (K.written sink.new))
+        (λ ending. (P.state keeper.new).tells →
+        LinesEnd ending history input before (S.left source.new) (K.written sink.new) (P.state keeper.new)) }
+    ensures read_fault { result ≡ Some ReadFault → HasRisen (S.faults source.old) (S.faults source.new) }
+    ensures write_fault { result ≡ Some WriteFault → HasRisen (K.faults sink.old) (K.faults sink.new) }
+    ensures unfailed_read { result ≢ Some ReadFault → S.faults source.new ≡ S.faults source.old }
+    ensures unfailed_write { result ≢ Some WriteFault → K.faults sink.new ≡ K.faults sink.old }
+{
+    match reader.next_line(source) {
+        Ok(line) => carry_out(alloc, engine, line, keeper, sink),
+        Err(LineFault::Read) => Some(Ending::ReadFault),
+        Err(LineFault::TooMuch) => Some(Ending::TooMuch),
+    }
+}
+
+// Serves lines until the input ends or a fault stops it.
+fn serve_lines<S: Source, K: Sink, P: Keeper>(
+    alloc: Global,
+    engine: &mut Engine,
+    reader: &mut LineReader,
+    source: &mut S,
+    keeper: &mut P,
+    sink: &mut K,
+) -> Ending
+    requires reader { reader.old ≡ at_beginning }
+    requires handed { (input : List ℕ) → HasHandedOut input [] reader.old (Some input) }
+    requires sound { IsSound engine.old.state }
+    requires ready { IsReady true (P.state keeper.old) }
+    requires told { (P.state keeper.old).tells → HasLoaded engine.old.state (P.state keeper.old).kept }
+    ensures status { (result ≢ Refused) × (result ≢ Damaged) × (result ≢ NoMemory) }
+    ensures call { IsAfterCall true false (as_call result) (P.state keeper.old) (P.state keeper.new) }
+    ensures ends { (P.state keeper.new).tells → (history : History) → StandsFor engine.old.state history →
+        world_of engine.old.world ≡ opening_after history → KeepsHistory history (P.state keeper.old) →
+        ForTold (S.left source.old) (K.written sink.old) (λ input before.
+        LinesEnd result history input before (S.left source.new) (K.written sink.new) (P.state keeper.new)) }
+    ensures read_fault { result ≡ ReadFault → HasRisen (S.faults source.old) (S.faults source.new) }
+    ensures write_fault { result ≡ WriteFault → HasRisen (K.faults sink.old) (K.faults sink.new) }
+    ensures unfailed_read { result ≢ ReadFault → S.faults source.new ≡ S.faults source.old }
+    ensures unfailed_write { result ≢ WriteFault → K.faults sink.new ≡ K.faults sink.old }
+{
+    loop {
+        if let Some(ending) = serve_line(alloc, engine, reader, source, keeper, sink) {
+            return ending;
+        }
+    }
+}
+
+// An engine over a state.
+fn open(alloc: Global, state: State) -> Result<Engine, Memory>
+    ensures state { IfOk result (λ engine. engine.state ≡ state) }
+    ensures world { IfOk result (λ engine. world_of engine.world ≡ opening state.last entry_limit Text) }
+{
+    Engine::new(alloc, state, ENTRY_LIMIT, Format::Text)
+}
+
+/// Serves all lines over a state that was loaded from the keeper. Want of memory comes before anything is read.
+pub fn serve<S: Source, K: Sink, P: Keeper>(
+    alloc: Global,
+    state: State,
+    source: &mut S,
+    keeper: &mut P,
+    sink: &mut K,
+) -> Ending
+    requires sound { IsSound state }
+    requires ready { IsReady true (P.state keeper.old) }
+    requires told { (P.state keeper.old).tells → HasLoaded state (P.state keeper.old).kept }
+    ensures status { (result ≢ Refused) × (result ≢ Damaged) }
+    ensures call { IsAfterCall true false (as_call result) (P.state keeper.old) (P.state keeper.new) }
+    ensures nothing { result ≡ NoMemory →
+        (source.new ≡ source.old) × (keeper.new ≡ keeper.old) × (sink.new ≡ sink.old) }
+    ensures ends { result ≢ NoMemory → (P.state keeper.new).tells → (history : History) → StandsFor state history →
+        KeepsHistory history (P.state keeper.old) → ForTold (S.left source.old) (K.written sink.old) (λ input before.
+        LinesEnd result history input before (S.left source.new) (K.written sink.new) (P.state keeper.new)) }
+    ensures read_fault { result ≡ ReadFault → HasRisen (S.faults source.old) (S.faults source.new) }
+    ensures write_fault { result ≡ WriteFault → HasRisen (K.faults sink.old) (K.faults sink.new) }
+    ensures unfailed_read { result ≢ ReadFault → S.faults source.new ≡ S.faults source.old }
+    ensures unfailed_write { result ≢ WriteFault → K.faults sink.new ≡ K.faults sink.old }
+{
+    let Ok(mut reader) = LineReader::new(alloc) else {
+        drop(state);
+        return Ending::NoMemory;
+    };
+    match open(alloc, state) {
+        Ok(mut engine) => {
+            let ending = serve_lines(alloc, &mut engine, &mut reader, source, keeper, sink);
+            drop(engine);
+            ending
+        }
+        Err(Memory) => Ending::NoMemory,
+    }
+}
