@@ -33,10 +33,10 @@ meant_so (fault ∷ more) form made none is = absurd cc
 
 -- and else the first refusal is told, or want of memory
 pub meant_not : {A : Type 0} (faults : List NameFault) (form : A) (fault : NameFault) (refusal : Refusal) → IsFirstOf faults fault
-    → (refusal ≡ Memory) ⊎ ((fault ≢ NoRoom) × (refusal ≡ Meaningless fault)) → (meant faults form ≡ Err refusal) ⊎ (refusal ≡ Memory)
-meant_not faults form fault refusal first (inl short) = inr short
-meant_not [] form fault refusal first (inr (other, is)) = let none : slice_get {X = NameFault} [] 0 ≡ Some fault = first other in absurd cc
-meant_not (head ∷ more) form fault refusal first (inr (other, is)) =
+    → ((fault ≢ NoRoom) × (refusal ≡ Meaningless fault)) ⊎ (refusal ≡ Memory) → (meant faults form ≡ Err refusal) ⊎ (refusal ≡ Memory)
+meant_not faults form fault refusal first (inr short) = inr short
+meant_not [] form fault refusal first (inl (other, is)) = let none : slice_get {X = NameFault} [] 0 ≡ Some fault = first other in absurd cc
+meant_not (head ∷ more) form fault refusal first (inl (other, is)) =
     let same : head ≡ fault = ap (λ (found : Option NameFault). unwrap_or found head) (first other) in
     let told : Meaningless head ≡ refusal = ap Meaningless same ∙ sym is in
     inl (λ i. Err (told i))

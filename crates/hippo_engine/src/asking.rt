@@ -2,7 +2,6 @@
 ghost use Rattle.std.specs.Prelude.{◌≡◌, ◌⊎◌, ◌≢◌, ◌+◌, ◌<◌, ◌^◌, true, nat_le, ok_or, Ok as Good, Err as Bad};
 ghost use Rattle.std.specs.Prelude.{MatchResult, IfOk, OnOk};
 ghost use Rattle.hippo_model.specs.Terms.{History};
-ghost use Rattle.hippo_model.specs.Rules.{authorized_at};
 ghost use Rattle.hippo_model.specs.declared.name_fault.NameFault.TheVariants.{Memory as NoRoom};
 ghost use Rattle.hippo_model.specs.declared.statement.Stmt.TheVariants as stmt;
 ghost use Rattle.hippo_report.specs.declared.refusal.Refusal.TheVariants.{Memory as NoMemory, Meaningless as MeansNothing};
@@ -13,12 +12,14 @@ ghost use Rattle.hippo_replay.specs.Standing.{StandsFor, IsSound};
 ghost use Rattle.hippo_world.specs.Worlds.{free_number};
 ghost use Rattle.hippo_world.specs.Holding.{world_of};
 ghost use Rattle.hippo_commands.specs.Commands.{state as command};
-ghost use Rattle.hippo_engine.specs.Checks.{refused_if, by_session, open_session, allowed_by, authorized, meant};
+ghost use Rattle.hippo_engine.specs.Checks.{refused_if, open_session, meant};
 ghost use Rattle.hippo_engine.specs.Judging.{is_plain, text_between, question_in, judged_select, judged_open, judged};
 ghost use Rattle.hippo_engine.specs.Asking.{Finds, question_of, answers, opens, IsAnswerable};
 ghost use Rattle.hippo_engine.specs.Asking.{with_found, opening_of, cursor_in};
 
-use hippo_model::{Authorization, NameFault, Query, RawForm, RawSelect};
+use crate::refusals::{check_room, name_refusal};
+use crate::session_checks::{check_allowed, open_session};
+use hippo_model::{NameFault, Query, RawForm, RawSelect};
 use hippo_replay::State;
 use hippo_report::Refusal;
 use hippo_typing::resolve_select;
@@ -46,60 +47,12 @@ fn is_plain(form: &RawForm) -> bool
     matches!(form, RawForm::Plain)
 }
 
-fn by_session(number: u8) -> Result<(), Refusal>
-    ensures { result ≡ by_session number }
+// Who asks in a session.
+fn asker(world: &World, session: u8) -> Result<&Session, Refusal>
+    ensures { MatchResult result (λ asker. open_session (world_of world.now) session ≡ Good asker.now)
+        (λ refusal. open_session (world_of world.now) session ≡ Bad refusal) }
 {
-    if number == 0 {
-        Err(Refusal::SessionsOnly)
-    } else {
-        Ok(())
-    }
-}
-
-fn open_session(world: &World, number: u8) -> Result<&Session, Refusal>
-    ensures { MatchResult result (λ session. open_session (world_of world.now) number ≡ Good session.now)
-        (λ refusal. open_session (world_of world.now) number ≡ Bad refusal) }
-{
-    by_session(number)?;
-    match world.session(number) {
-        Some(session) => Ok(session),
-        None => Err(Refusal::NoSession),
-    }
-}
-
-fn authorization(state: &State, asker: &Session) -> Authorization
-    ensures { (history : History) → StandsFor state.now history
-        → result ≡ authorized_at history asker.now.user asker.now.pair.purpose asker.now.pair.recipient }
-{
-    let pair = &asker.pair;
-    state
-        .book
-        .authorized_at(state.count, &asker.user, &pair.purpose, &pair.recipient)
-}
-
-fn allowed(authorization: Authorization) -> Result<(), Refusal>
-    ensures { result ≡ allowed_by authorization }
-{
-    match authorization {
-        Authorization::Yes => Ok(()),
-        Authorization::No(number) => Err(Refusal::NotAuthorized(number)),
-    }
-}
-
-fn authorized(state: &State, asker: &Session) -> Result<(), Refusal>
-    ensures { (history : History) → StandsFor state.now history
-        → result ≡ authorized history asker.now.user asker.now.pair }
-{
-    allowed(authorization(state, asker))
-}
-
-fn meaningless(fault: NameFault) -> Refusal
-    ensures { (result ≡ NoMemory) ⊎ ((fault ≢ NoRoom) × (result ≡ MeansNothing fault)) }
-{
-    match fault {
-        NameFault::Memory => Refusal::Memory,
-        other => Refusal::Meaningless(other),
-    }
+    open_session(world, session)
 }
 
 // The query that a plain select means.
@@ -113,7 +66,7 @@ fn meaning(alloc: Global, state: &State, select: &RawSelect) -> Result<Query, Re
 {
     match resolve_select(alloc, &state.catalog, select) {
         Ok(query) => Ok(query),
-        Err(fault) => Err(meaningless(fault)),
+        Err(fault) => Err(name_refusal(fault)),
     }
 }
 
@@ -133,22 +86,10 @@ fn question<'a>(
     ensures asker { IfOk result (λ asking. open_session (world_of world.now) session ≡ Good asking.asker.now) }
     ensures answerable { IfOk result (λ asking. IsAnswerable state.now asking.query) }
 {
-    let asker = open_session(world, session)?;
-    authorized(state, asker)?;
+    let asker = asker(world, session)?;
+    check_allowed(state, &asker.user, &asker.pair)?;
     let query = meaning(alloc, state, select)?;
     Ok(Asking { asker, text, query })
-}
-
-// The history may have one entry more.
-fn check_room(count: u64, limit: u32) -> Result<(), Refusal>
-    ensures is { result ≡ refused_if (nat_le limit count) Full }
-    ensures below { OnOk result (count + 1 < 2 ^ 63) }
-{
-    if u64::from(limit) <= count {
-        Err(Refusal::HistoryFull)
-    } else {
-        Ok(())
-    }
 }
 
 fn free_cursor(asker: &Session) -> Result<u8, Refusal>

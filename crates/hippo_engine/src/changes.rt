@@ -20,6 +20,7 @@ ghost use Rattle.hippo_engine.specs.Changing.{Finds, FindsChange, Changes, IsRef
 
 use crate::engine::Engine;
 use crate::faults::EngineFault;
+use crate::refusals::name_refusal;
 use crate::replies::{refuse, say_number};
 use hippo_catalog::Catalog;
 use hippo_changes::check_change;
@@ -38,15 +39,6 @@ fn check_console(session: u8) -> Result<(), Refusal>
         Ok(())
     } else {
         Err(Refusal::ConsoleOnly)
-    }
-}
-
-fn name_refusal(fault: NameFault) -> Refusal
-    ensures { (fault ≢ faults.Memory × result ≡ refusals.Meaningless fault) ⊎ (result ≡ refusals.Memory) }
-{
-    match fault {
-        NameFault::Memory => Refusal::Memory,
-        fault => Refusal::Meaningless(fault),
     }
 }
 

@@ -9,6 +9,7 @@ mod fetching;
 pub mod laws;
 mod plain;
 mod questions;
+mod refusals;
 mod replies;
 mod session_checks;
 mod sessions;

@@ -3,7 +3,6 @@ ghost use Rattle.std.specs.Prelude.{◌≡◌, ◌≢◌, false, Err, OnOk};
 ghost use Rattle.hippo_values.specs.Texts.{Txt as Text};
 ghost use Rattle.hippo_io.specs.Faults.{HasRisen};
 ghost use Rattle.hippo_io.specs.Told.{Appends, AppendsFront};
-ghost use Rattle.hippo_report.specs.declared.refusal.Refusal.TheVariants.{NotBuilt as Unbuilt};
 ghost use Rattle.hippo_commands.specs.Commands.{nothing, wrong, state};
 ghost use Rattle.hippo_engine.specs.Judging.{is_statement_built};
 ghost use Rattle.hippo_engine.specs.declared.faults.EngineFault.TheVariants.{Write as WriteFailed};
@@ -11,7 +10,7 @@ ghost use Rattle.hippo_engine.specs.Carrying.{IsOfLine, IsQuiet};
 
 use crate::engine::Engine;
 use crate::faults::EngineFault;
-use crate::replies::refuse;
+use crate::replies::{refuse, refuse_unbuilt};
 use hippo_io::{Sink, write_whole};
 use hippo_model::Stmt;
 use hippo_report::Refusal;
@@ -37,7 +36,7 @@ impl Engine {
         requires { is_statement_built statement.now ≡ false }
         ensures { (text : Text) → IsQuiet (state session statement.now text) self.old self.new }
     {
-        refuse(Some(session), &Refusal::NotBuilt, &mut self.reply);
+        refuse_unbuilt(session, &mut self.reply);
     }
 
     /// Writes the reply to the last line.

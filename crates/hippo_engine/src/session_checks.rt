@@ -67,7 +67,8 @@ fn check_closed(world: &World, number: u8) -> Result<(), Refusal>
     }
 }
 
-fn check_allowed(state: &State, user: &Name, pair: &Pair) -> Result<(), Refusal>
+/// Whether a user may ask for a purpose and recipient.
+pub(crate) fn check_allowed(state: &State, user: &Name, pair: &Pair) -> Result<(), Refusal>
     ensures { (history : History) → StandsFor state.now history → result ≡ authorized history user.now pair.now }
 {
     let word = state

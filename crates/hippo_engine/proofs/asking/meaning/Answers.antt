@@ -20,6 +20,6 @@ returns-in-Ok-clause-answerable c =
 pub returns-in-Err-clause-found : goal.returns-in-Err-clause-found
 returns-in-Err-clause-found c = λ history stands.
     let select = c.args.select.now in
-    let refusal = c.meaningless.result in
+    let refusal = c.name_refusal.result in
     subst (λ (known : KnownNames). (meant (select_refused known select) (query_of known select) ≡ Err refusal) ⊎ (refusal ≡ Memory)) stands.names
-    (meant_not _ _ c.in-Err.fault refusal c.in-Err.ensures c.meaningless.ensures)
+    (meant_not _ _ c.in-Err.fault refusal c.in-Err.ensures c.name_refusal.ensures)
