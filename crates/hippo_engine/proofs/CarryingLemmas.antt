@@ -53,16 +53,16 @@ Carries-memory command result old new before after takes refused = record {
   call = refused.call;
   sound = refused.sound;
   carried = λ fine history stands.
-      let done = refused.carried fine history stands in
-      record {
-        effect = done.effect;
-        is = subst (IsEffect history (world_of old.world) command) (sym (memory_effect history (world_of old.world) (who_commands command) done.effect done.is))
-            (short history (world_of old.world) command takes);
-        reply = done.reply;
-        world = done.world;
-        stands = done.stands;
-        kept = done.kept;
-      };
+  let done = refused.carried fine history stands in
+  record {
+    effect = done.effect;
+    is = subst (IsEffect history (world_of old.world) command) (sym (memory_effect history (world_of old.world) (who_commands command) done.effect done.is))
+        (short history (world_of old.world) command takes);
+    reply = done.reply;
+    world = done.world;
+    stands = done.stands;
+    kept = done.kept;
+  };
   failed = λ fails history stands. let broken = refused.failed fails history stands in absurd (not_added broken.entry broken.adds);
 }
 
