@@ -115,7 +115,8 @@ with_answer world number session cursor rows =
 -- an OPEN is replied its cursor's number, and the cursor holds the answer; or memory was short, and nothing changes
 pub record IsOpened (number cursor : ℕ) (rows : List ShownRow) (reply : Txt) (old new : World) : Type 0 where
   pub said : reply ≡ within_limit number rows (number_line number (codes "cursor") cursor)
-  pub held : (session : Session) → session_at old number ≡ Some session → new ≡ with_answer old number session cursor rows
+  pub held : (session : Session) → session_at old number ≡ Some session
+      → new ≡ with_answer old number session cursor rows
 
 pub record IsShort (number : ℕ) (reply : Txt) (old new : World) : Type 0 where
   pub said : reply ≡ short_line number
