@@ -1,5 +1,5 @@
 -- From what single calls do to what carrying out a command does.
-use Rattle.std.proofs.Common.{◌≡◌, ℕ, refl, sym, ap, subst, inl, inr, List, [], ◌∷◌, ◌++◌, Option, Some, None, Result, Ok, Err, true, false, append-nil}
+use Rattle.std.proofs.Common.{◌≡◌, ℕ, refl, sym, subst, inl, inr, List, [], ◌∷◌, Option, Some, None, Result, Ok, true, append-nil}
 use Rattle.std.proofs.lemmas.Bool.{false≢true}
 use Rattle.std.specs.Option.{IfSome}
 use Rattle.hippo_io.specs.Lines.{LineText}
@@ -17,7 +17,7 @@ use Rattle.hippo_commands.specs.Commands as commands
 use Rattle.hippo_engine.specs.declared.engine.Engine.{Engine}
 use Rattle.hippo_engine.specs.declared.faults.EngineFault.{EngineFault}
 use Rattle.hippo_engine.specs.Effects.{Effect, only_reply, IsEffect}
-use Rattle.hippo_engine.specs.Carrying.{shown, IsOfLine, IsQuiet, HasEffect, Carries}
+use Rattle.hippo_engine.specs.Carrying.{shown, IsOfLine, IsQuiet, Carries}
 use Rattle.hippo_engine.proofs.ShortLemmas.{short}
 
 -- a command that adds nothing leaves the keeper alone
@@ -53,16 +53,16 @@ Carries-memory command result old new before after takes refused = record {
   call = refused.call;
   sound = refused.sound;
   carried = λ fine history stands.
-  let done = refused.carried fine history stands in
-  record {
-    effect = done.effect;
-    is = subst (IsEffect history (world_of old.world) command) (sym (memory_effect history (world_of old.world) (who_commands command) done.effect done.is))
-        (short history (world_of old.world) command takes);
-    reply = done.reply;
-    world = done.world;
-    stands = done.stands;
-    kept = done.kept;
-  };
+      let done = refused.carried fine history stands in
+      record {
+        effect = done.effect;
+        is = subst (IsEffect history (world_of old.world) command) (sym (memory_effect history (world_of old.world) (who_commands command) done.effect done.is))
+            (short history (world_of old.world) command takes);
+        reply = done.reply;
+        world = done.world;
+        stands = done.stands;
+        kept = done.kept;
+      };
   failed = λ fails history stands. let broken = refused.failed fails history stands in absurd (not_added broken.entry broken.adds);
 }
 

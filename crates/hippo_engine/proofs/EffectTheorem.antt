@@ -1,14 +1,14 @@
 -- What lines leave: nothing where they are refused, and else at most the next entry.
-use Rattle.std.proofs.Common.{◌≡◌, inl, inr, [], ◌∷◌, Option, ℕ, Result, Ok, Err, refl}
+use Rattle.std.proofs.Common.{◌≡◌, inl, inr, Option, ℕ, Ok, Err, refl}
 use Rattle.hippo_model.specs.Terms.{History}
 use Rattle.hippo_world.specs.Worlds.{World}
 use Rattle.hippo_report.specs.declared.refusal.Refusal.{Refusal}
-use Rattle.hippo_commands.specs.Commands.{Command, who_commands}
+use Rattle.hippo_commands.specs.Commands.{who_commands}
 use Rattle.hippo_engine.specs.Checks.{Checked}
 use Rattle.hippo_engine.specs.Deeds.{Deed, asked_by}
 use Rattle.hippo_engine.specs.Deeds as deeds
 use Rattle.hippo_engine.specs.Judging.{judged}
-use Rattle.hippo_engine.specs.Effects.{done, carried_out, effect_of}
+use Rattle.hippo_engine.specs.Effects.{done, carried_out}
 use Rattle.hippo_engine.specs.EffectLaws.{ChangesNothing, RefusalsChangeNothing, AddsNext, LinesAddTheNextEntry}
 
 refused : (history : History) (world : World) (who : Option ℕ) (judgement : Checked Deed) (refusal : Refusal) → judgement ≡ Err refusal → ChangesNothing world (carried_out history world who judgement)

@@ -1,6 +1,6 @@
 -- A line that takes memory may be answered by want of it.
-use Rattle.std.proofs.Common.{◌≡◌, inl, inr, refl, ap, sym, true, Bool, false, [], ◌∷◌, Option, Some, None, Result, Ok, Err, List}
-use Rattle.std.specs.Prelude.{ℕ, ℤ, int_lt, ok_or, is_some, if◌then◌else◌}
+use Rattle.std.proofs.Common.{◌≡◌, inl, inr, refl, ap, sym, true, Bool, false, Option, Ok, Err, List}
+use Rattle.std.specs.Prelude.{ℕ, int_lt, ok_or, is_some, if◌then◌else◌}
 use Rattle.hippo_model.specs.declared.audit.Pair.{Pair}
 use Rattle.hippo_model.specs.declared.entry.Act.{Act}
 use Rattle.hippo_model.specs.declared.name_fault.NameFault.{NameFault}
@@ -21,14 +21,14 @@ use Rattle.hippo_report.specs.Refusals.{refusal_line}
 use Rattle.hippo_world.specs.declared.cursors.Cursor.{Cursor}
 use Rattle.hippo_world.specs.declared.sessions.Session.{Session}
 use Rattle.hippo_world.specs.Worlds.{World, session_at, at_number, free_number}
-use Rattle.hippo_lines.specs.Forms.{Request, logs_in, logs_out, fetches, closes, steps, drops, unwatches, loads}
+use Rattle.hippo_lines.specs.Forms.{logs_in, logs_out, fetches, closes, steps, drops, unwatches, loads}
 use Rattle.hippo_commands.specs.Commands.{Command, nothing, wrong, ask, state, who_commands, takes_memory}
 use Rattle.hippo_commands.specs.Commands as commands
 use Rattle.hippo_engine.specs.Deeds.{Deed, Question}
 use Rattle.hippo_engine.specs.Deeds as deeds
 use Rattle.hippo_engine.specs.Checks.{Checked, ◌>>=◌, refused_if, by_session, by_console, open_session, authorized, meant, act_made, has_room}
 use Rattle.hippo_engine.specs.Judging.{judged, judged_login, judged_fetch, judged_close, judged_wanted, judged_change, text_between, question_in, judged_select, judged_open, is_plain}
-use Rattle.hippo_engine.specs.Effects.{Effect, only_reply, carried_out, effect_of, IsShort, IsMemoryEffect, IsEffect}
+use Rattle.hippo_engine.specs.Effects.{only_reply, carried_out, effect_of, IsShort, IsEffect}
 
 -- a judgement is no step of a job
 abbrev Stepless : Checked Deed → Type 0

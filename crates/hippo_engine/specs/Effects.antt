@@ -1,12 +1,10 @@
 -- What is done for a line: its reply, the entries that it adds, and the world after it.
-use Rattle.std.specs.Prelude.{◌≡◌, ◌⊎◌, ◌≤◌, ℕ, ◌+◌, ◌-◌, min, Bool, true, false, ◌==◌, nat_lt, List, [], ◌∷◌, ◌++◌, map, flat_map, filter_map, count_by, length, take, drop, slice_get, Option, Some, None, option_map, option_and_then, Result, Ok, Err, if◌then◌else◌, codes, decimal}
+use Rattle.std.specs.Prelude.{◌≡◌, ◌⊎◌, ◌≤◌, ℕ, ◌+◌, ◌-◌, min, true, nat_lt, List, [], ◌∷◌, ◌++◌, flat_map, filter_map, length, take, drop, Option, Some, None, option_and_then, Ok, Err, if◌then◌else◌, codes, decimal}
 use Rattle.std.specs.List.{enumerate_from}
 use Rattle.std.specs.Option.{option_map_or}
 use Rattle.hippo_values.specs.Texts.{Txt}
-use Rattle.hippo_values.specs.declared.names.Name.{Name}
 use Rattle.hippo_model.specs.declared.audit.Audit.{Audit}
 use Rattle.hippo_model.specs.declared.audit.Flag.{Flag}
-use Rattle.hippo_model.specs.declared.audit.Pair.{Pair}
 use Rattle.hippo_model.specs.declared.audit.SharedRow.{SharedRow}
 use Rattle.hippo_model.specs.declared.entry.Act.{Act}
 use Rattle.hippo_model.specs.declared.entry.Act.TheVariants.{Asked}
@@ -14,11 +12,9 @@ use Rattle.hippo_model.specs.declared.entry.Entry.{Entry}
 use Rattle.hippo_model.specs.Terms.{History, ShownRow}
 use Rattle.hippo_model.specs.Verdicts.{Context}
 use Rattle.hippo_model.specs.Answers.{answer}
-use Rattle.hippo_model.specs.Audits.{shared, flagged}
+use Rattle.hippo_model.specs.Audits.{shared}
 use Rattle.hippo_model.specs.Denials.{Denial, denials}
 use Rattle.hippo_typing.specs.Meanings.{meaning}
-use Rattle.hippo_report.specs.declared.format.Format.{Format}
-use Rattle.hippo_report.specs.declared.refusal.Refusal.{Refusal}
 use Rattle.hippo_report.specs.declared.refusal.Refusal.TheVariants.{TooManyRows, Memory}
 use Rattle.hippo_report.specs.Cells.{answer_line, denied_line}
 use Rattle.hippo_report.specs.Flags.{flag_line, tuple_text}

@@ -1,14 +1,12 @@
 -- What is to be done for a command, or the first refusal that holds.
-use Rattle.std.specs.Prelude.{ℕ, ◌-◌, ◌==◌, ℤ, Bool, true, false, not, nat_lt, int_lt, List, [], ◌∷◌, ◌++◌, take, drop, length, filter_map, position, slice_get, Option, Some, None, is_some, is_none, option_map, Result, Ok, Err, ok_or, if◌then◌else◌}
+use Rattle.std.specs.Prelude.{ℕ, ◌-◌, ◌==◌, ℤ, Bool, true, false, not, int_lt, List, take, drop, length, filter_map, position, slice_get, Option, is_some, is_none, Ok, Err, ok_or, if◌then◌else◌}
 use Rattle.std.specs.Option.{option_map_or}
 use Rattle.hippo_values.specs.Texts.{Txt}
 use Rattle.hippo_values.specs.declared.names.Name.{Name}
 use Rattle.hippo_values.specs.declared.values.Value.{Value}
 use Rattle.hippo_model.specs.declared.audit.Audit.{Audit}
 use Rattle.hippo_model.specs.declared.audit.Pair.{Pair}
-use Rattle.hippo_model.specs.declared.entry.Act.{Act}
 use Rattle.hippo_model.specs.declared.name_fault.NameFault.TheVariants as faults
-use Rattle.hippo_model.specs.declared.query.Query.{Query}
 use Rattle.hippo_model.specs.declared.schema.Schema.{Schema}
 use Rattle.hippo_model.specs.declared.statement.RawAudit.{RawAudit}
 use Rattle.hippo_model.specs.declared.statement.RawForm.{RawForm}
@@ -18,15 +16,13 @@ use Rattle.hippo_model.specs.declared.statement.Stmt.{Stmt}
 use Rattle.hippo_model.specs.declared.statement.Stmt.TheVariants as stmt
 use Rattle.hippo_model.specs.declared.statement.Wanted.{Wanted}
 use Rattle.hippo_model.specs.Terms.{History, Row}
-use Rattle.hippo_catalog.specs.Catalogs.{KnownNames, known_at, table_of}
+use Rattle.hippo_catalog.specs.Catalogs.{known_at, table_of}
 use Rattle.hippo_catalog.specs.Selects.{select_refused, query_of}
 use Rattle.hippo_catalog.specs.AuditExpressions.{audit_refused, audit_of}
-use Rattle.hippo_catalog.specs.ChangesRefused.{change_refused, insert_refused, count_refused}
+use Rattle.hippo_catalog.specs.ChangesRefused.{change_refused, insert_refused}
 use Rattle.hippo_catalog.specs.ChangesWanted.{wanted_by}
 use Rattle.hippo_tables.specs.Finished.{finished}
-use Rattle.hippo_report.specs.declared.refusal.Refusal.{Refusal}
 use Rattle.hippo_report.specs.declared.refusal.Refusal.TheVariants.{BadSyntax, MomentBack, SessionOpen, Meaningless, CursorLimit, NoCursor, JobLimit, NoJob, NoSuchQuery, BadRecord, BadField, WatchLimit, NoWatch, NotBuilt}
-use Rattle.hippo_world.specs.declared.sessions.Session.{Session}
 use Rattle.hippo_world.specs.Worlds.{World, at_number, free_number, session_at}
 use Rattle.hippo_commands.specs.Moments.{period_in}
 use Rattle.hippo_lines.specs.Forms.{Request, logs_in, logs_out, fetches, closes, steps, drops, unwatches, loads}

@@ -1,26 +1,22 @@
 -- Rows as records of CSV (RFC 4180), as they are loaded and extracted.
-use Rattle.std.specs.Prelude.{ℕ, ◌==◌, ◌-◌, ◌++◌, ◌&&◌, Bool, not, List, [], ◌∷◌, map, length, drop, take, filter, nat_eq, slice_index, slice_index_or, Option, Some, None, option_map, is_none, codes, decimal, position, if◌then◌else◌}
+use Rattle.std.specs.Prelude.{ℕ, ◌==◌, ◌++◌, ◌&&◌, Bool, not, List, [], ◌∷◌, map, length, drop, slice_index, Option, Some, None, option_map, codes, decimal, if◌then◌else◌}
 use Rattle.std.specs.List.{list_all, zip}
 use Rattle.std.specs.Char.{is_ascii_digit}
 use Rattle.std.specs.Str.Parse.{signed_digits_value}
 use Rattle.std.specs.Bool.{then_some}
-use Rattle.std.specs.Option.{option_map_or}
 use Rattle.csv.specs.Reading.{default_config, strip_bom, records}
 use Rattle.csv.specs.Writing.{default_writer, row_text}
 use Rattle.hippo_values.specs.Texts.{Txt}
-use Rattle.hippo_values.specs.Dates.{day_text}
 use Rattle.hippo_values.specs.Moments.{is_signed_number}
 use Rattle.hippo_values.specs.declared.values.Value.{Value}
 use Rattle.hippo_values.specs.declared.values.Value.TheVariants as values
-use Rattle.hippo_values.specs.Printing.{value_text}
 use Rattle.hippo_lexer.specs.Cutting.{day_of}
 use Rattle.hippo_model.specs.declared.cells.Cell.{Cell}
-use Rattle.hippo_model.specs.declared.cells.Cell.TheVariants.{Shown, Denied}
-use Rattle.hippo_model.specs.declared.schema.Column.{Column}
+use Rattle.hippo_model.specs.declared.cells.Cell.TheVariants.{Shown}
 use Rattle.hippo_model.specs.declared.schema.ColumnKind.{ColumnKind}
 use Rattle.hippo_model.specs.declared.schema.ColumnKind.TheVariants as columns
 use Rattle.hippo_model.specs.declared.schema.Schema.{Schema}
-use Rattle.hippo_model.specs.Terms.{Row, ShownRow}
+use Rattle.hippo_model.specs.Terms.{ShownRow}
 use Rattle.hippo_report.specs.Cells.{cell_text}
 
 -- the one member of a list that has just one

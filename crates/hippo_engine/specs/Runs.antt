@@ -1,5 +1,5 @@
 -- A run: the lines of an input, each with its effect on the history and the world that the line before it left.
-use Rattle.std.specs.Prelude.{◌≡◌, ℕ, List, [], ◌∷◌, ◌++◌, flat_map}
+use Rattle.std.specs.Prelude.{List, [], ◌∷◌, ◌++◌, flat_map}
 use Rattle.hippo_values.specs.Texts.{Txt}
 use Rattle.hippo_io.specs.Lines.{LineText}
 use Rattle.hippo_model.specs.Terms.{History}
