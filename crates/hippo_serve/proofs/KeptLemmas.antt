@@ -1,5 +1,5 @@
 -- What is kept after a line.
-use Rattle.std.proofs.Common.{◌≡◌, ◌∙◌, sym, ap, refl, subst, arith, Bool, true, false, [], ◌∷◌, ◌++◌, map, inl, inr, Result, Ok, Err, append-nil}
+use Rattle.std.proofs.Common.{◌≡◌, ◌∙◌, sym, ap, refl, subst, arith, Bool, true, false, [], ◌∷◌, ◌++◌, map, inl, inr, Result, append-nil}
 use mathlib.Core.Logic.{∥∥₁_map}
 use Rattle.std.proofs.lemmas.Bool.{and_from}
 use Rattle.std.proofs.lemmas.List.{map-append}

@@ -1,12 +1,11 @@
 -- What a load, and what follows it, come to.
-use Rattle.std.proofs.Common.{◌≡◌, ◌≢◌, ◌⊎◌, inl, inr, [], ℕ, ◌+◌, true, false, length, Option, Some, Result, Ok, Err, IfOk, refl, ap, sym, subst, ◌∙◌}
+use Rattle.std.proofs.Common.{◌≡◌, ◌≢◌, inl, inr, [], ℕ, ◌+◌, false, length, Option, refl, ap, sym, subst, ◌∙◌}
 use Rattle.hippo_values.specs.Texts.{Txt}
 use Rattle.hippo_io.specs.Faults.{HasRisen}
 use Rattle.hippo_io.specs.Told.{Appends, AppendsFront}
 use Rattle.hippo_model.specs.Terms.{History}
 use Rattle.hippo_model.specs.Stores.{IsStoreOf}
 use Rattle.hippo_model.specs.Versions.{versions}
-use Rattle.hippo_keeper.specs.declared.faults.KeeperFault.{KeeperFault as Fault}
 use Rattle.hippo_keeper.specs.Answering.{has_failed}
 use Rattle.hippo_keeper.specs.Keeping.{KeeperState, IsAfterCall}
 use Rattle.hippo_typing.specs.Meanings.{meaning}
@@ -20,10 +19,10 @@ use Rattle.hippo_serve.specs.declared.endings.Ending.{Ending}
 use Rattle.hippo_serve.specs.declared.endings.Ending.TheVariants.{Served, Refused, KeeperFault, ReadFault, WriteFault, Damaged, NoMemory, TooMuch}
 use Rattle.hippo_serve.specs.Endings.{as_call}
 use Rattle.hippo_serve.specs.Keeping.{KeepsHistory, IsIdle}
-use Rattle.hippo_serve.specs.Outcomes.{FromFound, ForTold, KeepsDamaged, SaysDamaged, BeginsDamaged, RunEnds, CheckEnds, Stops}
+use Rattle.hippo_serve.specs.Outcomes.{FromFound, ForTold, KeepsDamaged, RunEnds, CheckEnds, Stops}
 use Rattle.hippo_serve.specs.Runs.{LinesEnd}
 use Rattle.hippo_serve.specs.Saying.{damaged_line, entries_line, Says}
-use Rattle.hippo_serve.proofs.KeptLemmas.{KeepsHistory-found, calls, call_as}
+use Rattle.hippo_serve.proofs.KeptLemmas.{KeepsHistory-found, call_as}
 
 module _ (state : State) (before loaded : KeeperState) (steps_before steps : ℕ) (loads : Loads [] (ok_of LoadFault state) before loaded steps_before steps) where
   module _ (tells : loaded.tells) where

@@ -1,5 +1,5 @@
 -- A run, one line more.
-use Rattle.std.proofs.Common.{◌≡◌, ℕ, ◌<◌, ◌≤◌, ◌↔◌, List, [], ◌∷◌, ◌++◌, flat_map, length, drop, take, false, Option, Some, None, Result, Ok, Err, refl, ap, sym, subst, ◌∙◌, append_assoc, append-nil, arith, length-drop}
+use Rattle.std.proofs.Common.{◌≡◌, ℕ, ◌<◌, ◌≤◌, ◌↔◌, List, [], ◌∷◌, ◌++◌, flat_map, length, drop, take, false, Option, Some, Result, Ok, Err, refl, ap, sym, subst, ◌∙◌, append_assoc, append-nil, arith, length-drop}
 use Rattle.hippo_values.specs.Texts.{Txt}
 use Rattle.hippo_io.specs.Lines.{LineText, lines}
 use Rattle.hippo_io.specs.declared.lines.Line.{Line}
@@ -18,7 +18,7 @@ use Rattle.hippo_world.specs.Holding.{world_of}
 use Rattle.hippo_commands.specs.Commands.{Command, command_of}
 use Rattle.hippo_engine.specs.declared.engine.Engine.{Engine}
 use Rattle.hippo_engine.specs.declared.faults.EngineFault.{EngineFault}
-use Rattle.hippo_engine.specs.declared.faults.EngineFault.TheVariants.{Keeper, Write}
+use Rattle.hippo_engine.specs.declared.faults.EngineFault.TheVariants.{Keeper}
 use Rattle.hippo_engine.specs.Carrying.{as_call, Carries, HasEffect, BreaksOff}
 use Rattle.hippo_engine.specs.Effects.{Effect, IsEffect, effect_of}
 use Rattle.hippo_engine.specs.Runs.{IsRun, replies, history_after, world_after}

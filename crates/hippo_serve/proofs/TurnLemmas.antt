@@ -1,12 +1,11 @@
 -- What a call with a line makes of a run.
-use Rattle.std.proofs.Common.{◌≡◌, ◌≢◌, ℕ, ◌≤◌, ◌++◌, ◌∷◌, [], true, false, Option, Some, None, IfNone, MatchOption, Result, Ok, Err, refl, ap, sym, subst, ◌∙◌}
+use Rattle.std.proofs.Common.{◌≡◌, ◌≢◌, ◌≤◌, ◌++◌, ◌∷◌, [], true, false, Option, Some, None, IfNone, MatchOption, Ok, Err, refl, sym, subst}
 use Rattle.hippo_values.specs.Texts.{Txt}
 use Rattle.hippo_io.specs.Lines.{LineText, lines}
 use Rattle.hippo_io.specs.Position.{Position}
 use Rattle.hippo_io.specs.HandingOut.{HasHandedOut, input_limit}
 use Rattle.hippo_io.specs.Told.{Appends, AppendsFront}
 use Rattle.hippo_model.specs.Terms.{History}
-use Rattle.hippo_keeper.specs.declared.faults.KeeperFault.{KeeperFault as Fault}
 use Rattle.hippo_keeper.specs.Keeping.{KeeperState, IsReady, IsAfterCall}
 use Rattle.hippo_replay.specs.Standing.{IsSound}
 use Rattle.hippo_replay.specs.TakingIn.{HasLoaded}
@@ -18,7 +17,6 @@ use Rattle.hippo_engine.specs.Carrying.{Carries}
 use Rattle.hippo_serve.specs.declared.endings.Ending.{Ending}
 use Rattle.hippo_serve.specs.declared.endings.Ending.TheVariants.{Served, Refused, KeeperFault, ReadFault, WriteFault, Damaged, NoMemory, TooMuch}
 use Rattle.hippo_serve.specs.Endings.{as_line_call}
-use Rattle.hippo_serve.specs.Keeping.{KeepsHistory}
 use Rattle.hippo_serve.specs.Runs.{carried, IsServed, LinesEnd, HasServed, Turn}
 use Rattle.hippo_serve.proofs.RunLemmas.{loaded_after, served_more, unwritten, broken_off, all_served}
 

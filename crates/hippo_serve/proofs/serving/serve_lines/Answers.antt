@@ -1,5 +1,4 @@
 use Rattle.std.proofs.Common.{rules}
-use Rattle.hippo_keeper.specs.Keeping.{KeeperState}
 use Rattle.hippo_replay.proofs.KeeperLemmas.{IsAfterCall-none}
 use Rattle.hippo_serve.proofs.RunLemmas.{served_none}
 use Rattle.hippo_serve.proofs.serving.serve_lines.Goals as goal
