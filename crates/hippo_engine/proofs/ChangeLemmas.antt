@@ -25,8 +25,8 @@ use Rattle.hippo_commands.specs.Commands.{Command, state, who_commands}
 use Rattle.hippo_engine.specs.declared.engine.Engine.{Engine}
 use Rattle.hippo_engine.specs.declared.faults.EngineFault.{EngineFault}
 use Rattle.hippo_engine.specs.Carrying.{IsQuiet, Carries}
-use Rattle.hippo_engine.specs.Changing.{Refuses, IsChange, Changes, IsRefused, changed}
-use Rattle.hippo_engine.specs.Checks.{Checked, ◌>>=◌}
+use Rattle.hippo_engine.specs.Changing.{IsChange, Changes, IsRefused, changed}
+use Rattle.hippo_engine.specs.Checks.{Refuses, Checked, ◌>>=◌}
 use Rattle.hippo_engine.specs.Deeds.{Deed}
 use Rattle.hippo_engine.specs.Deeds as deeds
 use Rattle.hippo_engine.specs.Effects.{only_reply, done, effect_of, carried_out, next_entry, IsEffect}

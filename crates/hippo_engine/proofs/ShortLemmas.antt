@@ -1,6 +1,6 @@
 -- A line that takes memory may be answered by want of it.
 use Rattle.std.proofs.Common.{◌≡◌, inl, inr, refl, ap, sym, true, Bool, false, Option, Ok, Err, List}
-use Rattle.std.specs.Prelude.{ℕ, int_lt, ok_or, is_some, if◌then◌else◌}
+use Rattle.std.specs.Prelude.{ℕ, int_lt, ok_or, if◌then◌else◌}
 use Rattle.hippo_model.specs.declared.audit.Pair.{Pair}
 use Rattle.hippo_model.specs.declared.entry.Act.{Act}
 use Rattle.hippo_model.specs.declared.name_fault.NameFault.{NameFault}
@@ -16,17 +16,17 @@ use Rattle.hippo_catalog.specs.ChangesRefused.{change_refused}
 use Rattle.hippo_catalog.specs.ChangesWanted.{wanted_by}
 use Rattle.hippo_tables.specs.Finished.{finished}
 use Rattle.hippo_report.specs.declared.refusal.Refusal.{Refusal}
-use Rattle.hippo_report.specs.declared.refusal.Refusal.TheVariants.{Memory, NotBuilt, BadSyntax, CursorLimit, SessionOpen, NoCursor, MomentBack}
+use Rattle.hippo_report.specs.declared.refusal.Refusal.TheVariants.{Memory, NotBuilt, BadSyntax, CursorLimit, NoCursor, MomentBack}
 use Rattle.hippo_report.specs.Refusals.{refusal_line}
 use Rattle.hippo_world.specs.declared.cursors.Cursor.{Cursor}
 use Rattle.hippo_world.specs.declared.sessions.Session.{Session}
-use Rattle.hippo_world.specs.Worlds.{World, session_at, at_number, free_number}
+use Rattle.hippo_world.specs.Worlds.{World, at_number, free_number}
 use Rattle.hippo_lines.specs.Forms.{logs_in, logs_out, fetches, closes, steps, drops, unwatches, loads}
 use Rattle.hippo_commands.specs.Commands.{Command, nothing, wrong, ask, state, who_commands, takes_memory}
 use Rattle.hippo_commands.specs.Commands as commands
 use Rattle.hippo_engine.specs.Deeds.{Deed, Question}
 use Rattle.hippo_engine.specs.Deeds as deeds
-use Rattle.hippo_engine.specs.Checks.{Checked, ◌>>=◌, refused_if, by_session, by_console, open_session, authorized, meant, act_made, has_room}
+use Rattle.hippo_engine.specs.Checks.{Checked, ◌>>=◌, refused_if, by_console, open_session, may_log_in, meant, act_made, has_room}
 use Rattle.hippo_engine.specs.Judging.{judged, judged_login, judged_fetch, judged_close, judged_wanted, judged_change, text_between, question_in, judged_select, judged_open, is_plain}
 use Rattle.hippo_engine.specs.Effects.{only_reply, carried_out, effect_of, IsShort, IsEffect}
 
@@ -79,9 +79,7 @@ opens history world number written text =
 
 login : (history : History) (world : World) (number : ℕ) (user : Name) (pair : Pair) → Stepless (judged_login history world number user pair)
 login history world number user pair =
-    check {A = Unit {0}} (by_session number) (λ session. refused_if (is_some (session_at world number)) SessionOpen >>= λ closed. authorized history user pair >>= λ allowed. Ok (deeds.log_in number user pair))
-    (λ session. check {A = Unit {0}} (refused_if (is_some (session_at world number)) SessionOpen) (λ closed. authorized history user pair >>= λ allowed. Ok (deeds.log_in number user pair))
-    (λ closed. check {A = Unit {0}} (authorized history user pair) (λ allowed. Ok (deeds.log_in number user pair)) (λ allowed. tt)))
+    check {A = Unit {0}} (may_log_in history world number user pair) (λ allowed. Ok (deeds.log_in number user pair)) (λ allowed. tt)
 
 fetch : (world : World) (number at count : ℕ) → Stepless (judged_fetch world number at count)
 fetch world number at count =

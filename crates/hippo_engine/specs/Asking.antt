@@ -29,11 +29,6 @@ use Rattle.hippo_engine.specs.Deeds.{Deed, Question, asked_by}
 use Rattle.hippo_engine.specs.Deeds as deeds
 use Rattle.hippo_engine.specs.Effects.{row_limit, question_rows, within_limit, listed}
 
--- a check finds something, by what that stands for; or it refuses as is said, or for want of memory
-abbrev pub Finds : {A B : Type 0} → (A → B) → Checked B → Checked A → Type 0
-Finds view checked (Ok found) = checked ≡ Ok (view found)
-Finds view checked (Err refusal) = (checked ≡ Err refusal) ⊎ (refusal ≡ Memory)
-
 -- a value, and what was found behind it
 abbrev pub with_found : {A B : Type 0} → A → Checked B → Checked (A × B)
 with_found value (Ok other) = Ok (value, other)

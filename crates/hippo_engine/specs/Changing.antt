@@ -16,19 +16,11 @@ use Rattle.hippo_world.specs.Worlds.{World}
 use Rattle.hippo_world.specs.Holding.{world_of}
 use Rattle.hippo_commands.specs.Commands.{Command, who_commands, takes_memory}
 use Rattle.hippo_engine.specs.declared.engine.Engine.{Engine}
-use Rattle.hippo_engine.specs.Checks.{Checked, ◌>>=◌, meant, has_room}
+use Rattle.hippo_engine.specs.Checks.{Checked, Refuses, ◌>>=◌, meant, has_room}
 use Rattle.hippo_engine.specs.Deeds.{Deed}
 use Rattle.hippo_engine.specs.Deeds as deeds
 use Rattle.hippo_engine.specs.Effects.{Effect, next_entry, effect_of}
 use Rattle.hippo_engine.specs.Judging.{judged}
-
--- the refusal is that of a judgement, or memory was short
-abbrev pub Refuses : {A : Type 0} → Checked A → Refusal → Type 0
-Refuses judgement refusal = (judgement ≡ Err refusal) ⊎ (refusal ≡ Memory)
-
--- what is found is what a judgement says, or memory was short
-abbrev pub Finds : {A : Type 0} → Checked A → Result A Refusal → Type 0
-Finds judgement result = MatchResult result (λ found. judgement ≡ Ok found) (λ refusal. Refuses judgement refusal)
 
 -- what a statement asks for, by names and types
 abbrev pub wanted_in : KnownNames → Stmt → Checked Wanted

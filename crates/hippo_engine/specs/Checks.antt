@@ -1,5 +1,5 @@
 -- The checks of a line, one after the other; the first that fails refuses it.
-use Rattle.std.specs.Prelude.{ℕ, ◌==◌, ℤ, pos, Bool, true, false, not, nat_le, if◌then◌else◌, List, [], ◌∷◌, length, find, ◌&&◌, Option, is_some, Result, Ok, Err, ok_or}
+use Rattle.std.specs.Prelude.{◌≡◌, ◌⊎◌, ℕ, ◌==◌, ℤ, pos, Bool, true, false, not, nat_le, if◌then◌else◌, List, [], ◌∷◌, length, find, ◌&&◌, Option, is_some, Result, Ok, Err, ok_or}
 use Rattle.std.specs.Ordering.{int_eq}
 use Rattle.hippo_model.specs.declared.audit.Pair.{Pair}
 use Rattle.hippo_values.specs.declared.names.Name.{Name}
@@ -22,6 +22,15 @@ use Rattle.hippo_world.specs.Worlds.{World, at_number, session_at}
 -- what a check finds, or the refusal
 abbrev pub Checked : Type 0 → Type 0
 Checked A = Result A Refusal
+
+-- a refusal is that of a check, or memory was short
+abbrev pub Refuses : {A : Type 0} → Checked A → Refusal → Type 0
+Refuses checked refusal = (checked ≡ Err refusal) ⊎ (refusal ≡ Memory)
+
+-- a check finds something, by what that stands for; or it refuses as is said, or for want of memory
+abbrev pub Finds : {A B : Type 0} → (A → B) → Checked B → Checked A → Type 0
+Finds view checked (Ok found) = checked ≡ Ok (view found)
+Finds view checked (Err refusal) = Refuses checked refusal
 
 infixl 10 ◌>>=◌
 -- one check, and then the next

@@ -22,15 +22,15 @@ use Rattle.hippo_catalog.specs.AuditExpressions.{audit_refused, audit_of}
 use Rattle.hippo_catalog.specs.ChangesRefused.{change_refused, insert_refused}
 use Rattle.hippo_catalog.specs.ChangesWanted.{wanted_by}
 use Rattle.hippo_tables.specs.Finished.{finished}
-use Rattle.hippo_report.specs.declared.refusal.Refusal.TheVariants.{BadSyntax, MomentBack, SessionOpen, Meaningless, CursorLimit, NoCursor, JobLimit, NoJob, NoSuchQuery, BadRecord, BadField, WatchLimit, NoWatch, NotBuilt}
-use Rattle.hippo_world.specs.Worlds.{World, at_number, free_number, session_at}
+use Rattle.hippo_report.specs.declared.refusal.Refusal.TheVariants.{BadSyntax, MomentBack, Meaningless, CursorLimit, NoCursor, JobLimit, NoJob, NoSuchQuery, BadRecord, BadField, WatchLimit, NoWatch, NotBuilt}
+use Rattle.hippo_world.specs.Worlds.{World, at_number, free_number}
 use Rattle.hippo_commands.specs.Moments.{period_in}
 use Rattle.hippo_lines.specs.Forms.{Request, logs_in, logs_out, fetches, closes, steps, drops, unwatches, loads}
 use Rattle.hippo_commands.specs.Commands.{Command, nothing, wrong, ask, state}
 use Rattle.hippo_commands.specs.Commands as commands
 use Rattle.hippo_engine.specs.Deeds.{Deed, Question}
 use Rattle.hippo_engine.specs.Deeds as deeds
-use Rattle.hippo_engine.specs.Checks.{Checked, ◌>>=◌, refused_if, by_session, by_console, open_session, authorized, meant, act_made, has_room, question_at}
+use Rattle.hippo_engine.specs.Checks.{Checked, ◌>>=◌, refused_if, by_console, open_session, may_log_in, authorized, meant, act_made, has_room, question_at}
 use Rattle.hippo_engine.specs.Records.{record_fields, field_values}
 
 -- the clock does not go back
@@ -39,11 +39,8 @@ judged_clock world moment =
     refused_if (int_lt moment world.clock) (MomentBack world.clock) >>= λ _. Ok (deeds.set_clock moment)
 
 abbrev pub judged_login : History → World → ℕ → Name → Pair → Checked Deed
-judged_login history world number user pair = do
-  session ← by_session number
-  closed ← refused_if (is_some (session_at world number)) SessionOpen
-  allowed ← authorized history user pair
-  Ok (deeds.log_in number user pair)
+judged_login history world number user pair =
+    may_log_in history world number user pair >>= λ allowed. Ok (deeds.log_in number user pair)
 
 abbrev pub judged_logout : World → ℕ → Checked Deed
 judged_logout world number = open_session world number >>= λ session. Ok (deeds.log_out number)

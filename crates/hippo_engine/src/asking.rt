@@ -14,9 +14,9 @@ ghost use Rattle.hippo_replay.specs.Standing.{StandsFor, IsSound};
 ghost use Rattle.hippo_world.specs.Worlds.{free_number};
 ghost use Rattle.hippo_world.specs.Holding.{world_of};
 ghost use Rattle.hippo_commands.specs.Commands.{state as command};
-ghost use Rattle.hippo_engine.specs.Checks.{refused_if, open_session, meant};
+ghost use Rattle.hippo_engine.specs.Checks.{Finds, refused_if, open_session, meant};
 ghost use Rattle.hippo_engine.specs.Judging.{is_plain, text_between, question_in, judged_select, judged_open, judged};
-ghost use Rattle.hippo_engine.specs.Asking.{Finds, question_of, answers, opens, IsAnswerable};
+ghost use Rattle.hippo_engine.specs.Asking.{question_of, answers, opens, IsAnswerable};
 ghost use Rattle.hippo_engine.specs.Asking.{with_found, opening_of, cursor_in};
 
 use crate::refusals::{check_room, name_refusal};

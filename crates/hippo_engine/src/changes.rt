@@ -13,10 +13,10 @@ ghost use Rattle.hippo_report.specs.declared.refusal.Refusal.TheVariants as refu
 ghost use Rattle.hippo_world.specs.Holding.{world_of};
 ghost use Rattle.hippo_commands.specs.Commands.{Command, state};
 ghost use Rattle.hippo_engine.specs.declared.faults.EngineFault.TheVariants.{Write as WriteFailed};
-ghost use Rattle.hippo_engine.specs.Checks.{by_console, rows_refusal, act_made};
+ghost use Rattle.hippo_engine.specs.Checks.{Finds, by_console, rows_refusal, act_made};
 ghost use Rattle.hippo_engine.specs.Judging.{judged_wanted, judged_change};
 ghost use Rattle.hippo_engine.specs.Carrying.{IsQuiet, Carries};
-ghost use Rattle.hippo_engine.specs.Changing.{Finds, FindsChange, Changes, IsRefused, wanted_in, change_in_room};
+ghost use Rattle.hippo_engine.specs.Changing.{FindsChange, Changes, IsRefused, wanted_in, change_in_room};
 
 use crate::engine::Engine;
 use crate::faults::EngineFault;
@@ -54,7 +54,7 @@ fn rows_refusal(fault: TableFault) -> Refusal
 
 // What a statement asks for, by names and types.
 fn check_names(alloc: Global, catalog: &Catalog, statement: &Stmt) -> Result<Wanted, Refusal>
-    ensures { Finds (wanted_in catalog.now.names statement.now) result }
+    ensures { Finds (λ found. found) (wanted_in catalog.now.names statement.now) result }
 {
     match check_change(alloc, catalog, statement) {
         Ok(wanted) => Ok(wanted),
@@ -65,7 +65,7 @@ fn check_names(alloc: Global, catalog: &Catalog, statement: &Stmt) -> Result<Wan
 // What is wanted is made, where the rows that are there let it be.
 fn check_rows(alloc: Global, tables: &Tables, wanted: &Wanted) -> Result<Act, Refusal>
     ensures { (history : History) → TablesStandFor tables.now history
-        → Finds (act_made (finished history wanted.now)) result }
+        → Finds (λ found. found) (act_made (finished history wanted.now)) result }
 {
     match tables.finish(alloc, wanted) {
         Ok(act) => Ok(act),

@@ -4,8 +4,8 @@ use Rattle.hippo_catalog.specs.Catalogs.{KnownNames, known_at}
 use Rattle.hippo_catalog.specs.ChangesRefused.{change_refused}
 use Rattle.hippo_catalog.specs.ChangesWanted.{wanted_by}
 use Rattle.hippo_world.specs.Holding.{world_of}
-use Rattle.hippo_engine.specs.Changing.{Refuses, wanted_in}
-use Rattle.hippo_engine.specs.Checks.{by_console, meant}
+use Rattle.hippo_engine.specs.Changing.{wanted_in}
+use Rattle.hippo_engine.specs.Checks.{Refuses, by_console, meant}
 use Rattle.hippo_engine.specs.Judging.{judged_wanted}
 use Rattle.hippo_engine.proofs.ChangeLemmas.{names_refused}
 use Rattle.hippo_engine.proofs.engine.Engine.entry_of.Goals as goal
