@@ -1,5 +1,5 @@
 //! Calls of the program over a keeper, with what they are to come to.
-ghost use Rattle.std.specs.Prelude.{false};
+ghost use Rattle.std.specs.Prelude.{◌≡◌, ◌<◌, false};
 ghost use Rattle.hippo_keeper.specs.Keeping.{IsReady};
 ghost use Rattle.hippo_keeper.specs.MemoryKeeping.{seen};
 
@@ -10,7 +10,7 @@ use hippo_values::{Bytes, Calls, Memory, Sequence, Txt};
 use std::alloc::Global;
 use std::marker::Brand;
 use std::process::Abort;
-use std::sync::ledger::Blank;
+use std::sync::ledger::{Blank, Ledger};
 
 // The calls of the source and of the sink that fail, and the sink's room.
 #[derive(Drop)]
@@ -56,6 +56,24 @@ fn sink_of(alloc: Global, outside: &Outside<'_>) -> Result<MemorySink, Memory> {
     MemorySink::new(alloc, outside.room, failing)
 }
 
+// Calls the program on a ledger that nobody uses.
+fn answer<L: Ledger>(
+    alloc: Global,
+    words: &[Txt],
+    source: &mut MemorySource,
+    sink: &mut MemorySink,
+    keeper: &mut MemoryKeeper,
+    blank: Blank,
+) -> u8
+    requires name { blank.name ≡ L.name }
+    requires parts { blank.parts ≡ L.parts }
+    requires some { 0 < blank.parts }
+    requires ready { IsReady false (seen keeper.old) }
+{
+    let mut steps = Steps::<L>::new(blank);
+    hippo_top(alloc, words, source, sink, keeper, &mut steps)
+}
+
 fn call(
     alloc: Global,
     words: &[Txt],
@@ -65,8 +83,7 @@ fn call(
 ) -> u8
     requires ready { IsReady false (seen keeper.old) }
 {
-    let mut steps = Steps::<Brand>::new(Blank::new(1));
-    hippo_top(alloc, words, source, sink, keeper, &mut steps)
+    answer::<Brand>(alloc, words, source, sink, keeper, Blank::new(1))
 }
 
 // Calls the program over what a keeper keeps, and compares its exit status and what it wrote.
