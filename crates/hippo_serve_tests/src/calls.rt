@@ -42,11 +42,7 @@ fn words(alloc: Global, words: &[&str]) -> Result<Sequence<Txt>, Memory> {
     Ok(list)
 }
 
-fn source_of(
-    alloc: Global,
-    input: &[u8],
-    outside: &Outside<'_>,
-) -> Result<MemorySource, Memory> {
+fn source_of(alloc: Global, input: &[u8], outside: &Outside<'_>) -> Result<MemorySource, Memory> {
     let failing = Calls::from_slice(alloc, outside.failing_reads)?;
     Ok(MemorySource::new(Bytes::from_slice(alloc, input)?, failing))
 }

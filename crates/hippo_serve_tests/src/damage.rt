@@ -269,7 +269,16 @@ fn morning(rt: &impl Abort, alloc: Global) -> Result<MemoryKeeper, Memory> {
     let input = joined(alloc, &LINES)?;
     let mut keeper = MemoryKeeper::new(StoredList::new(alloc), KeeperFails::new(alloc));
     let bytes = input.as_str().as_bytes();
-    check_over(rt, alloc, &["run"], bytes, &FAULTLESS, &mut keeper, Ending::Served, REPLIES)?;
+    check_over(
+        rt,
+        alloc,
+        &["run"],
+        bytes,
+        &FAULTLESS,
+        &mut keeper,
+        Ending::Served,
+        REPLIES,
+    )?;
     Ok(keeper)
 }
 
@@ -281,7 +290,16 @@ fn check_case(
 ) -> Result<(), Fail> {
     let list = changed(alloc, kept, case)?;
     let mut keeper = keeper_of(alloc, list).ok_or("numbers that do not rise")?;
-    check_over(rt, alloc, &["check"], b"", &FAULTLESS, &mut keeper, case.3, case.4)?;
+    check_over(
+        rt,
+        alloc,
+        &["check"],
+        b"",
+        &FAULTLESS,
+        &mut keeper,
+        case.3,
+        case.4,
+    )?;
     Ok(())
 }
 

@@ -66,7 +66,16 @@ fn check(
     output: &str,
 ) -> Result<(), Memory> {
     let mut keeper = keeper(alloc, &[])?;
-    check_over(rt, alloc, command, input, outside, &mut keeper, ending, output)
+    check_over(
+        rt,
+        alloc,
+        command,
+        input,
+        outside,
+        &mut keeper,
+        ending,
+        output,
+    )
 }
 
 // The first so many replies.
@@ -157,9 +166,27 @@ fn keeper_fails(
     let output = replies(alloc, count)?;
     let mut keeper = keeper(alloc, &[KeeperFail { call, keeps }])?;
     let output = output.as_str();
-    check_over(rt, alloc, &["run"], input, &FAULTLESS, &mut keeper, ending, output)?;
+    check_over(
+        rt,
+        alloc,
+        &["run"],
+        input,
+        &FAULTLESS,
+        &mut keeper,
+        ending,
+        output,
+    )?;
     let mut left = keeper.restart();
-    check_over(rt, alloc, &["check"], b"", &FAULTLESS, &mut left, Ending::Served, entries)
+    check_over(
+        rt,
+        alloc,
+        &["check"],
+        b"",
+        &FAULTLESS,
+        &mut left,
+        Ending::Served,
+        entries,
+    )
 }
 
 // The call that fails, how many lines are replied to, and what a check then says where the entry is not kept, and where
