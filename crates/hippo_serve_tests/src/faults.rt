@@ -1,14 +1,14 @@
-ghost use Rattle.std.specs.Prelude.{◌≡◌, false};
+ghost use Rattle.std.specs.Prelude.{false, IfOk};
+ghost use Rattle.hippo_keeper.specs.Keeping.{IsReady};
+ghost use Rattle.hippo_keeper.specs.MemoryKeeping.{seen};
 
-use hippo_io::{MemorySink, MemorySource};
-use hippo_keeper::{KeeperFail, KeeperFails, MemoryKeeper, Steps};
+use crate::calls::{FAULTLESS, Outside, check_over, joined};
+use hippo_keeper::{KeeperFail, KeeperFails, MemoryKeeper};
 use hippo_model::StoredList;
-use hippo_serve::{Ending, hippo_top};
-use hippo_values::{Bytes, Calls, Memory, Sequence, Txt};
+use hippo_serve::Ending;
+use hippo_values::{Memory, Txt};
 use std::alloc::Global;
-use std::marker::Brand;
 use std::process::Abort;
-use std::sync::ledger::Blank;
 
 const LINES: [&str; 10] = [
     "at 2024-01-02T08:00:00Z\n",
@@ -36,28 +36,6 @@ const REPLIES: [&str; 10] = [
     "- no 10 BadLine\n",
 ];
 
-// The calls of the source and of the sink that fail, and the sink's room.
-#[derive(Drop)]
-struct Outside<'a> {
-    failing_reads: &'a [u64],
-    failing_writes: &'a [u64],
-    room: usize,
-}
-
-const FAULTLESS: Outside<'static> = Outside {
-    failing_reads: &[],
-    failing_writes: &[],
-    room: 4000,
-};
-
-fn joined(alloc: Global, pieces: &[&str]) -> Result<Txt, Memory> {
-    let mut text = Txt::new(alloc);
-    for piece in pieces {
-        text.append(piece)?;
-    }
-    Ok(text)
-}
-
 fn repeated(alloc: Global, piece: &str, count: usize) -> Result<Txt, Memory> {
     let mut text = Txt::new(alloc);
     for _ in 0..count {
@@ -66,50 +44,15 @@ fn repeated(alloc: Global, piece: &str, count: usize) -> Result<Txt, Memory> {
     Ok(text)
 }
 
-fn words(alloc: Global, words: &[&str]) -> Result<Sequence<Txt>, Memory> {
-    let mut list = Sequence::new(alloc);
-    for word in words {
-        list.push(Txt::from_str(alloc, word)?)?;
-    }
-    Ok(list)
-}
-
 // A keeper of nothing on which some calls fail.
-fn keeper(alloc: Global, failing: &[KeeperFail]) -> Result<MemoryKeeper, Memory> {
+fn keeper(alloc: Global, failing: &[KeeperFail]) -> Result<MemoryKeeper, Memory>
+    ensures { IfOk result (λ keeper. IsReady false (seen keeper)) }
+{
     let mut fails = KeeperFails::new(alloc);
     for fail in failing {
         fails.push(*fail)?;
     }
     Ok(MemoryKeeper::new(StoredList::new(alloc), fails))
-}
-
-// Calls the program over what a keeper keeps, compares its exit status and what it wrote, and answers a keeper of what
-// it left.
-fn check_over(
-    rt: &impl Abort,
-    alloc: Global,
-    command: &[&str],
-    input: &[u8],
-    outside: &Outside<'_>,
-    keeper: MemoryKeeper,
-    ending: Ending,
-    output: &str,
-) -> Result<MemoryKeeper, Memory>
-    requires { keeper.entry.started ≡ false }
-    requires { keeper.entry.spent ≡ false }
-{
-    let mut keeper = keeper;
-    let failing_reads = Calls::from_slice(alloc, outside.failing_reads)?;
-    let failing_writes = Calls::from_slice(alloc, outside.failing_writes)?;
-    let mut source = MemorySource::new(Bytes::from_slice(alloc, input)?, failing_reads);
-    let mut sink = MemorySink::new(alloc, outside.room, failing_writes)?;
-    let mut steps = Steps::<Brand>::new(Blank::new(1));
-    let command = words(alloc, command)?;
-    let words = command.as_slice();
-    let status = hippo_top(alloc, words, &mut source, &mut sink, &mut keeper, &mut steps);
-    assert_eq!(rt; status, ending.status());
-    assert_eq!(rt; sink.bytes(), output.as_bytes());
-    Ok(keeper.restart())
 }
 
 // Calls the program over an empty store.
@@ -122,9 +65,17 @@ fn check(
     ending: Ending,
     output: &str,
 ) -> Result<(), Memory> {
-    let keeper = keeper(alloc, &[])?;
-    check_over(rt, alloc, command, input, outside, keeper, ending, output)?;
-    Ok(())
+    let mut keeper = keeper(alloc, &[])?;
+    check_over(
+        rt,
+        alloc,
+        command,
+        input,
+        outside,
+        &mut keeper,
+        ending,
+        output,
+    )
 }
 
 // The first so many replies.
@@ -183,7 +134,15 @@ fn faults_one_at_a_time(rt: HostRuntime) -> Result<(), Memory> {
         };
         let output = replies(alloc, count)?;
         let bytes = input.as_str().as_bytes();
-        check(&rt, alloc, &["run"], bytes, &outside, ending, output.as_str())?;
+        check(
+            &rt,
+            alloc,
+            &["run"],
+            bytes,
+            &outside,
+            ending,
+            output.as_str(),
+        )?;
     }
     Ok(())
 }
@@ -205,10 +164,29 @@ fn keeper_fails(
         Ending::KeeperFault
     };
     let output = replies(alloc, count)?;
-    let keeper = keeper(alloc, &[KeeperFail { call, keeps }])?;
-    let left = check_over(rt, alloc, &["run"], input, &FAULTLESS, keeper, ending, output.as_str())?;
-    check_over(rt, alloc, &["check"], b"", &FAULTLESS, left, Ending::Served, entries)?;
-    Ok(())
+    let mut keeper = keeper(alloc, &[KeeperFail { call, keeps }])?;
+    let output = output.as_str();
+    check_over(
+        rt,
+        alloc,
+        &["run"],
+        input,
+        &FAULTLESS,
+        &mut keeper,
+        ending,
+        output,
+    )?;
+    let mut left = keeper.restart();
+    check_over(
+        rt,
+        alloc,
+        &["check"],
+        b"",
+        &FAULTLESS,
+        &mut left,
+        Ending::Served,
+        entries,
+    )
 }
 
 // The call that fails, how many lines are replied to, and what a check then says where the entry is not kept, and where

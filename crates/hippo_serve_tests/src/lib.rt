@@ -1,5 +1,9 @@
-//! Tests of the top call with faults of its source and its sink, one at a time.
+//! Tests of the top call: faults of its source, its sink and its keeper, one at a time, and stores that are damaged.
 #![tactic(auto)]
 
+#[cfg(test)]
+mod calls;
+#[cfg(test)]
+mod damage;
 #[cfg(test)]
 mod faults;
