@@ -1,14 +1,17 @@
 //! The program: `hippo run` reads lines from standard input and writes their replies to standard output.
 #![tactic(auto)]
 
-use hippo_io::{StdSink, StdSource};
+ghost use Rattle.std.specs.Prelude.{◌≡◌, ◌<◌};
+
+use hippo_io::{Sink, Source, StdSink, StdSource};
 use hippo_keeper::{KeeperFails, MemoryKeeper, Steps};
 use hippo_model::StoredList;
 use hippo_serve::{Ending, hippo_top};
 use hippo_values::{Memory, Sequence, Txt};
+use std::alloc::Global;
 use std::marker::Brand;
 use std::process::ExitCode;
-use std::sync::ledger::Blank;
+use std::sync::ledger::{Blank, Ledger};
 use std::{env, io};
 
 type Words = Sequence<Txt>;
@@ -28,22 +31,35 @@ fn words(rt: &HostRuntime) -> Result<Words, Memory> {
     }
 }
 
+// Runs the program over an empty store in memory.
+fn call<S: Source, K: Sink, L: Ledger>(
+    alloc: Global,
+    words: &[Txt],
+    source: &mut S,
+    sink: &mut K,
+    blank: Blank,
+) -> u8
+    requires name { blank.name ≡ L.name }
+    requires parts { blank.parts ≡ L.parts }
+    requires some { 0 < blank.parts }
+{
+    let mut keeper = MemoryKeeper::new(StoredList::new(alloc), KeeperFails::new(alloc));
+    let mut steps = Steps::<L>::new(blank);
+    hippo_top(alloc, words, source, sink, &mut keeper, &mut steps)
+}
+
 fn main(rt: HostRuntime) -> ExitCode {
     let Ok(words) = words(&rt) else {
         return ExitCode::from(Ending::NoMemory.status());
     };
-    let alloc = rt.alloc();
     let mut source = StdSource::new(rt.stdin());
     let mut sink = StdSink::new(rt.stdout());
-    let mut keeper = MemoryKeeper::new(StoredList::new(alloc), KeeperFails::new(alloc));
-    let mut steps = Steps::<Brand>::new(Blank::new(1));
-    let status = hippo_top(
-        alloc,
+    let status = call::<_, _, Brand>(
+        rt.alloc(),
         words.as_slice(),
         &mut source,
         &mut sink,
-        &mut keeper,
-        &mut steps,
+        Blank::new(1),
     );
     ExitCode::from(status)
 }

@@ -4,6 +4,10 @@
 //! left. What it wrote is written, and `status N`. Lines that begin with `#` say what a case shows.
 #![tactic(auto)]
 
+ghost use Rattle.std.specs.Prelude.{◌≡◌, ◌<◌, false, IfOk};
+ghost use Rattle.hippo_keeper.specs.Keeping.{IsReady};
+ghost use Rattle.hippo_keeper.specs.MemoryKeeping.{seen};
+
 use hippo_io::{MemorySink, MemorySource};
 use hippo_keeper::{KeeperFails, MemoryKeeper, Steps};
 use hippo_model::StoredList;
@@ -12,7 +16,7 @@ use hippo_values::{Bytes, Calls, Memory, Sequence, Txt};
 use std::alloc::Global;
 use std::io::{self, Write};
 use std::marker::Brand;
-use std::sync::ledger::Blank;
+use std::sync::ledger::{Blank, Ledger};
 
 // The most bytes that a case may write.
 const ROOM: usize = 1_000_000;
@@ -103,20 +107,29 @@ impl Case {
     }
 }
 
-fn empty_store(alloc: Global) -> MemoryKeeper {
+fn empty_store(alloc: Global) -> MemoryKeeper
+    ensures { IsReady false (seen result) }
+{
     MemoryKeeper::new(StoredList::new(alloc), KeeperFails::new(alloc))
 }
 
-// What the program writes for a case, its exit status, and the store that it leaves.
-fn outcome(
+// The same, counting on a ledger that nobody uses.
+fn counted<L: Ledger>(
     alloc: Global,
     case: Case,
-    keeper: MemoryKeeper,
-) -> Result<(MemorySink, u8, MemoryKeeper), Memory> {
-    let mut keeper = keeper;
+    store: MemoryKeeper,
+    blank: Blank,
+) -> Result<(MemorySink, u8, MemoryKeeper), Memory>
+    requires ready { IsReady false (seen store) }
+    requires name { blank.name ≡ L.name }
+    requires parts { blank.parts ≡ L.parts }
+    requires some { 0 < blank.parts }
+    ensures ready { IfOk result (λ outcome. IsReady false (seen outcome.2)) }
+{
+    let mut keeper = store;
     let mut source = MemorySource::new(Bytes::from_vec(case.input), Calls::new(alloc));
     let mut sink = MemorySink::new(alloc, ROOM, Calls::new(alloc))?;
-    let mut steps = Steps::<Brand>::new(Blank::new(1));
+    let mut steps = Steps::<L>::new(blank);
     let status = hippo_top(
         alloc,
         case.words.as_slice(),
@@ -126,6 +139,18 @@ fn outcome(
         &mut steps,
     );
     Ok((sink, status, keeper.restart()))
+}
+
+// What the program writes for a case, its exit status, and the store that it leaves.
+fn outcome(
+    alloc: Global,
+    case: Case,
+    store: MemoryKeeper,
+) -> Result<(MemorySink, u8, MemoryKeeper), Memory>
+    requires ready { IsReady false (seen store) }
+    ensures ready { IfOk result (λ outcome. IsReady false (seen outcome.2)) }
+{
+    counted::<Brand>(alloc, case, store, Blank::new(1))
 }
 
 fn main(rt: HostRuntime) -> io::Result<()> {
@@ -142,8 +167,9 @@ fn main(rt: HostRuntime) -> io::Result<()> {
         if order == Order::Call {
             kept = empty_store(alloc);
         }
-        let (sink, status, keeper) =
-            outcome(alloc, case, kept).map_err(|_| io::ErrorKind::OutOfMemory)?;
+        let (sink, status, keeper) = outcome(alloc, case, kept).map_err(
+            |_| io::ErrorKind::OutOfMemory,
+        )?;
         rt.stdout().write_all(sink.bytes())?;
         println!(rt; "status {status}")?;
         case = Case::new(alloc);
