@@ -114,11 +114,17 @@ takes_memory (set_clock moment) = false
 takes_memory (ask session request) = request_takes_memory request
 takes_memory (state session stmt text) = true
 
+-- reading takes memory for statements alone: such a line is a statement, or a refusal of a session's line
+abbrev pub may_want : Command → Bool
+may_want (wrong (Some session) refusal) = true
+may_want (state session stmt text) = true
+may_want command = false
+
 -- an outcome, or want of memory
 abbrev pub OrMemory : {A : Type 0} → Result A Refusal → Result A Refusal → Type 0
 OrMemory outcome result = (result ≡ outcome) ⊎ (result ≡ Err Memory)
 
--- a line commands this, or it is refused for want of memory
+-- a line commands this, or it is refused for want of memory to read it
 abbrev pub IsCommand : Command → Command → Type 0
 IsCommand command found =
-    (found ≡ command) ⊎ ((takes_memory command ≡ true) × (found ≡ wrong (who_commands command) Memory))
+    (found ≡ command) ⊎ ((may_want command ≡ true) × (found ≡ wrong (who_commands command) Memory))

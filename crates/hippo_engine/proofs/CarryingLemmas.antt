@@ -12,7 +12,7 @@ use Rattle.hippo_report.specs.declared.refusal.Refusal.TheVariants.{Memory}
 use Rattle.hippo_report.specs.Refusals.{refusal_line}
 use Rattle.hippo_world.specs.Worlds.{World}
 use Rattle.hippo_world.specs.Holding.{world_of}
-use Rattle.hippo_commands.specs.Commands.{Command, nothing, wrong, ask, state, who_commands, takes_memory, command_of, IsCommand}
+use Rattle.hippo_commands.specs.Commands.{Command, nothing, wrong, ask, state, who_commands, takes_memory, may_want, command_of, IsCommand}
 use Rattle.hippo_commands.specs.Commands as commands
 use Rattle.hippo_engine.specs.declared.engine.Engine.{Engine}
 use Rattle.hippo_engine.specs.declared.faults.EngineFault.{EngineFault}
@@ -66,25 +66,34 @@ Carries-memory command result old new before after takes refused = record {
   failed = λ fails history stands. let broken = refused.failed fails history stands in absurd (not_added broken.entry broken.adds);
 }
 
+-- what may want memory to be read takes memory
+wanting_takes : (command : Command) → may_want command ≡ true → takes_memory command ≡ true
+wanting_takes nothing wants = absurd (false≢true wants)
+wanting_takes (wrong None refusal) wants = absurd (false≢true wants)
+wanting_takes (wrong (Some session) refusal) wants = refl
+wanting_takes (commands.set_clock moment) wants = absurd (false≢true wants)
+wanting_takes (ask session request) wants = absurd (false≢true wants)
+wanting_takes (state session statement text) wants = refl
+
 -- what is carried out for the command that was found
 pub Carries-found : {A : Type 0} (command found : Command) (result : Result A EngineFault) (old new : Engine) (before after : KeeperState)
     → IsCommand command found → Carries found result old new before after → Carries command result old new before after
 Carries-found command found result old new before after (inl is) carries = subst (λ (c : Command). Carries c result old new before after) is carries
-Carries-found command found result old new before after (inr (takes, is)) carries =
-    Carries-memory command result old new before after takes (subst (λ (c : Command). Carries c result old new before after) is carries)
+Carries-found command found result old new before after (inr (wants, is)) carries =
+    Carries-memory command result old new before after (wanting_takes command wants) (subst (λ (c : Command). Carries c result old new before after) is carries)
 
 -- what holds of each command that a line gives holds of the one that was found
 pub IsOfLine-found : (command found : Command) → IsOfLine command → IsCommand command found → IsOfLine found
 IsOfLine-found command found of_line (inl is) = subst IsOfLine (sym is) of_line
-IsOfLine-found command found of_line (inr (takes, is)) = subst IsOfLine (sym is) (somebodys command takes)
+IsOfLine-found command found of_line (inr (wants, is)) = subst IsOfLine (sym is) (somebodys command wants)
   where
-    somebodys : (command : Command) → takes_memory command ≡ true → IsOfLine (wrong (who_commands command) Memory)
-    somebodys nothing takes = absurd (false≢true takes)
-    somebodys (wrong None refusal) takes = absurd (false≢true takes)
-    somebodys (wrong (Some session) refusal) takes = tt
-    somebodys (commands.set_clock moment) takes = absurd (false≢true takes)
-    somebodys (ask session request) takes = tt
-    somebodys (state session statement text) takes = tt
+    somebodys : (command : Command) → may_want command ≡ true → IsOfLine (wrong (who_commands command) Memory)
+    somebodys nothing wants = absurd (false≢true wants)
+    somebodys (wrong None refusal) wants = absurd (false≢true wants)
+    somebodys (wrong (Some session) refusal) wants = tt
+    somebodys (commands.set_clock moment) wants = absurd (false≢true wants)
+    somebodys (ask session request) wants = absurd (false≢true wants)
+    somebodys (state session statement text) wants = tt
 
 -- what was found for a line's text
 pub found_for : (line : Option LineText) (text : LineText) (found : Command) → line ≡ Some text → IfSome line (λ one. IsCommand (command_of one) found)

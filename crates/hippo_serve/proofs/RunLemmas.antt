@@ -23,7 +23,7 @@ use Rattle.hippo_engine.specs.Carrying.{as_call, Carries, HasEffect, BreaksOff}
 use Rattle.hippo_engine.specs.Effects.{Effect, IsEffect, effect_of}
 use Rattle.hippo_engine.specs.Runs.{IsRun, replies, history_after, world_after}
 use Rattle.hippo_serve.specs.Keeping.{KeepsHistory}
-use Rattle.hippo_serve.specs.Runs.{opening_after, carried, IsServed, IsCutOff, IsUnwritten, IsBrokenOff, HasServed}
+use Rattle.hippo_serve.specs.Runs.{opening_after, IsServed, IsCutOff, IsUnwritten, IsBrokenOff, HasServed}
 use Rattle.hippo_serve.proofs.KeptLemmas.{kept_forms, KeepsHistory-after, KeepsEither-after}
 
 flat_map-last : {A B : Type 0} (f : A → List B) (front : List A) (last : A) → flat_map f (front ++ last ∷ []) ≡ flat_map f front ++ f last
@@ -80,7 +80,7 @@ served_none history input before reader left engine keeper output handing stands
 }
 
 -- a line that was carried out leaves a keeper that keeps what the engine stands for
-pub loaded_after : (command : Command) (old new : Engine) (before after : KeeperState) → Carries command (carried (Ok tt)) old new before after
+pub loaded_after : (command : Command) (old new : Engine) (before after : KeeperState) → Carries {A = Unit {0}} command (Ok tt) old new before after
     → (before.tells → HasLoaded old.state before.kept) → after.tells → HasLoaded new.state after.kept
 loaded_after command old new before after carries loaded tells =
     let here = loaded (carries.call.told tells) in
@@ -150,7 +150,7 @@ module _ (history : History) (input before : Txt) (reader reader' : Position) (l
       }
 
     -- the keeper failed
-    pub broken_off : Carries (command_of line) (carried (Err Keeper)) engine engine' keeper keeper' → output' ≡ output → reader'.taken ≤ input_limit → keeper'.tells → IsBrokenOff history input before left' output' keeper'
+    pub broken_off : Carries {A = Unit {0}} (command_of line) (Err Keeper) engine engine' keeper keeper' → output' ≡ output → reader'.taken ≤ input_limit → keeper'.tells → IsBrokenOff history input before left' output' keeper'
     broken_off carries same limit tells =
         let breaks : BreaksOff here (command_of line) engine keeper keeper' = carries.failed refl here served.stands in
         record {

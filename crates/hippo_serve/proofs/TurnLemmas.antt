@@ -17,7 +17,7 @@ use Rattle.hippo_engine.specs.Carrying.{Carries}
 use Rattle.hippo_serve.specs.declared.endings.Ending.{Ending}
 use Rattle.hippo_serve.specs.declared.endings.Ending.TheVariants.{Served, Refused, KeeperFault, ReadFault, WriteFault, Damaged, NoMemory, TooMuch}
 use Rattle.hippo_serve.specs.Endings.{as_line_call}
-use Rattle.hippo_serve.specs.Runs.{carried, IsServed, LinesEnd, HasServed, Turn}
+use Rattle.hippo_serve.specs.Runs.{IsServed, LinesEnd, HasServed, Turn}
 use Rattle.hippo_serve.proofs.RunLemmas.{loaded_after, served_more, unwritten, broken_off, all_served}
 
 module _ (line : Option LineText) (result : Option Ending) (engine engine' : Engine) (keeper keeper' : KeeperState) (output output' : Option Txt)
@@ -25,9 +25,9 @@ module _ (line : Option LineText) (result : Option Ending) (engine engine' : Eng
     (end : line ≡ None → (result ≡ Some Served) × (engine' ≡ engine) × (output' ≡ output))
     (same : line ≡ None → keeper' ≡ keeper) where
   by_turn : (Q : Option Ending → Type 0) (command : Command)
-      → (Carries command (carried (Ok tt)) engine engine' keeper keeper' → Appends output output' engine'.reply → Q None)
-      → (Carries command (carried (Err Keeper)) engine engine' keeper keeper' → output' ≡ output → Q (Some KeeperFault))
-      → (Carries command (carried (Err Write)) engine engine' keeper keeper' → AppendsFront output output' engine'.reply → Q (Some WriteFault))
+      → (Carries {A = Unit {0}} command (Ok tt) engine engine' keeper keeper' → Appends output output' engine'.reply → Q None)
+      → (Carries {A = Unit {0}} command (Err Keeper) engine engine' keeper keeper' → output' ≡ output → Q (Some KeeperFault))
+      → (Carries {A = Unit {0}} command (Err Write) engine engine' keeper keeper' → AppendsFront output output' engine'.reply → Q (Some WriteFault))
       → (r : Option Ending) → Turn r command engine engine' keeper keeper' output output' → Q r
   by_turn Q command on broken cut None turned = on turned.0 turned.1
   by_turn Q command on broken cut (Some Served) turned = absurd turned
@@ -40,9 +40,9 @@ module _ (line : Option LineText) (result : Option Ending) (engine engine' : Eng
   by_turn Q command on broken cut (Some TooMuch) turned = absurd turned
 
   by_line : (Q : Option Ending → Type 0) → (line ≡ None → Q (Some Served))
-      → ((text : LineText) → line ≡ Some text → Carries (command_of text) (carried (Ok tt)) engine engine' keeper keeper' → Appends output output' engine'.reply → Q None)
-      → ((text : LineText) → line ≡ Some text → Carries (command_of text) (carried (Err Keeper)) engine engine' keeper keeper' → output' ≡ output → Q (Some KeeperFault))
-      → ((text : LineText) → line ≡ Some text → Carries (command_of text) (carried (Err Write)) engine engine' keeper keeper' → AppendsFront output output' engine'.reply → Q (Some WriteFault))
+      → ((text : LineText) → line ≡ Some text → Carries {A = Unit {0}} (command_of text) (Ok tt) engine engine' keeper keeper' → Appends output output' engine'.reply → Q None)
+      → ((text : LineText) → line ≡ Some text → Carries {A = Unit {0}} (command_of text) (Err Keeper) engine engine' keeper keeper' → output' ≡ output → Q (Some KeeperFault))
+      → ((text : LineText) → line ≡ Some text → Carries {A = Unit {0}} (command_of text) (Err Write) engine engine' keeper keeper' → AppendsFront output output' engine'.reply → Q (Some WriteFault))
       → Q result
   by_line Q done on broken cut = at line refl
     where
@@ -108,6 +108,6 @@ module _ (line : Option LineText) (result : Option Ending) (engine engine' : Eng
     pub served_by_turn : Handed line → Ends result
     served_by_turn handed = by_line Ends
         (λ is. at_end (same is) (end is).2 (subst Handed is handed))
-        (λ text is carries writes. served_more history input before reader reader' left left' engine engine' keeper keeper' output output' served text (subst Handed is handed) (carried (Ok tt)) carries refl writes)
+        (λ text is carries writes. served_more history input before reader reader' left left' engine engine' keeper keeper' output output' served text (subst Handed is handed) (Ok tt) carries refl writes)
         (λ text is carries writes. broken_off history input before reader reader' left left' engine engine' keeper keeper' output output' served text (subst Handed is handed) carries writes limit)
-        (λ text is carries writes. unwritten history input before reader reader' left left' engine engine' keeper keeper' output output' served text (subst Handed is handed) (carried (Err Write)) carries refl writes limit)
+        (λ text is carries writes. unwritten history input before reader reader' left left' engine engine' keeper keeper' output output' served text (subst Handed is handed) (Err Write) carries refl writes limit)

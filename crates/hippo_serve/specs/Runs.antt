@@ -123,22 +123,18 @@ pub record HasServed (history : History) (input before : Txt) (reader : Position
   pub written : output ≡ Some (before ++ replies effects)
   pub kept : keeper.tells → KeepsHistory (history_after history effects) keeper
 
--- what a line's call answered
-abbrev pub carried : Result (Unit {0}) EngineFault → Result (Unit {0}) EngineFault
-carried result = result
-
 -- what a call with a line did: the line was carried out and replied to, or the keeper failed, or the sink did
 abbrev pub Turn : Option Ending → Command → Engine → Engine → KeeperState → KeeperState → Option Txt → Option Txt
     → Type 0
 Turn None command old new before after written_before written_after =
-    Carries command (carried (Ok tt)) old new before after × Appends written_before written_after new.reply
+    Carries {A = Unit {0}} command (Ok tt) old new before after × Appends written_before written_after new.reply
 Turn (Some Served) command old new before after written_before written_after = ⊥
 Turn (Some Refused) command old new before after written_before written_after = ⊥
 Turn (Some KeeperFault) command old new before after written_before written_after =
-    Carries command (carried (Err Keeper)) old new before after × (written_after ≡ written_before)
+    Carries {A = Unit {0}} command (Err Keeper) old new before after × (written_after ≡ written_before)
 Turn (Some ReadFault) command old new before after written_before written_after = ⊥
 Turn (Some WriteFault) command old new before after written_before written_after =
-    Carries command (carried (Err Write)) old new before after × AppendsFront written_before written_after new.reply
+    Carries {A = Unit {0}} command (Err Write) old new before after × AppendsFront written_before written_after new.reply
 Turn (Some Damaged) command old new before after written_before written_after = ⊥
 Turn (Some NoMemory) command old new before after written_before written_after = ⊥
 Turn (Some TooMuch) command old new before after written_before written_after = ⊥

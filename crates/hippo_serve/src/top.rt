@@ -4,7 +4,7 @@ ghost use Rattle.hippo_io.specs.Faults.{HasRisen};
 ghost use Rattle.hippo_io.specs.HandingOut.{input_limit};
 ghost use Rattle.hippo_io.specs.Told.{Appends, AppendsFront};
 ghost use Rattle.hippo_keeper.specs.Keeping.{IsReady, IsAfterCall};
-ghost use Rattle.hippo_serve.specs.declared.endings.Ending.TheVariants.{Served, Refused, ReadFault, WriteFault, Damaged, NoMemory, TooMuch};
+ghost use Rattle.hippo_serve.specs.declared.endings.Ending.TheVariants.{Refused, ReadFault, WriteFault, Damaged, NoMemory, TooMuch};
 ghost use Rattle.hippo_serve.specs.declared.jobs.Job.TheVariants.{Run, Check};
 ghost use Rattle.hippo_serve.specs.Endings.{as_call};
 ghost use Rattle.hippo_serve.specs.Jobs.{job_of};
