@@ -20,18 +20,18 @@ clock : (moment : Option Moment) → IsOfLine (clock_command moment)
 clock (Some moment) = tt
 clock None = plain_fits None (codes "18 BadMoment") tt (omega arith)
 
-statement : (session : ℕ) (text : Txt) (found : Result Stmt Refusal) → statement_in text ≡ found → IsOfLine (state_command session text found)
-statement session text (Ok made) is = is
-statement session text (Err refusal) is = tt
+statement : (session : ℕ) (text : Txt) (found : Result Stmt Refusal) → IsOfLine (state_command session text found)
+statement session text (Ok made) = tt
+statement session text (Err refusal) = tt
 
 by_form : (form : Option Form) → IsOfLine (command_by form)
 by_form None = plain_fits None (codes "10 BadLine") tt (omega arith)
 by_form (Some says_nothing) = tt
 by_form (Some (sets_clock moment)) = clock (moment_in moment)
 by_form (Some (asks session request)) = tt
-by_form (Some (states session text)) = statement session text (statement_in text) refl
+by_form (Some (states session text)) = statement session text (statement_in text)
 
--- a line's statement is that of its text, and a refusal of nobody's line is short
+-- a refusal of nobody's line is short
 pub IsOfLine-line : (line : LineText) → IsOfLine (command_of line)
 IsOfLine-line (text_line text) = by_form (line_form text)
 IsOfLine-line too_long_line = plain_fits None (codes "11 LineTooLong") tt (omega arith)

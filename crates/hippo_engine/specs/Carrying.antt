@@ -14,7 +14,7 @@ use Rattle.hippo_replay.specs.Standing.{StandsFor, IsSound}
 use Rattle.hippo_replay.specs.Recording.{HasKept}
 use Rattle.hippo_report.specs.Refusals.{refusal_line}
 use Rattle.hippo_world.specs.Holding.{world_of}
-use Rattle.hippo_commands.specs.Commands.{Command, wrong, state, statement_in, command_of}
+use Rattle.hippo_commands.specs.Commands.{Command, wrong, command_of}
 use Rattle.hippo_engine.specs.declared.engine.Engine.{Engine}
 use Rattle.hippo_engine.specs.declared.faults.EngineFault.{EngineFault}
 use Rattle.hippo_engine.specs.declared.faults.EngineFault.TheVariants.{Keeper, Write}
@@ -30,9 +30,8 @@ as_call (Err Write) = Ok tt
 abbrev pub reply_room : ℕ
 reply_room = 64
 
--- what holds of each command that a line gives: its statement is that of its text, and a refusal of nobody's line is short
+-- what holds of each command that a line gives: a refusal of nobody's line is short
 abbrev pub IsOfLine : Command → Type 0
-IsOfLine (state session statement text) = statement_in text ≡ Ok statement
 IsOfLine (wrong None refusal) = length (refusal_line None refusal) ≤ reply_room
 IsOfLine command = Unit {0}
 

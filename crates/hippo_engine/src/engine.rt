@@ -8,7 +8,7 @@ ghost use Rattle.hippo_world.specs.Worlds.{opening};
 ghost use Rattle.hippo_world.specs.Holding.{world_of};
 ghost use Rattle.hippo_replay.specs.Standing.{IsSound};
 ghost use Rattle.hippo_replay.specs.TakingIn.{HasLoaded};
-ghost use Rattle.hippo_commands.specs.Commands.{state, statement_in, command_of, IsCommand};
+ghost use Rattle.hippo_commands.specs.Commands.{state, command_of, IsCommand};
 ghost use Rattle.hippo_commands.specs.Lent.{command};
 ghost use Rattle.hippo_engine.specs.declared.faults.EngineFault.TheVariants.{Keeper as KeeperFailed, Write as WriteFailed};
 ghost use Rattle.hippo_engine.specs.Carrying.{IsOfLine, Carries, Answers};
@@ -104,7 +104,6 @@ impl Engine {
         requires sound { IsSound self.old.state }
         requires ready { IsReady true (P.state keeper.old) }
         requires told { (P.state keeper.old).tells → HasLoaded self.old.state (P.state keeper.old).kept }
-        requires read { statement_in text.now ≡ Ok statement.now }
         ensures carries { Carries (state session statement.now text.now) result self.old self.new
             (P.state keeper.old) (P.state keeper.new) }
         ensures unwritten { result ≢ Err WriteFailed }
@@ -160,9 +159,9 @@ impl Engine {
         Ok(())
     }
 
-    /// Carries out a line, which must not be the end of the input, and makes its reply whole in memory. A change and a
-    /// question are kept before the reply is there. Answers `Keeper` only where the keeper's count of faults rose: the
-    /// engine is then of no more use.
+    /// Carries out a line and makes its reply whole in memory; what it adds to the history is kept when the call returns.
+    /// Answers `Keeper` only where the keeper's count of faults rose: the engine is then of no more use. Of the end of the
+    /// input it promises nothing.
     pub fn answer<P: Keeper>(
         &mut self,
         alloc: Global,

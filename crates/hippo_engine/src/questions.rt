@@ -11,7 +11,7 @@ ghost use Rattle.hippo_typing.specs.Meanings.{meaning};
 ghost use Rattle.hippo_replay.specs.Standing.{StandsFor, IsSound, IsNext, takes_no_memory};
 ghost use Rattle.hippo_replay.specs.TakingIn.{HasLoaded};
 ghost use Rattle.hippo_world.specs.Holding.{world_of};
-ghost use Rattle.hippo_commands.specs.Commands.{state, statement_in};
+ghost use Rattle.hippo_commands.specs.Commands.{state};
 ghost use Rattle.hippo_engine.specs.declared.faults.EngineFault.TheVariants.{Write as WriteFailed};
 ghost use Rattle.hippo_engine.specs.Carrying.{Carries};
 ghost use Rattle.hippo_engine.specs.Effects.{row_limit, question_rows, within_limit, listed};
@@ -274,7 +274,6 @@ impl Engine {
         requires sound { IsSound self.old.state }
         requires ready { IsReady true (P.state keeper.old) }
         requires told { (P.state keeper.old).tells → HasLoaded self.old.state (P.state keeper.old).kept }
-        requires read { statement_in text.now ≡ Good (stmt.Select select.now start end) }
         ensures carries { Carries (state session (stmt.Select select.now start end) text.now) result self.old self.new
             (P.state keeper.old) (P.state keeper.new) }
         ensures unwritten { result ≢ Bad WriteFailed }
@@ -317,7 +316,6 @@ impl Engine {
         requires sound { IsSound self.old.state }
         requires ready { IsReady true (P.state keeper.old) }
         requires told { (P.state keeper.old).tells → HasLoaded self.old.state (P.state keeper.old).kept }
-        requires read { statement_in text.now ≡ Good (stmt.Ask select.now start end) }
         ensures carries { Carries (state session (stmt.Ask select.now start end) text.now) result self.old self.new
             (P.state keeper.old) (P.state keeper.new) }
         ensures unwritten { result ≢ Bad WriteFailed }
