@@ -22,7 +22,8 @@ abbrev pub consumed : Position → ℕ
 consumed reader = reader.taken - length reader.waiting
 
 -- Of the input, the reader has handed out these lines, and the source tells the bytes that it did not take.
-pub record HasHandedOut (input : List ℕ) (handed : List LineText) (reader : Position) (left : Option (List ℕ)) : Type 0 where
+pub record HasHandedOut (input : List ℕ) (handed : List LineText) (reader : Position) (left : Option (List ℕ))
+    : Type 0 where
   pub unfailed : reader.failure ≡ None
   pub within : reader.taken ≤ length input
   pub told : left ≡ Some (drop reader.taken input)
@@ -38,7 +39,8 @@ abbrev pub whole_lines : List ℕ → ℕ → List LineText
 whole_lines input n = take (feeds (take n input)) (lines input)
 
 -- The reader has given up: the lines handed out are those whose line feeds were taken, up to the limit.
-pub record HasGivenUp (input : List ℕ) (handed : List LineText) (reader : Position) (left : Option (List ℕ)) : Type 0 where
+pub record HasGivenUp (input : List ℕ) (handed : List LineText) (reader : Position) (left : Option (List ℕ))
+    : Type 0 where
   pub within : reader.taken ≤ length input
   pub told : left ≡ Some (drop reader.taken input)
   pub whole : handed ≡ whole_lines input (min reader.taken input_limit)
@@ -54,7 +56,8 @@ abbrev pub MovesOn : Line → ℕ → ℕ → Type 0
 MovesOn line before after = IfSome (line_text line) (λ text. before < after)
 
 -- What a call for the next line does to a reader, between the bytes that its source tells before and after.
-pub record NextLine (before after : Position) (left_before left_after : Option (List ℕ)) (result : Result Line LineFault) : Type 0 where
+pub record NextLine (before after : Position) (left_before left_after : Option (List ℕ))
+    (result : Result Line LineFault) : Type 0 where
   -- whatever lines of whatever input were handed out before: the answer is the next one
   pub line : IfOk result (λ line. (input : List ℕ) (handed : List LineText)
       → HasHandedOut input handed before left_before → HandsOut input handed line after left_after)

@@ -34,7 +34,8 @@ abbrev pub Loses : Option (List ℕ) → Option (List ℕ) → ℕ → Type 0
 Loses old new n = (told : List ℕ) → old ≡ Some told → (n ≤ length told) × (new ≡ Some (drop n told))
 
 -- no more bytes wait: of those up to the limit, none was taken
-pub record FailsToRefill (before after : Position) (left_before left_after : Option (List ℕ)) (fault : LineFault) : Type 0 where
+pub record FailsToRefill (before after : Position) (left_before left_after : Option (List ℕ)) (fault : LineFault)
+    : Type 0 where
   pub failure : after.failure ≡ Some fault
   pub limit : min after.taken input_limit ≡ before.taken
   pub later : before.taken ≤ after.taken

@@ -61,7 +61,8 @@ impl Sink for MemorySink {
     fn write(&mut self, piece: &[u8]) -> Result<usize, Failed>
         ensures count { IfOk result (λ n. n ≤ length piece.now) }
         ensures some { IfOk result (λ n. 0 < length piece.now → 0 < n) }
-        ensures appended { IfOk result (λ n. Appends (Some self.old.written) (Some self.new.written) (take n piece.now)) }
+        ensures appended { IfOk result
+            (λ n. Appends (Some self.old.written) (Some self.new.written) (take n piece.now)) }
         ensures failed { OnErr result (Keeps (Some self.old.written) (Some self.new.written)) }
         ensures cause { OnErr result (HasRisen self.old.tally.faults self.new.tally.faults) }
         ensures unfailed { OnOk result (self.new.tally.faults ≡ self.old.tally.faults) }

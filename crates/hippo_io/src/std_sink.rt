@@ -35,7 +35,8 @@ impl<W: Write> Sink for StdSink<W> {
     fn write(&mut self, piece: &[u8]) -> Result<usize, Failed>
         ensures count { IfOk result (λ n. n ≤ length piece.now) }
         ensures some { IfOk result (λ n. 0 < length piece.now → 0 < n) }
-        ensures appended { IfOk result (λ n. Appends (W.contents (writer_of self.old)) (W.contents (writer_of self.new)) (take n piece.now)) }
+        ensures appended { IfOk result
+            (λ n. Appends (W.contents (writer_of self.old)) (W.contents (writer_of self.new)) (take n piece.now)) }
         ensures failed { OnErr result (Keeps (W.contents (writer_of self.old)) (W.contents (writer_of self.new))) }
         ensures cause { OnErr result (HasRisen (write_faults self.old) (write_faults self.new)) }
         ensures unfailed { OnOk result (write_faults self.new ≡ write_faults self.old) }

@@ -32,7 +32,8 @@ impl<R: Read> Source for StdSource<R> {
 
     fn read(&mut self, buffer: &mut [u8]) -> Result<usize, Failed>
         ensures count { IfOk result (λ n. n ≤ length buffer.old) }
-        ensures taken { IfOk result (λ n. Takes (R.remaining (reader_of self.old)) (R.remaining (reader_of self.new)) n buffer.new) }
+        ensures taken { IfOk result
+            (λ n. Takes (R.remaining (reader_of self.old)) (R.remaining (reader_of self.new)) n buffer.new) }
         ensures end { IfOk result (λ n. n ≡ 0 → 0 < length buffer.old → IsAtEnd (R.remaining (reader_of self.old))) }
         ensures failed { OnErr result (Keeps (R.remaining (reader_of self.old)) (R.remaining (reader_of self.new))) }
         ensures cause { OnErr result (HasRisen (read_faults self.old) (read_faults self.new)) }

@@ -48,42 +48,37 @@ abbrev pub logout_of : List Txt → Option Request
 logout_of [] = Some logs_out
 logout_of (word ∷ words) = None
 
+-- the number that the one word writes, from 1
+abbrev pub one_number : ℕ → List Txt → Option ℕ
+one_number most arguments = option_and_then (number_in 1 most) (only arguments)
+
+-- the numbers that the two words write, each from 1
+abbrev pub two_numbers : ℕ → ℕ → List Txt → Option (ℕ × ℕ)
+two_numbers most most_behind arguments = do
+  (word, behind) ← two arguments
+  number ← number_in 1 most word
+  other ← number_in 1 most_behind behind
+  Some (number, other)
+
 -- fetch CURSOR COUNT
 abbrev pub fetch_of : List Txt → Option Request
-fetch_of arguments = do
-  (cursor, count) ← two arguments
-  place ← number_in 1 cursor_limit cursor
-  rows ← number_in 1 fetch_limit count
-  Some (fetches place rows)
+fetch_of arguments = option_map (λ (cursor, count). fetches cursor count) (two_numbers cursor_limit fetch_limit arguments)
 
 -- close CURSOR
 abbrev pub close_of : List Txt → Option Request
-close_of arguments = do
-  cursor ← only arguments
-  place ← number_in 1 cursor_limit cursor
-  Some (closes place)
+close_of arguments = option_map closes (one_number cursor_limit arguments)
 
 -- step JOB COUNT
 abbrev pub step_of : List Txt → Option Request
-step_of arguments = do
-  (job, count) ← two arguments
-  place ← number_in 1 job_limit job
-  entries ← number_in 1 step_limit count
-  Some (steps place entries)
+step_of arguments = option_map (λ (job, count). steps job count) (two_numbers job_limit step_limit arguments)
 
 -- drop JOB
 abbrev pub drop_of : List Txt → Option Request
-drop_of arguments = do
-  job ← only arguments
-  place ← number_in 1 job_limit job
-  Some (drops place)
+drop_of arguments = option_map drops (one_number job_limit arguments)
 
 -- unwatch WATCH
 abbrev pub unwatch_of : List Txt → Option Request
-unwatch_of arguments = do
-  watch ← only arguments
-  place ← number_in 1 watch_limit watch
-  Some (unwatches place)
+unwatch_of arguments = option_map unwatches (one_number watch_limit arguments)
 
 -- load TABLE RECORD: all that stands behind the one space behind TABLE is the record
 abbrev pub load_of : Txt → Option Request

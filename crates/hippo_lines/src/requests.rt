@@ -1,7 +1,7 @@
 //! What a short word asks for, with the words behind it.
 ghost use Rattle.std.specs.Prelude.{◌≡◌, option_map};
 ghost use Rattle.hippo_lines.specs.Words.{words_of};
-ghost use Rattle.hippo_lines.specs.Forms.{login_of, logout_of, fetch_of, close_of, step_of, drop_of, unwatch_of, load_of, request_by};
+ghost use Rattle.hippo_lines.specs.Forms.{login_of, logout_of, one_number, two_numbers, fetch_of, close_of, step_of, drop_of, unwatch_of, load_of, request_by};
 ghost use Rattle.hippo_lines.specs.Lent.{request};
 
 use crate::forms::RequestForm;
@@ -31,44 +31,55 @@ fn logout_of(arguments: &str) -> Option<RequestForm<'_>>
     }
 }
 
+// The number that the one word writes, from 1.
+fn one_number(arguments: &str, most: u8) -> Option<u8>
+    ensures { result ≡ one_number most (words_of arguments.now) }
+{
+    small_number(only_word(arguments)?, 1, most)
+}
+
+// The numbers that the two words write, each from 1.
+fn two_numbers(arguments: &str, most: u8, most_behind: u32) -> Option<(u8, u32)>
+    ensures { result ≡ two_numbers most most_behind (words_of arguments.now) }
+{
+    let (word, behind) = two_words(arguments)?;
+    let first = small_number(word, 1, most)?;
+    let second = number(behind, 1, most_behind)?;
+    Some((first, second))
+}
+
 fn fetch_of(arguments: &str) -> Option<RequestForm<'_>>
     ensures { option_map request result ≡ fetch_of (words_of arguments.now) }
 {
-    let (cursor, count) = two_words(arguments)?;
-    Some(RequestForm::Fetch {
-        cursor: small_number(cursor, 1, CURSOR_LIMIT)?,
-        count: number(count, 1, FETCH_LIMIT)?,
-    })
+    let (cursor, count) = two_numbers(arguments, CURSOR_LIMIT, FETCH_LIMIT)?;
+    Some(RequestForm::Fetch { cursor, count })
 }
 
 fn close_of(arguments: &str) -> Option<RequestForm<'_>>
     ensures { option_map request result ≡ close_of (words_of arguments.now) }
 {
-    let cursor = small_number(only_word(arguments)?, 1, CURSOR_LIMIT)?;
+    let cursor = one_number(arguments, CURSOR_LIMIT)?;
     Some(RequestForm::Close { cursor })
 }
 
 fn step_of(arguments: &str) -> Option<RequestForm<'_>>
     ensures { option_map request result ≡ step_of (words_of arguments.now) }
 {
-    let (job, count) = two_words(arguments)?;
-    Some(RequestForm::Step {
-        job: small_number(job, 1, JOB_LIMIT)?,
-        count: number(count, 1, STEP_LIMIT)?,
-    })
+    let (job, count) = two_numbers(arguments, JOB_LIMIT, STEP_LIMIT)?;
+    Some(RequestForm::Step { job, count })
 }
 
 fn drop_of(arguments: &str) -> Option<RequestForm<'_>>
     ensures { option_map request result ≡ drop_of (words_of arguments.now) }
 {
-    let job = small_number(only_word(arguments)?, 1, JOB_LIMIT)?;
+    let job = one_number(arguments, JOB_LIMIT)?;
     Some(RequestForm::Drop { job })
 }
 
 fn unwatch_of(arguments: &str) -> Option<RequestForm<'_>>
     ensures { option_map request result ≡ unwatch_of (words_of arguments.now) }
 {
-    let watch = small_number(only_word(arguments)?, 1, WATCH_LIMIT)?;
+    let watch = one_number(arguments, WATCH_LIMIT)?;
     Some(RequestForm::Unwatch { watch })
 }
 

@@ -4,12 +4,12 @@ use Rattle.std.specs.Ordering.{is_le, ordering_index}
 use Rattle.std.specs.declared.cmp.Ordering.{Ordering}
 use Rattle.std.specs.declared.cmp.Ordering.TheVariants.{Less, Equal, Greater}
 use Rattle.std.specs.List.{AllWithin, HoldsAt}
-use Rattle.std.specs.List.Sorted.{IsNonDecreasingBy, IsPartitionPoint, IsPartitionedBy}
+use Rattle.std.specs.List.Sorted.{IsNonDecreasingBy, IsPartitionPoint}
 use Rattle.std.proofs.lemmas.Bool.{cases_lt, false≢true}
 use Rattle.std.proofs.lemmas.List.{length-map}
 use Rattle.std.proofs.lemmas.List.Concat.{get_or-flat_map}
 use Rattle.hippo_model.specs.declared.pieces.Piece.{Piece}
-use Rattle.hippo_model.specs.Pieces.{contents, joined, start_of, AreFull, begins_low}
+use Rattle.hippo_model.specs.Pieces.{contents, joined, start_of, AreFull, begins_low, PartsLow}
 use Rattle.hippo_model.proofs.PiecesLemmas.{piece_at, start_of-next, start_of-rises, start_of-end, start_of-within}
 
 greater_from : (o : Ordering) → 2 ≤ ordering_index o → o ≡ Greater
@@ -119,7 +119,22 @@ module _ {A : Type 0} (order : A → Ordering) where
             ]
           ]
 
-  module _ (pieces : List (Piece A)) (full : AreFull (contents pieces)) (split : ℕ) (range : split ≤ length pieces) (clause : IsPartitionedBy (λ (piece : Piece A). begins_low order piece.members.items) pieces → IsPartitionPoint (λ (piece : Piece A). begins_low order piece.members.items ≡ true) (λ (piece : Piece A). begins_low order piece.members.items ≡ false) pieces split) where
+  abbrev pub IsFound : List A → ℕ → Type 0
+  IsFound = HoldsAt (λ member. order member ≡ Equal)
+
+  abbrev pub Parts : List A → ℕ → Type 0
+  Parts members place = IsNonDecreasingBy (λ member. ordering_index (order member)) members
+      → IsPartitionPoint (λ member. order member ≡ Less) (λ member. order member ≡ Greater) members place
+
+  -- The pieces are those of these rows, and so many of them begin low.
+  module _ (rows : List A) {value : List (Piece A)} (pieces : List (Piece A)) (same : pieces ≡ value) (invariant : AreFull (contents value)) (view : joined (contents value) ≡ rows)
+      (split : ℕ) (range : split ≤ length pieces) (clause : PartsLow order pieces split) where
+    full : AreFull (contents pieces)
+    full = subst (λ (held : List (Piece A)). AreFull (contents held)) (sym same) invariant
+
+    whole : joined (contents pieces) ≡ rows
+    whole = ap (λ (held : List (Piece A)). joined (contents held)) same ∙ view
+
     size : length (contents pieces) ≡ length pieces
     size = length-map pieces (λ (piece : Piece A). piece.members.items)
 
@@ -128,8 +143,8 @@ module _ {A : Type 0} (order : A → Ordering) where
         rw (← piece_at pieces i d (omega arith)) (lows_first (contents pieces) full rises i j before (omega (arith, size)) (rw (piece_at pieces j d within) low)))
 
     -- no piece begins low
-    pub missing_before : split ≡ 0 → IsNonDecreasingBy (λ member. ordering_index (order member)) (joined (contents pieces)) → IsPartitionPoint (λ member. order member ≡ Less) (λ member. order member ≡ Greater) (joined (contents pieces)) 0
-    missing_before none rises = (λ k d from inside. absurd (omega arith), λ k d from inside. above k d from inside)
+    pub missing_before : split ≡ 0 → Parts rows 0
+    missing_before none = subst (λ (rows : List A). Parts rows 0) whole (λ rises. (λ k d from inside. absurd (omega arith), above rises))
       where
         some_piece : (ps : List (Piece A)) → 0 < length (joined (contents ps)) → Piece A
         some_piece [] some = absurd (omega arith)
@@ -139,8 +154,8 @@ module _ {A : Type 0} (order : A → Ordering) where
         some_left [] some = absurd (omega arith)
         some_left (first ∷ rest) some = omega arith
 
-        above : AllWithin (λ member. order member ≡ Greater) (joined (contents pieces)) 0 (length (joined (contents pieces)))
-        above k d low inside =
+        above : IsNonDecreasingBy (λ member. ordering_index (order member)) (joined (contents pieces)) → AllWithin (λ member. order member ≡ Greater) (joined (contents pieces)) 0 (length (joined (contents pieces)))
+        above rises k d low inside =
             let some : 0 < length pieces = some_left pieces (omega arith) in
             let p : Piece A = some_piece pieces (omega arith) in
             let high = (parted rises).1 0 p (omega arith) some in
@@ -156,18 +171,18 @@ module _ {A : Type 0} (order : A → Ordering) where
       held : get_or (contents pieces) i [] ≡ piece.members.items
       held = piece_at pieces i piece in_pieces ∙ ap (λ (piece : Piece A). piece.members.items) (sym read)
 
-      pub ends_inside : start_of (contents pieces) i + length piece.members.items ≤ length (joined (contents pieces))
-      ends_inside = omega (arith, ap length held, start_of-next (contents pieces) i in_range, start_of-within (contents pieces) (suc i))
+      pub ends_inside : start_of (contents pieces) i + length piece.members.items ≤ length rows
+      ends_inside = omega (arith, ap length whole, ap length held, start_of-next (contents pieces) i in_range, start_of-within (contents pieces) (suc i))
 
       -- the member is found in the last piece that begins low
-      pub found_in : (place : ℕ) → place < length piece.members.items → HoldsAt (λ member. order member ≡ Equal) piece.members.items place → HoldsAt (λ member. order member ≡ Equal) (joined (contents pieces)) (start_of (contents pieces) i + place)
-      found_in place range equal d =
-          ap order (get_or-flat_map (λ members. members) (contents pieces) i place [] d in_range (rw held range) ∙ ap (λ members. get_or members place d) held) ∙ equal d
+      pub found_in : (place : ℕ) → place < length piece.members.items → IsFound piece.members.items place → IsFound rows (start_of (contents pieces) i + place)
+      found_in place range equal = subst (λ (rows : List A). IsFound rows (start_of (contents pieces) i + place)) whole (λ d.
+          ap order (get_or-flat_map (λ members. members) (contents pieces) i place [] d in_range (rw held range) ∙ ap (λ members. get_or members place d) held) ∙ equal d)
 
       -- or it would stand there
-      pub missing_in : (place : ℕ) → place ≤ length piece.members.items → (IsNonDecreasingBy (λ member. ordering_index (order member)) piece.members.items → IsPartitionPoint (λ member. order member ≡ Less) (λ member. order member ≡ Greater) piece.members.items place) → IsNonDecreasingBy (λ member. ordering_index (order member)) (joined (contents pieces)) → IsPartitionPoint (λ member. order member ≡ Less) (λ member. order member ≡ Greater) (joined (contents pieces)) (start_of (contents pieces) i + place)
-      missing_in place range missing rises =
+      pub missing_in : (place : ℕ) → place ≤ length piece.members.items → Parts piece.members.items place → Parts rows (start_of (contents pieces) i + place)
+      missing_in place range missing = subst (λ (rows : List A). Parts rows (start_of (contents pieces) i + place)) whole (λ rises.
           let low : begins_low order (get_or (contents pieces) i []) ≡ true = ap (begins_low order) (piece_at pieces i piece in_pieces) ∙ (parted rises).0 i piece (omega arith) (omega arith) in
           let next : suc i < length (contents pieces) → begins_low order (get_or (contents pieces) (suc i) []) ≡ false = λ more. ap (begins_low order) (piece_at pieces (suc i) piece (omega (arith, size))) ∙ (parted rises).1 (suc i) piece (omega arith) (omega (arith, size)) in
-          let parts = subst (λ (members : List A). IsNonDecreasingBy (λ member. ordering_index (order member)) members → IsPartitionPoint (λ member. order member ≡ Less) (λ member. order member ≡ Greater) members place) (sym held) missing (rises_here (contents pieces) full rises i in_range low next) in
-          (below (contents pieces) full rises i in_range low next place (rw held range) parts, above (contents pieces) full rises i in_range low next place (rw held range) parts)
+          let parts = subst (λ (members : List A). Parts members place) (sym held) missing (rises_here (contents pieces) full rises i in_range low next) in
+          (below (contents pieces) full rises i in_range low next place (rw held range) parts, above (contents pieces) full rises i in_range low next place (rw held range) parts))

@@ -1,6 +1,7 @@
 -- A list that is held in pieces.
-use Rattle.std.specs.Prelude.{◌≡◌, ℕ, ◌+◌, ◌<◌, ◌≤◌, Bool, false, List, [], ◌∷◌, length, map, take, slice_index_or, ◌++◌}
+use Rattle.std.specs.Prelude.{◌≡◌, ℕ, ◌+◌, ◌<◌, ◌≤◌, Bool, true, false, List, [], ◌∷◌, length, map, take, slice_index_or, ◌++◌}
 use Rattle.std.specs.List.{flat_map}
+use Rattle.std.specs.List.Sorted.{IsPartitionPoint, IsPartitionedBy}
 use Rattle.std.specs.Ordering.{is_le}
 use Rattle.std.specs.declared.cmp.Ordering.{Ordering}
 use Rattle.hippo_model.specs.declared.pieces.Piece.{Piece}
@@ -53,3 +54,9 @@ pub record IsCut {A : Type 0} (old lower upper : Piece A) : Type 0 where
 abbrev pub begins_low : {A : Type 0} → (A → Ordering) → List A → Bool
 begins_low order [] = false
 begins_low order (first ∷ rest) = is_le (order first)
+
+-- so many pieces begin low, where those that do come first
+abbrev pub PartsLow : {A : Type 0} → (A → Ordering) → List (Piece A) → ℕ → Type 0
+PartsLow order pieces count = IsPartitionedBy (λ piece. begins_low order piece.members.items) pieces
+    → IsPartitionPoint (λ piece. begins_low order piece.members.items ≡ true)
+        (λ piece. begins_low order piece.members.items ≡ false) pieces count

@@ -1,9 +1,9 @@
 //! A table's rows in the order of their keys.
-ghost use Rattle.std.specs.Prelude.{◌≡◌, ◌<◌, ◌↔◌, [], length, map, option_map, slice_get, Some, IsTrue, OnOk, OnErr, IsOk, IsSome, IfSome};
+ghost use Rattle.std.specs.Prelude.{◌≡◌, ◌<◌, ◌≤◌, ◌↔◌, [], length, map, option_map, slice_get, Some, IsTrue, OnOk, OnErr, IsOk, IsSome, IfSome};
 ghost use Rattle.std.specs.List.Sorted.{IsSearchInRange, IsBinarySearchResult};
 ghost use Rattle.hippo_values.specs.Order.{value_cmp, cells_cmp};
 ghost use Rattle.hippo_model.specs.Rows.{cell_at, key_of};
-ghost use Rattle.hippo_model.specs.Pieces.{begins_low};
+ghost use Rattle.hippo_model.specs.Pieces.{begins_low, PartsLow};
 ghost use Rattle.hippo_model.specs.Searches.{sought_order};
 ghost use Rattle.hippo_model.specs.RowSets.{IsAscending, key_in, with_row, without_row, find_row};
 
@@ -76,6 +76,14 @@ fn begins_low(piece: &Piece<BornRow>, places: &[usize], sought: &Sought<'_>) -> 
     }
 }
 
+// How many pieces begin so, where those that do come first.
+fn low_pieces(pieces: &[Piece<BornRow>], places: &[usize], sought: &Sought<'_>) -> usize
+    ensures bound { result ≤ length pieces.now }
+    ensures parted { PartsLow (sought_order places.now sought.now) pieces.now result }
+{
+    pieces.partition_point(|piece| begins_low(piece, places, sought))
+}
+
 // The place of the row that is looked for in a piece, or else where it would stand.
 fn search_piece(
     piece: &Piece<BornRow>,
@@ -99,7 +107,7 @@ fn search(rows: &Pieces<BornRow>, places: &[usize], sought: &Sought<'_>) -> Resu
         return Err(0);
     }
     let pieces = rows.pieces.as_slice();
-    let low = pieces.partition_point(|piece| begins_low(piece, places, sought));
+    let low = low_pieces(pieces, places, sought);
     if low == 0 {
         return Err(0);
     }

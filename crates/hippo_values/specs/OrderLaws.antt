@@ -29,7 +29,8 @@ by_parts a b = ordering_then (nat_cmp (kind_rank a) (kind_rank b))
     (ordering_then (int_cmp (number_in a) (number_in b)) (slice_cmp nat_cmp (text_in a) (text_in b)))
 
 by_parts_total : IsTotalOrder by_parts
-by_parts_total = then_total (on_total kind_rank nat_cmp_total) (then_total (on_total number_in int_cmp_total) (on_total text_in nat_list_cmp_total))
+by_parts_total = then_total (on_total kind_rank nat_cmp_total)
+    (then_total (on_total number_in int_cmp_total) (on_total text_in nat_list_cmp_total))
 
 then_equal : (order : Ordering) → order ≡ ordering_then order Equal
 then_equal Less = refl

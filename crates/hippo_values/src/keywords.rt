@@ -184,7 +184,8 @@ fn find_between(
 ) -> Option<Reserved>
     requires order { start ≤ end }
     requires within { end ≤ length table.now }
-    ensures { result ≡ lookup (λ known. bytes_eq known (folded word.now)) (take (end - start) (drop start (map (λ e. (folded e.0.now, e.1)) table.now))) }
+    ensures { result ≡ lookup (λ known. bytes_eq known (folded word.now))
+        (take (end - start) (drop start (map (λ e. (folded e.0.now, e.1)) table.now))) }
 {
     find_word(&table[start..end], word)
 }
