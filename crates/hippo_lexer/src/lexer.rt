@@ -12,8 +12,8 @@ use crate::parts::{token_first, without_blanks};
 use hippo_values::Sequence;
 use std::alloc::Global;
 
-// How many bytes a token takes with the blanks before it, about.
-const TOKEN_LENGTH: usize = 4;
+// How many bytes a token takes with the blanks before it, at least about.
+const TOKEN_LENGTH: usize = 3;
 
 fn cut_tokens(alloc: Global, text: &str) -> Result<Tokens, LexFault>
     ensures { Gives result (outcome_of text.now) }

@@ -4,7 +4,7 @@ use crate::cells::Cells;
 use crate::entry::{Act, ItemKind};
 use crate::query::CondOf;
 use crate::schema::{Columns, Names, Places};
-use hippo_values::{Name, Sequence, Txt, Value};
+use hippo_values::{Boxed, Name, Sequence, Txt, Value};
 
 /// A column as it is written, with its table or without.
 #[derive(Debug, Drop, PartialEq, Eq)]
@@ -15,9 +15,10 @@ pub struct RawColumn {
 
 pub type RawColumns = Sequence<RawColumn>;
 
+/// What a condition compares, as it is written. The column is boxed, since conditions are moved often.
 #[derive(Debug, Drop, PartialEq, Eq)]
 pub enum RawOperand {
-    Column(RawColumn),
+    Column(Boxed<RawColumn>),
     Literal(Value),
 }
 

@@ -57,13 +57,19 @@ fn begins_with_name(tokens: &[Token]) -> bool
     matches!(split(tokens), Some((TokenKind::Word(_), _)))
 }
 
+fn column_operand(alloc: Global, column: RawColumn) -> Result<RawOperand, SyntaxFault>
+    ensures { Gives (λ made. made) result (Some (RawOperand.Column column)) }
+{
+    Ok(RawOperand::Column(Boxed::new(alloc, column)?))
+}
+
 /// The operand that has to stand first, and the tokens behind it.
 pub fn operand(alloc: Global, tokens: &[Token]) -> Result<(RawOperand, &[Token]), SyntaxFault>
     ensures { Reads leading_operand tokens.now result }
 {
     if begins_with_name(tokens) {
         let (found, rest) = column(alloc, tokens)?;
-        return Ok((RawOperand::Column(found), rest));
+        return Ok((column_operand(alloc, found)?, rest));
     }
     let (found, rest) = literal(alloc, tokens)?;
     Ok((RawOperand::Literal(found), rest))

@@ -38,7 +38,7 @@ fn found_operand(
     ensures { Resolves (operand_refused tables.now operand.now) (operand_of tables.now operand.now) result }
 {
     match operand {
-        RawOperand::Column(written) => column_operand(alloc, tables, written),
+        RawOperand::Column(written) => column_operand(alloc, tables, written.get()),
         RawOperand::Literal(value) => literal_operand(alloc, value),
     }
 }
