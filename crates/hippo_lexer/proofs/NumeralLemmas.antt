@@ -1,9 +1,9 @@
 -- Numbers by their spelling.
-use Rattle.std.proofs.Common.{◌≡◌, ℕ, ◌+◌, ◌^◌, ◌<◌, ◌≤◌, ◌⊎◌, true, false, cond, ◌||◌, List, [], ◌∷◌, ◌++◌, length, take, drop, Some, None, Ok, Err, ok_or, if◌then◌else◌, refl, sym, ap, ◌∙◌, inl, inr, arith, one-add, zero-add, ℤ, pos, negsuc, ltb, leb, ◌==◌, neg_ℤ}
+use Rattle.std.proofs.Common.{◌≡◌, ℕ, ◌+◌, ◌^◌, ◌<◌, ◌≤◌, ◌⊎◌, true, false, cond, ◌||◌, List, [], ◌∷◌, ◌++◌, length, take, drop, Some, None, Ok, Err, ok_or, if◌then◌else◌, refl, sym, ap, subst, ◌∙◌, inl, inr, arith, one-add, zero-add, ℤ, pos, negsuc, ltb, leb, ◌==◌, neg_ℤ}
 use Rattle.std.specs.List.{list_all}
 use Rattle.std.specs.Char.{is_ascii_alphabetic, is_ascii_digit}
 use Rattle.std.specs.Str.Parse.{digits_value}
-use Rattle.std.proofs.lemmas.Bool.{cases_Bool, cases_lt, and_parts, both_ways, eqb-true, ne_eqb, lt-ltb, le-ltb, le-leb, lt-leb, leb-true}
+use Rattle.std.proofs.lemmas.Bool.{cases_Bool, false≢true, and_parts, both_ways, eqb-true, ne_eqb, leb-true}
 use Rattle.std.proofs.lemmas.Bool.Decides.{nat_tests}
 use Rattle.std.proofs.lemmas.Int.{ints}
 use Rattle.std.proofs.lemmas.List.{take_at, drop_at, take-append-drop}
@@ -11,8 +11,10 @@ use Rattle.hippo_values.specs.Names.{is_word_byte}
 use Rattle.hippo_lexer.specs.declared.kinds.TokenKind.TheVariants as kinds
 use Rattle.hippo_lexer.specs.declared.faults.LexFault.TheVariants as faults
 use Rattle.hippo_lexer.specs.Spelling.{is_minus, begins_with}
-use Rattle.hippo_lexer.specs.Cutting.{digits_len, sign_len, number_len, number_of, number_first, ◌>>=◌}
-use Rattle.hippo_lexer.specs.Grammar.{AreDigits, IsNumber, plain, negative, IsInRange}
+use Rattle.hippo_lexer.specs.Cutting.{digits_len, sign_len, number_len, if_in_range, number_of, number_first, ◌>>=◌}
+use Rattle.hippo_values.specs.Moments.{is_signed_number, IsSignedNumber}
+use Rattle.hippo_lexer.specs.Grammar.{AreDigits, IsNumber, plain, negative}
+use Rattle.hippo_lexer.proofs.NumberLemmas.{fits-signed, signed-fits}
 use Rattle.hippo_lexer.proofs.PrefixLemmas.{all-front, ends-front, len-front}
 
 digit_bounds : (byte : ℕ) → is_ascii_digit byte ≡ true → (48 ≤ byte) × (byte ≤ 57)
@@ -48,45 +50,32 @@ number_lens : (text rest : List ℕ) (number : ℤ) → IsNumber text number →
 number_lens text rest number (plain _ _ are value) ends = plain_lens text rest are ends
 number_lens text rest number (negative _ digits _ are spelled value) ends = rw spelled (negative_lens digits rest are ends)
 
-plain_choice : (n : ℕ) (number : ℤ) → number ≡ pos n → (IsInRange number → cond (ltb n (2 ^ 63)) (Some (pos n)) None ≡ Some number) × (¬ (IsInRange number) → cond (ltb n (2 ^ 63)) (Some (pos n)) None ≡ None)
-plain_choice n number value = elim (cases_lt n (2 ^ 63)) [
-  | inl small ↦
-      let fits : IsInRange number = rw value (omega (arith, ints), omega (arith, ints)) in
-      (λ _. rw (lt-ltb n (2 ^ 63) small) (ap Some (sym value)), λ large. absurd (large fits))
-  | inr big ↦ (λ fits. absurd (omega (arith, ints, fits.1)), λ _. rw (le-ltb n (2 ^ 63) big) refl)
-]
-
-negative_choice : (n : ℕ) (number : ℤ) → number ≡ neg_ℤ (pos n) → (IsInRange number → cond (leb n (2 ^ 63)) (Some (neg_ℤ (pos n))) None ≡ Some number) × (¬ (IsInRange number) → cond (leb n (2 ^ 63)) (Some (neg_ℤ (pos n))) None ≡ None)
-negative_choice n number value = elim (cases_lt (2 ^ 63) n) [
-  | inl big ↦ (λ fits. absurd (omega (arith, ints, fits.0)), λ _. rw (lt-leb n (2 ^ 63) big) refl)
-  | inr small ↦
-      let fits : IsInRange number = rw value (omega (arith, ints), omega (arith, ints)) in
-      (λ _. rw (le-leb n (2 ^ 63) small) (ap Some (sym value)), λ large. absurd (large fits))
+-- a number is found where it fits, and only there
+choice : (number written : ℤ) → number ≡ written → (IsSignedNumber number → if_in_range written ≡ Some number) × (¬ (IsSignedNumber number) → if_in_range written ≡ None)
+choice number written same = elim (cases_Bool (is_signed_number written)) [
+  | inl fits ↦ (λ _. rw fits (ap Some (sym same)), λ large. absurd (large (subst IsSignedNumber (sym same) (fits-signed written fits))))
+  | inr large ↦ (λ fits. absurd (false≢true (sym large ∙ signed-fits written (subst IsSignedNumber same fits))), λ _. rw large refl)
 ]
 
 -- a number's value is what the cut makes of its text
-plain_value : (digits : List ℕ) (number : ℤ) → AreDigits digits → number ≡ pos (digits_value 10 digits) → (IsInRange number → number_of digits ≡ Some number) × (¬ (IsInRange number) → number_of digits ≡ None)
+plain_value : (digits : List ℕ) (number : ℤ) → AreDigits digits → number ≡ pos (digits_value 10 digits) → (IsSignedNumber number → number_of digits ≡ Some number) × (¬ (IsSignedNumber number) → number_of digits ≡ None)
 unfolding number_of
 plain_value [] number are value = absurd (omega (arith, are.0))
 plain_value (digit ∷ digits) number are value =
-    rw (digit_no_minus digit (and_parts _ _ are.1).0) (plain_choice (digits_value 10 (digit ∷ digits)) number value)
+    rw (digit_no_minus digit (and_parts _ _ are.1).0) (choice number (pos (digits_value 10 (digit ∷ digits))) value)
 
-negative_value : (digits : List ℕ) (number : ℤ) → number ≡ neg_ℤ (pos (digits_value 10 digits)) → (IsInRange number → number_of (45 ∷ digits) ≡ Some number) × (¬ (IsInRange number) → number_of (45 ∷ digits) ≡ None)
+negative_value : (digits : List ℕ) (number : ℤ) → number ≡ neg_ℤ (pos (digits_value 10 digits)) → (IsSignedNumber number → number_of (45 ∷ digits) ≡ Some number) × (¬ (IsSignedNumber number) → number_of (45 ∷ digits) ≡ None)
 unfolding number_of
-negative_value digits number value = negative_choice (digits_value 10 digits) number value
+negative_value digits number value = choice number (neg_ℤ (pos (digits_value 10 digits))) value
 
-number_value : (text : List ℕ) (number : ℤ) → IsNumber text number → (IsInRange number → number_of text ≡ Some number) × (¬ (IsInRange number) → number_of text ≡ None)
+number_value : (text : List ℕ) (number : ℤ) → IsNumber text number → (IsSignedNumber number → number_of text ≡ Some number) × (¬ (IsSignedNumber number) → number_of text ≡ None)
 number_value text number (plain _ _ are value) = plain_value text number are value
 number_value text number (negative _ digits _ are spelled value) = rw spelled (negative_value digits number value)
 
-pub in_range_or_not : (number : ℤ) → IsInRange number ⊎ (¬ (IsInRange number))
-in_range_or_not (pos n) = elim (cases_lt n (2 ^ 63)) [
-  | inl small ↦ inl (omega (arith, ints), omega (arith, ints))
-  | inr big ↦ inr (λ fits. absurd (omega (arith, ints, fits.1)))
-]
-in_range_or_not (negsuc n) = elim (cases_lt n (2 ^ 63)) [
-  | inl small ↦ inl (omega (arith, ints), omega (arith, ints))
-  | inr big ↦ inr (λ fits. absurd (omega (arith, ints, fits.0)))
+pub in_range_or_not : (number : ℤ) → IsSignedNumber number ⊎ (¬ (IsSignedNumber number))
+in_range_or_not number = elim (cases_Bool (is_signed_number number)) [
+  | inl fits ↦ inl (fits-signed number fits)
+  | inr large ↦ inr (λ fits. false≢true (sym large ∙ signed-fits number fits))
 ]
 
 -- what the cut says of a number
@@ -97,15 +86,15 @@ number_step place text rest number h ends =
     let some : (number_len (text ++ rest) == sign_len (text ++ rest)) ≡ false = ne_eqb _ _ (λ same. omega (arith, lens.0, lens.1)) in
     rw (some, lens.0, take_at text rest (length text) refl, drop_at text rest (length text) refl) refl
 
-pub number-token : (place : ℕ) (text rest : List ℕ) (number : ℤ) → IsNumber text number → IsInRange number → begins_with is_word_byte rest ≡ false → number_first place (text ++ rest) ≡ Ok (kinds.Number number, length text)
+pub number-token : (place : ℕ) (text rest : List ℕ) (number : ℤ) → IsNumber text number → IsSignedNumber number → begins_with is_word_byte rest ≡ false → number_first place (text ++ rest) ≡ Ok (kinds.Number number, length text)
 number-token place text rest number h fits ends =
     number_step place text rest number h (ends_word rest ends) ∙ rw ((number_value text number h).0 fits, ends) refl
 
-pub number-letter : (place : ℕ) (text rest : List ℕ) (number : ℤ) → IsNumber text number → IsInRange number → begins_with is_ascii_digit rest ≡ false → begins_with is_word_byte rest ≡ true → number_first place (text ++ rest) ≡ Err (faults.BadToken (place + length text))
+pub number-letter : (place : ℕ) (text rest : List ℕ) (number : ℤ) → IsNumber text number → IsSignedNumber number → begins_with is_ascii_digit rest ≡ false → begins_with is_word_byte rest ≡ true → number_first place (text ++ rest) ≡ Err (faults.BadToken (place + length text))
 number-letter place text rest number h fits ends letter =
     number_step place text rest number h ends ∙ rw ((number_value text number h).0 fits, letter) refl
 
-pub number-large : (place : ℕ) (text rest : List ℕ) (number : ℤ) → IsNumber text number → ¬ (IsInRange number) → begins_with is_ascii_digit rest ≡ false → number_first place (text ++ rest) ≡ Err (faults.NumberTooLarge place)
+pub number-large : (place : ℕ) (text rest : List ℕ) (number : ℤ) → IsNumber text number → ¬ (IsSignedNumber number) → begins_with is_ascii_digit rest ≡ false → number_first place (text ++ rest) ≡ Err (faults.NumberTooLarge place)
 number-large place text rest number h large ends =
     number_step place text rest number h ends ∙ rw ((number_value text number h).1 large) refl
 

@@ -1,6 +1,7 @@
 -- How a text is cut into tokens, from the left. What the tokens are is said by the relation `IsOutcome`, and that
 -- `outcome_of` is a text's one outcome by it is proved.
 use Rattle.std.specs.Prelude.{◌≡◌, ℕ, zero, suc, ◌+◌, ◌-◌, ◌^◌, ◌<◌, ◌==◌, Bool, true, false, ◌||◌, List, [], ◌∷◌, length, take, drop, nat_lt, nat_le, bytes_eq, ℤ, pos, negsuc, neg_ℤ, ◌+ℤ◌, ◌++◌, Option, Some, None, Result, Ok, Err, option_map, ok_or, if◌then◌else◌}
+use Rattle.std.specs.Bool.{then_some}
 use Rattle.std.specs.Option.{option_or, option_map_or}
 use Rattle.std.specs.List.{prefix_len, list_all}
 use Rattle.std.specs.Char.{is_ascii_alphabetic, is_ascii_digit}
@@ -10,6 +11,7 @@ use Rattle.hippo_values.specs.declared.words.Word.TheVariants as words
 use Rattle.hippo_values.specs.Names.{is_word_byte}
 use Rattle.hippo_values.specs.Words.{word_of}
 use Rattle.hippo_values.specs.Dates.{day_text}
+use Rattle.hippo_values.specs.Moments.{first_day, day_count, is_signed_number}
 use Rattle.hippo_values.specs.declared.keywords.Keyword.TheVariants.{KDate}
 use Rattle.hippo_lexer.specs.declared.kinds.Symbol.{Symbol}
 use Rattle.hippo_lexer.specs.declared.kinds.TokenKind.{TokenKind}
@@ -59,13 +61,17 @@ blanks_len bytes = prefix_len is_blank bytes
 abbrev pub First : Type 0
 First = Result (TokenKind × ℕ) LexFault
 
+-- a number that fits in 64 bits
+abbrev pub if_in_range : ℤ → Option ℤ
+if_in_range number = then_some (is_signed_number number) number
+
 -- the number that digits write, behind a `-` or not; none where it does not fit
 unfoldable pub number_of : List ℕ → Option ℤ
 number_of [] = None
 number_of (first ∷ rest) =
     if is_minus first
-    then (if nat_le (digits_value 10 rest) (2 ^ 63) then Some (neg_ℤ (pos (digits_value 10 rest))) else None)
-    else (if nat_lt (digits_value 10 (first ∷ rest)) (2 ^ 63) then Some (pos (digits_value 10 (first ∷ rest))) else None)
+    then if_in_range (neg_ℤ (pos (digits_value 10 rest)))
+    else if_in_range (pos (digits_value 10 (first ∷ rest)))
 
 -- the length of the `-` at the front, and that of the number with it
 abbrev pub sign_len : List ℕ → ℕ
@@ -107,7 +113,7 @@ quoted_first (byte ∷ rest) = if is_quote byte then onto [] 1 (closing rest) el
 
 -- the n-th day, from the first one on
 abbrev pub nth_day : ℕ → ℤ
-nth_day n = negsuc 719161 +ℤ pos n
+nth_day n = first_day +ℤ pos n
 
 -- the day that a text writes, among so many of them
 unfoldable pub day_among : ℕ → List ℕ → Option ℤ
@@ -116,7 +122,7 @@ day_among (suc n) text = if bytes_eq text (day_text (nth_day n)) then Some (nth_
 
 -- the day that a text writes as YYYY-MM-DD, among all
 unfoldable pub day_of : List ℕ → Option ℤ
-day_of text = day_among 3652059 text
+day_of text = day_among day_count text
 
 -- whether a word is DATE
 abbrev pub is_date : TokenKind → Bool

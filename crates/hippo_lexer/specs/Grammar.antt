@@ -5,6 +5,8 @@ use Rattle.std.specs.Char.{is_ascii_alphabetic, is_ascii_digit}
 use Rattle.std.specs.Str.Parse.{digits_value}
 use Rattle.hippo_values.specs.Names.{folded, unsupported_words, is_among, is_word_byte, is_word, is_name, keyword_of}
 use Rattle.hippo_values.specs.Dates.{IsDayText}
+use Rattle.hippo_values.specs.Limits.{name_limit}
+use Rattle.hippo_values.specs.Moments.{IsSignedNumber}
 use Rattle.hippo_values.specs.declared.keywords.Keyword.{Keyword}
 use Rattle.hippo_values.specs.declared.keywords.Keyword.TheVariants.{KDate}
 use Rattle.hippo_lexer.specs.declared.kinds.Symbol.{Symbol}
@@ -31,10 +33,6 @@ pub data IsNumber : List ℕ → ℤ → Type 0 where
       → IsNumber digits number
   negative : (text digits : List ℕ) (number : ℤ) → AreDigits digits → text ≡ 45 ∷ digits
       → number ≡ neg_ℤ (pos (digits_value 10 digits)) → IsNumber text number
-
--- from -9223372036854775808 to 9223372036854775807
-abbrev pub IsInRange : ℤ → Type 0
-IsInRange number = (neg_ℤ (pos (2 ^ 63)) ≤ℤ number) × (number <ℤ pos (2 ^ 63))
 
 -- behind blanks or none a quoted text, and then what does not go on with it
 pub record IsQuotedBehind (behind blanks text rest : List ℕ) : Type 0 where
@@ -63,7 +61,7 @@ pub data IsToken : List ℕ → TokenKind → List ℕ → Type 0 where
       → IsToken word (kinds.Unsupported (folded word)) rest
   a_name : (word rest : List ℕ) → IsWholeWord word rest → is_name word ≡ true
       → IsToken word (kinds.Word (folded word)) rest
-  a_number : (text rest : List ℕ) (number : ℤ) → IsNumber text number → IsInRange number
+  a_number : (text rest : List ℕ) (number : ℤ) → IsNumber text number → IsSignedNumber number
       → begins_with is_word_byte rest ≡ false → IsToken text (kinds.Number number) rest
   a_quoted_text : (written text rest : List ℕ) → written ≡ quoted text → begins_with is_quote rest ≡ false
       → IsToken written (kinds.Quoted text) rest
@@ -87,13 +85,14 @@ pub record IsStray (byte : ℕ) (rest : List ℕ) : Type 0 where
 -- which to the end each other quote is doubled; DATE with a quoted text that is no day; a byte with which nothing
 -- begins.
 pub data IsFault : ℕ → List ℕ → LexFault → Type 0 where
-  long_word : (place : ℕ) (bytes word rest : List ℕ) → IsWholeWord word rest → 63 < length word
+  long_word : (place : ℕ) (bytes word rest : List ℕ) → IsWholeWord word rest → name_limit < length word
       → bytes ≡ word ++ rest → IsFault place bytes (faults.BadToken place)
-  letter_behind : (place at : ℕ) (bytes text rest : List ℕ) (number : ℤ) → IsNumber text number → IsInRange number
+  letter_behind : (place at : ℕ) (bytes text rest : List ℕ) (number : ℤ) → IsNumber text number → IsSignedNumber number
       → begins_with is_ascii_digit rest ≡ false → begins_with is_word_byte rest ≡ true → bytes ≡ text ++ rest
       → at ≡ place + length text → IsFault place bytes (faults.BadToken at)
-  large : (place : ℕ) (bytes text rest : List ℕ) (number : ℤ) → IsNumber text number → ¬ (IsInRange number)
-      → begins_with is_ascii_digit rest ≡ false → bytes ≡ text ++ rest → IsFault place bytes (faults.NumberTooLarge place)
+  large : (place : ℕ) (bytes text rest : List ℕ) (number : ℤ) → IsNumber text number → ¬ (IsSignedNumber number)
+      → begins_with is_ascii_digit rest ≡ false → bytes ≡ text ++ rest
+      → IsFault place bytes (faults.NumberTooLarge place)
   lone_minus : (place : ℕ) (bytes rest : List ℕ) → begins_with is_ascii_digit rest ≡ false → bytes ≡ 45 ∷ rest
       → IsFault place bytes (faults.BadToken place)
   unclosed : (place : ℕ) (bytes text : List ℕ) → bytes ≡ 39 ∷ doubled text → IsFault place bytes (faults.BadToken place)

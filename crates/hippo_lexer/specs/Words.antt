@@ -1,6 +1,7 @@
 -- What is refused before the grammar is read: tokens that nest too deep, and words of SQL that it lacks.
 use Rattle.std.specs.Prelude.{ℕ, ◌+◌, Bool, true, false, ◌||◌, List, length, take, count_by, position, nat_lt, Option, Some, None, Result, Ok, Err, if◌then◌else◌}
 use Rattle.std.specs.List.{list_any, range_with_len}
+use Rattle.hippo_values.specs.Limits.{depth_limit}
 use Rattle.hippo_values.specs.declared.keywords.Keyword.TheVariants.{KNot}
 use Rattle.hippo_lexer.specs.declared.kinds.Symbol.TheVariants.{LeftParen, RightParen}
 use Rattle.hippo_lexer.specs.declared.kinds.TokenKind.TheVariants as kinds
@@ -33,15 +34,15 @@ is_unsupported _ = false
 abbrev pub count_of : (TokenKind → Bool) → List Token → ℕ
 count_of test tokens = count_by (λ token. test token.kind) tokens
 
--- whether `(` outnumbers `)` by more than 64
+-- whether `(` outnumbers `)` by more than the limit
 abbrev pub is_steep : List Token → Bool
-is_steep tokens = nat_lt (count_of closes tokens + 64) (count_of opens tokens)
+is_steep tokens = nat_lt (count_of closes tokens + depth_limit) (count_of opens tokens)
 
--- whether some prefix of the tokens is such, or more than 64 tokens are NOT
+-- whether some prefix of the tokens is such, or more tokens than the limit are NOT
 abbrev pub is_too_deep : List Token → Bool
 is_too_deep tokens =
     list_any (λ n. is_steep (take n tokens)) (range_with_len 0 (length tokens + 1))
-    || nat_lt 64 (count_of negates tokens)
+    || nat_lt depth_limit (count_of negates tokens)
 
 -- the first refused word, as a fault
 abbrev pub support_of : Option ℕ → Result (Unit {0}) SyntaxFault

@@ -1,14 +1,12 @@
 //! Whether the words of a statement are fit to be read.
 ghost use Rattle.std.specs.Prelude.{◌≡◌, ◌+◌, length, take, nat_lt, position};
 ghost use Rattle.std.specs.List.{list_any, range_with_len};
+ghost use Rattle.hippo_values.specs.Limits.{depth_limit};
 ghost use Rattle.hippo_lexer.specs.Words.{opens, closes, negates, is_unsupported, count_of, is_steep, words_check};
 
 use crate::faults::SyntaxFault;
 use crate::kinds::{Symbol, Token, TokenKind, Tokens};
-use hippo_values::Keyword;
-
-// How far `(` may outnumber `)`, and how many tokens may be NOT.
-const DEPTH_LIMIT: usize = 64;
+use hippo_values::{DEPTH_LIMIT, Keyword};
 
 fn opens(kind: &TokenKind) -> bool
     ensures { result ≡ opens kind.now }
@@ -50,7 +48,7 @@ fn nests_too_deep(tokens: &[Token]) -> bool
 }
 
 fn negates_too_often(tokens: &[Token]) -> bool
-    ensures { result ≡ nat_lt 64 (count_of negates tokens.now) }
+    ensures { result ≡ nat_lt depth_limit (count_of negates tokens.now) }
 {
     tokens.iter().filter(|token| negates(&token.kind)).count() > DEPTH_LIMIT
 }

@@ -4,7 +4,7 @@ use Rattle.std.specs.Prelude.{ℕ, Bool, true, ◌&&◌, List, Option, length, n
 use Rattle.std.specs.List.{list_all}
 use Rattle.std.specs.Option.{option_map_or}
 use Rattle.std.specs.Str.{is_utf8}
-use Rattle.hippo_values.specs.Limits.{text_limit, line_limit}
+use Rattle.hippo_values.specs.Limits.{text_limit, line_limit, column_limit}
 use Rattle.hippo_values.specs.Moments.{is_day, is_moment, is_signed_number}
 use Rattle.hippo_values.specs.Names.{is_name, folded}
 use Rattle.hippo_values.specs.declared.names.Name.{Name}
@@ -30,9 +30,9 @@ is_text limit text = nat_le (length text) limit && is_utf8 text
 abbrev pub has_count : {A : Type 0} → List A → Bool
 has_count members = nat_lt (length members) 256
 
--- a list of 1 to 64 members
+-- a list of at least one member and of no more than a table has columns
 abbrev pub is_short : {A : Type 0} → List A → Bool
-is_short members = nat_le 1 (length members) && nat_le (length members) 64
+is_short members = nat_le 1 (length members) && nat_le (length members) column_limit
 
 abbrev pub is_place : Place → Bool
 is_place place = nat_lt place 256

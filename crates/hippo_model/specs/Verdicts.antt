@@ -3,6 +3,7 @@
 -- Agrawal and others, Hippocratic Databases, VLDB 2002, name among the principles).
 use Rattle.std.specs.Prelude.{ℕ, ◌*◌, ℤ, pos, ◌-ℤ◌, int_le, Bool, true, false, not, ◌||◌, Option, Some, None, if◌then◌else◌, unwrap_or, option_and_then}
 use Rattle.std.specs.Option.{option_map_or}
+use Rattle.hippo_values.specs.Moments.{day_seconds}
 use Rattle.hippo_values.specs.declared.moments.Moment.{Moment}
 use Rattle.hippo_values.specs.declared.names.Name.{Name}
 use Rattle.hippo_values.specs.declared.values.Value.{Value}
@@ -46,7 +47,7 @@ consents history (Some subject) (Some item) =
 
 -- so many days in seconds
 abbrev pub days_long : ℕ → ℤ
-days_long days = pos (86400 * days)
+days_long days = pos (day_seconds * days)
 
 -- whether a rule that shows cells for so many days has ended for a row of this age
 abbrev pub has_ended : ℤ → Option ℕ → Bool

@@ -2,7 +2,7 @@
 use Rattle.std.specs.Prelude.{◌≡◌, ℕ, zero, suc, ◌+◌, ◌/◌, ◌%◌, ◌≤◌, Bool, List, [], ◌∷◌, ◌++◌, codes, ℤ, pos, ◌-ℤ◌, int_le, unsigned_abs, if◌then◌else◌}
 use Rattle.std.specs.Int.{int_div_euclid, int_rem_euclid}
 use Rattle.jiff_core.specs.Calendar.{days_from_civil, IsCivilDate}
-use Rattle.hippo_values.specs.Moments.{IsDayNumber, IsMoment}
+use Rattle.hippo_values.specs.Moments.{day_seconds, IsDayNumber, IsMoment}
 
 -- the last number from 1 to n that passes the test, or 0 where none does
 unfoldable pub last_passing : (ℕ → Bool) → ℕ → ℕ
@@ -59,8 +59,8 @@ day_text day = date_text (year_of day) (month_of day) (day_of_month day)
 -- a moment as YYYY-MM-DDThh:mm:ssZ
 unfoldable pub moment_text : ℤ → List ℕ
 moment_text second =
-    day_text (int_div_euclid second (pos 86400))
-    ++ time_text (unsigned_abs (int_rem_euclid second (pos 86400)))
+    day_text (int_div_euclid second (pos day_seconds))
+    ++ time_text (unsigned_abs (int_rem_euclid second (pos day_seconds)))
 
 -- the text is this day as it is written
 abbrev pub IsDayText : List ℕ → ℤ → Type 0

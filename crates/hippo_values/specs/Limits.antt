@@ -1,4 +1,5 @@
--- How long the parts of the language may be, in bytes, how many days a rule may last, and how many tables there may be.
+-- How long the parts of the language may be, in bytes, how many days a rule may last, how many tables and columns there may
+-- be, and how deep a statement may be nested.
 use Rattle.std.specs.Prelude.{ℕ}
 
 -- a text in a cell
@@ -20,3 +21,11 @@ retention_limit = 36500
 -- the tables of a database
 abbrev pub table_limit : ℕ
 table_limit = 64
+
+-- the columns of a table
+abbrev pub column_limit : ℕ
+column_limit = 64
+
+-- how far `(` may outnumber `)` in a front of a statement, and how often it may say NOT
+abbrev pub depth_limit : ℕ
+depth_limit = 64

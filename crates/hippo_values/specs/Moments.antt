@@ -1,5 +1,5 @@
 -- The ranges of numbers, and of the days and moments of the years 0001 to 9999.
-use Rattle.std.specs.Prelude.{ℤ, pos, negsuc, ◌≤ℤ◌, Bool, ◌&&◌, int_le}
+use Rattle.std.specs.Prelude.{ℕ, ℤ, pos, negsuc, ◌≤ℤ◌, Bool, ◌&&◌, int_le}
 
 -- the least and the greatest number of 64 bits with a sign
 abbrev pub least_number : ℤ
@@ -22,7 +22,17 @@ first_moment = negsuc 62135596799
 abbrev pub last_moment : ℤ
 last_moment = pos 253402300799
 
+-- how many days there are from the first to the last, and how many seconds a day has
+abbrev pub day_count : ℕ
+day_count = 3652059
+
+abbrev pub day_seconds : ℕ
+day_seconds = 86400
+
 -- as facts
+abbrev pub IsSignedNumber : ℤ → Type 0
+IsSignedNumber number = (least_number ≤ℤ number) × (number ≤ℤ greatest_number)
+
 abbrev pub IsDayNumber : ℤ → Type 0
 IsDayNumber day = (first_day ≤ℤ day) × (day ≤ℤ last_day)
 

@@ -1,14 +1,14 @@
 -- SQL's three truth values, and what a comparison of two values says.
 use Rattle.std.specs.Prelude.{Bool, true, false}
-use Rattle.std.specs.Ordering.{is_eq, is_ne, is_lt, is_le, is_gt, is_ge, int_cmp, nat_cmp}
+use Rattle.std.specs.Ordering.{is_eq, is_ne, is_lt, is_le, is_gt, is_ge}
 use Rattle.std.specs.declared.cmp.Ordering.{Ordering}
-use Rattle.std.specs.Cmp.Lexicographic.{slice_cmp}
 use Rattle.hippo_values.specs.declared.truths.Truth.{Truth}
 use Rattle.hippo_values.specs.declared.truths.Truth.TheVariants.{False, Unknown, True}
 use Rattle.hippo_values.specs.declared.truths.CompareOp.{CompareOp}
 use Rattle.hippo_values.specs.declared.truths.CompareOp.TheVariants.{Eq, Ne, Lt, Le, Gt, Ge}
 use Rattle.hippo_values.specs.declared.values.Value.{Value}
 use Rattle.hippo_values.specs.declared.values.Value.TheVariants.{Int, Text, Day}
+use Rattle.hippo_values.specs.Order.{value_cmp}
 
 -- AND is the least in the order false, unknown, true
 abbrev pub truth_and : Truth → Truth → Truth
@@ -45,9 +45,9 @@ is_allowed Le order = is_le order
 is_allowed Gt order = is_gt order
 is_allowed Ge order = is_ge order
 
--- what a comparison of two values says: unknown where one is null or their kinds differ
+-- what a comparison of two values says: unknown where one is null or their kinds differ, else by their order
 abbrev pub comparison : CompareOp → Value → Value → Truth
-comparison op (Int a) (Int b) = truth_of (is_allowed op (int_cmp a b))
-comparison op (Text a) (Text b) = truth_of (is_allowed op (slice_cmp nat_cmp a b))
-comparison op (Day a) (Day b) = truth_of (is_allowed op (int_cmp a b))
+comparison op (Int a) (Int b) = truth_of (is_allowed op (value_cmp (Int a) (Int b)))
+comparison op (Text a) (Text b) = truth_of (is_allowed op (value_cmp (Text a) (Text b)))
+comparison op (Day a) (Day b) = truth_of (is_allowed op (value_cmp (Day a) (Day b)))
 comparison op a b = Unknown

@@ -19,7 +19,7 @@ mod words;
 pub use boxed::Boxed;
 pub use dates::{day_text, moment_text, read_day, read_moment};
 pub use keywords::{Keyword, Reserved, reserved_of};
-pub use limits::{LINE_LIMIT, NAME_LIMIT, RETENTION_LIMIT, TEXT_LIMIT};
+pub use limits::{DEPTH_LIMIT, LINE_LIMIT, NAME_LIMIT, RETENTION_LIMIT, TEXT_LIMIT};
 pub use memory::{Duplicate, Memory};
 pub use moments::{DayNumber, Moment};
 pub use names::{Name, is_name};
