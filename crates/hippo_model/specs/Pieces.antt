@@ -59,4 +59,4 @@ begins_low order (first ∷ rest) = is_le (order first)
 abbrev pub PartsLow : {A : Type 0} → (A → Ordering) → List (Piece A) → ℕ → Type 0
 PartsLow order pieces count = IsPartitionedBy (λ piece. begins_low order piece.members.items) pieces
     → IsPartitionPoint (λ piece. begins_low order piece.members.items ≡ true)
-        (λ piece. begins_low order piece.members.items ≡ false) pieces count
+    (λ piece. begins_low order piece.members.items ≡ false) pieces count

@@ -10,4 +10,4 @@ use Rattle.hippo_model.proofs.row_set.low_pieces.Goals as goal
 pub returns-clause-parted : goal.returns-clause-parted
 returns-clause-parted c first =
     IsPartitionPoint-from_clause (λ (piece : Piece BornRow). begins_low (sought_order c.args.places.now c.args.sought.now) piece.members.items)
-        c.args.pieces.now c.partition_point.result c.partition_point.ensures.partitioned first (λ a r f called. search rules)
+    c.args.pieces.now c.partition_point.result c.partition_point.ensures.partitioned first (λ a r f called. search rules)
