@@ -9,6 +9,7 @@ pub mod LastWords
 pub mod RowsAfter
 pub mod TableRows
 pub mod ChangedOperands
+pub mod CopiedConditions
 pub mod OuterParts
 pub mod ChangesOfRows
 pub mod PiecesLemmas

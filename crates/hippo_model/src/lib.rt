@@ -4,11 +4,11 @@
 mod audit;
 mod born_row;
 mod cells;
-mod changes;
 mod combo;
 mod entry;
 mod lent;
 mod name_fault;
+mod operands;
 mod pieces;
 mod policy;
 mod query;
@@ -21,11 +21,11 @@ mod table_fault;
 pub use audit::{Audit, Flag, Flags, Pair, Pairs, SharedRow, SharedTuple};
 pub use born_row::BornRow;
 pub use cells::{Answer, Cell, CellRow, Cells};
-pub use changes::{Change, changed_condition};
 pub use combo::{ChoiceView, Combo, Plan, Sizes};
 pub use entry::{Act, Entry, History, ItemKind};
 pub use lent::{Lent, LentSchemas, Sets};
 pub use name_fault::NameFault;
+pub use operands::{Change, changed_condition};
 pub use pieces::Pieces;
 pub use policy::{Authorization, Gate, Gates, RuleAt, RulesInForce, TableRules, Verdict};
 pub use query::{

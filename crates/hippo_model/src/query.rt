@@ -2,7 +2,6 @@
 ghost use Rattle.std.specs.Prelude.{◌≡◌, IfOk};
 ghost use Rattle.hippo_model.specs.declared.query.Operand.TheVariants.{Literal};
 ghost use Rattle.hippo_model.specs.declared.query.Form.TheVariants.{Grouped};
-ghost use Rattle.hippo_model.specs.declared.query.CondOf.TheVariants.{All, Any, Not, Compare, Between, Among, Missing};
 
 use crate::schema::Names;
 use hippo_values::{Boxed, CompareOp, Duplicate, Memory, Name, Sequence, Value};
@@ -143,121 +142,6 @@ fn copied_literal(alloc: Global, value: &Value) -> Result<Operand, Memory>
     ensures { IfOk result (λ made. made ≡ Literal value.now) }
 {
     Ok(Operand::Literal(value.copy(alloc)?))
-}
-
-impl<O: Duplicate + Drop> Duplicate for CondOf<O> {
-    fn copy(&self, alloc: Global) -> Result<CondOf<O>, Memory> {
-        copied_condition(alloc, self)
-    }
-}
-
-#[cycle(copied_condition)]
-fn copied_condition<O: Duplicate + Drop>(
-    alloc: Global,
-    condition: &CondOf<O>,
-) -> Result<CondOf<O>, Memory>
-    ensures { IfOk result (λ made. made ≡ condition.now) }
-{
-    match condition {
-        CondOf::All(parts) => copied_all(alloc, parts),
-        CondOf::Any(parts) => copied_any(alloc, parts),
-        CondOf::Not(part) => copied_not(alloc, part),
-        CondOf::Compare { op, left, right } => copied_comparison(alloc, *op, left, right),
-        CondOf::Between { value, low, high } => copied_between(alloc, value, low, high),
-        CondOf::Among { value, list } => copied_among(alloc, value, list),
-        CondOf::Missing { value } => copied_missing(alloc, value),
-    }
-}
-
-#[cycle(copied_condition)]
-fn copied_all<O: Duplicate + Drop>(
-    alloc: Global,
-    parts: &Sequence<CondOf<O>>,
-) -> Result<CondOf<O>, Memory>
-    ensures { IfOk result (λ made. made ≡ All parts.now) }
-{
-    Ok(CondOf::All(copied_parts(alloc, parts)?))
-}
-
-#[cycle(copied_condition)]
-fn copied_any<O: Duplicate + Drop>(
-    alloc: Global,
-    parts: &Sequence<CondOf<O>>,
-) -> Result<CondOf<O>, Memory>
-    ensures { IfOk result (λ made. made ≡ Any parts.now) }
-{
-    Ok(CondOf::Any(copied_parts(alloc, parts)?))
-}
-
-#[cycle(copied_condition)]
-fn copied_parts<O: Duplicate + Drop>(
-    alloc: Global,
-    parts: &Sequence<CondOf<O>>,
-) -> Result<Sequence<CondOf<O>>, Memory>
-    ensures { IfOk result (λ made. made ≡ parts.now) }
-{
-    let mut made = Sequence::new(alloc);
-    for part in parts.as_slice() {
-        made.push(copied_condition(alloc, part)?)?;
-    }
-    Ok(made)
-}
-
-#[cycle(copied_condition)]
-fn copied_not<O: Duplicate + Drop>(
-    alloc: Global,
-    part: &Boxed<CondOf<O>>,
-) -> Result<CondOf<O>, Memory>
-    ensures { IfOk result (λ made. made ≡ Not part.now) }
-{
-    let part = copied_condition(alloc, part.get())?;
-    Ok(CondOf::Not(Boxed::new(alloc, part)?))
-}
-
-fn copied_comparison<O: Duplicate + Drop>(
-    alloc: Global,
-    op: CompareOp,
-    left: &O,
-    right: &O,
-) -> Result<CondOf<O>, Memory>
-    ensures { IfOk result (λ made. made ≡ Compare op left.now right.now) }
-{
-    let left = left.copy(alloc)?;
-    let right = right.copy(alloc)?;
-    Ok(CondOf::Compare { op, left, right })
-}
-
-fn copied_between<O: Duplicate + Drop>(
-    alloc: Global,
-    value: &O,
-    low: &O,
-    high: &O,
-) -> Result<CondOf<O>, Memory>
-    ensures { IfOk result (λ made. made ≡ Between value.now low.now high.now) }
-{
-    let value = value.copy(alloc)?;
-    let low = low.copy(alloc)?;
-    let high = high.copy(alloc)?;
-    Ok(CondOf::Between { value, low, high })
-}
-
-fn copied_among<O: Duplicate + Drop>(
-    alloc: Global,
-    value: &O,
-    list: &Sequence<O>,
-) -> Result<CondOf<O>, Memory>
-    ensures { IfOk result (λ made. made ≡ Among value.now list.now) }
-{
-    let value = value.copy(alloc)?;
-    let list = list.copy(alloc)?;
-    Ok(CondOf::Among { value, list })
-}
-
-fn copied_missing<O: Duplicate + Drop>(alloc: Global, value: &O) -> Result<CondOf<O>, Memory>
-    ensures { IfOk result (λ made. made ≡ Missing value.now) }
-{
-    let value = value.copy(alloc)?;
-    Ok(CondOf::Missing { value })
 }
 
 impl Duplicate for Out {

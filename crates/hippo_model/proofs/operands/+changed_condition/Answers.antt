@@ -1,6 +1,6 @@
 use Rattle.hippo_model.specs.Conditions.{changed_operands}
 use Rattle.hippo_model.proofs.ChangeLoops.{one_more}
-use Rattle.hippo_model.proofs.changes.+changed_condition.Goals as goal
+use Rattle.hippo_model.proofs.operands.+changed_condition.Goals as goal
 
 pub changed_condition-returns-in-Compare : goal.changed_condition-returns-in-Compare
 changed_condition-returns-in-Compare g t c = rw c.in-Compare.is c.changed_comparison.ensures

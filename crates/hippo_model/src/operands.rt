@@ -4,7 +4,7 @@ ghost use Rattle.hippo_model.specs.declared.query.CondOf.TheVariants.{All, Any, 
 ghost use Rattle.hippo_model.specs.Conditions.{changed_operands};
 
 use crate::query::CondOf;
-use hippo_values::{Boxed, CompareOp, Memory, Sequence};
+use hippo_values::{Boxed, CompareOp, Duplicate, Memory, Sequence};
 use std::alloc::Global;
 
 /// What stands for an operand of a condition.
@@ -150,4 +150,21 @@ fn changed_missing<O, P: Drop, C: Change<O, P>>(
 {
     let value = change.change(alloc, value)?;
     Ok(CondOf::Missing { value })
+}
+
+// Each operand becomes its copy.
+struct Copies;
+
+impl<O: Duplicate> Change<O, O> for Copies {
+    ghost to = { λ _ operand. operand };
+
+    fn change(&self, alloc: Global, operand: &O) -> Result<O, Memory> {
+        operand.copy(alloc)
+    }
+}
+
+impl<O: Duplicate + Drop> Duplicate for CondOf<O> {
+    fn copy(&self, alloc: Global) -> Result<CondOf<O>, Memory> {
+        changed_condition(alloc, self, &Copies)
+    }
 }
