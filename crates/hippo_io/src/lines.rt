@@ -289,11 +289,12 @@ impl LineReader {
         }
     }
 
-    /// The next line, or the end once all lines are handed out. A line that is too long is skipped through its line feed.
+    /// The next line, or the end once all lines are handed out. A line that is too long is skipped through its line
+    /// feed.
     ///
     /// Answers `Read` only where the source failed, in this call or in an earlier one, and `TooMuch` exactly where more
-    /// than 2^40 bytes were taken from it. After a fault, and after the end, it answers the same again and does not read.
-    /// The source's count of faults is as before, unless the answer is `Read`.
+    /// than 2^40 bytes were taken from it. After a fault, and after the end, it answers the same again and does not
+    /// read. The source's count of faults is as before, unless the answer is `Read`.
     pub fn next_line<S: Source>(&mut self, source: &mut S) -> Result<Line<'_>, LineFault>
         ensures* next { sem 𝓛 (Rests the_row self.entry (λ new.
             NextLine self.old new (S.left source.old) (S.left source.new) result)) }

@@ -13,8 +13,8 @@ pub trait Sink {
     // How often a write failed; the count stands still at its last value.
     ghost faults: { Self → ℕ };
 
-    /// Writes the first bytes of the piece, and answers how many; none only where the piece is empty. A write that failed
-    /// wrote none. The count of faults rises where the write failed, and only there.
+    /// Writes the first bytes of the piece, and answers how many; none only where the piece is empty. A write that
+    /// failed wrote none. The count of faults rises where the write failed, and only there.
     fn write(&mut self, piece: &[u8]) -> Result<usize, Failed>
         ensures count { IfOk result (λ n. n ≤ length piece.now) }
         ensures some { IfOk result (λ n. 0 < length piece.now → 0 < n) }

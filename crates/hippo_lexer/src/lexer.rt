@@ -34,8 +34,8 @@ fn cut_tokens(alloc: Global, text: &str) -> Result<Tokens, LexFault>
 }
 
 /// The tokens of a text with their places, each the longest that can stand there. `BadToken`, `NumberTooLarge` and
-/// `BadDate` have the place of the one fault that stands first; the other error is want of memory. The time is linear in
-/// the text.
+/// `BadDate` have the place of the one fault that stands first; the other error is want of memory. The time is linear
+/// in the text.
 pub fn tokens(alloc: Global, text: &str) -> Result<Tokens, LexFault>
     // By the grammar these are the text's tokens, or this is its first fault.
     ensures found { IfOk result (λ tokens. IsOutcome text.now (Ok tokens)) }

@@ -62,7 +62,8 @@ two_numbers most most_behind arguments = do
 
 -- fetch CURSOR COUNT
 abbrev pub fetch_of : List Txt → Option Request
-fetch_of arguments = option_map (λ (cursor, count). fetches cursor count) (two_numbers cursor_limit fetch_limit arguments)
+fetch_of arguments =
+    option_map (λ (cursor, count). fetches cursor count) (two_numbers cursor_limit fetch_limit arguments)
 
 -- close CURSOR
 abbrev pub close_of : List Txt → Option Request

@@ -50,8 +50,8 @@ pub enum Out {
 
 pub type Outs = Sequence<Out>;
 
-/// How a grouped query's rows are made: its first `keys` items are the GROUP BY columns, the others the arguments of MIN
-/// and MAX.
+/// How a grouped query's rows are made: its first `keys` items are the GROUP BY columns, the others the arguments of
+/// MIN and MAX.
 #[derive(Debug, Drop, PartialEq, Eq)]
 pub struct Shape {
     pub keys: usize,

@@ -150,8 +150,8 @@ impl RowSet {
         }
     }
 
-    /// Puts a row at its place in the order of keys, instead of a row with its key. The set is unchanged where memory is
-    /// short, which it never is over a row with the key.
+    /// Puts a row at its place in the order of keys, instead of a row with its key. The set is unchanged where memory
+    /// is short, which it never is over a row with the key.
     pub fn put(&mut self, row: Cells, born: Moment) -> Result<(), Memory>
         ensures ok { OnOk result (self.new ≡ with_row (record { row = row; born = born }) self.old) }
         ensures err { OnErr result (self.new ≡ self.old) }

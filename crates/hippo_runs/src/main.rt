@@ -1,7 +1,7 @@
-//! Runs worked rows through the top call. Standard input holds cases: `word W` adds a word to the command, `line TEXT` a
-//! line to the input, `part TEXT` the text alone, `times N TEXT` the text N times, `bytes N ..` bytes by their numbers, and
-//! `clinic` the lines of a small clinic; `call` calls the program over an empty store, `again` over what the last call
-//! left. What it wrote is written, and `status N`. Lines that begin with `#` say what a case shows.
+//! Runs worked rows through the top call. Standard input holds cases: `word W` adds a word to the command, `line TEXT`
+//! a line to the input, `part TEXT` the text alone, `times N TEXT` the text N times, `bytes N ..` bytes by their
+//! numbers, and `clinic` the lines of a small clinic; `call` calls the program over an empty store, `again` over what
+//! the last call left. What it wrote is written, and `status N`. Lines that begin with `#` say what a case shows.
 #![tactic(auto)]
 
 ghost use Rattle.std.specs.Prelude.{◌≡◌, ◌<◌, false, IfOk};

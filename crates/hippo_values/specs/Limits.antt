@@ -1,5 +1,5 @@
--- How long the parts of the language may be, in bytes, how many days a rule may last, how many tables and columns there may
--- be, and how deep a statement may be nested.
+-- How long the parts of the language may be, in bytes, how many days a rule may last, how many tables and columns there
+-- may be, and how deep a statement may be nested.
 use Rattle.std.specs.Prelude.{ℕ}
 
 -- a text in a cell

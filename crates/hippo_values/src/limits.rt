@@ -1,4 +1,5 @@
-//! How long the parts of the language may be, in bytes, how many days a rule may last, and how deep a statement may be nested.
+//! How long the parts of the language may be, in bytes, how many days a rule may last, and how deep a statement may be
+//! nested.
 
 /// A text in a cell.
 pub const TEXT_LIMIT: usize = 4096;
