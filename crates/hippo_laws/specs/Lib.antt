@@ -4,3 +4,4 @@ pub mod Histories
 pub mod Stores
 pub mod Audits
 pub mod Needs
+pub mod KeptRows

@@ -6,4 +6,5 @@ pub mod answers;
 pub mod audits;
 pub mod conditions;
 pub mod histories;
+pub mod kept_rows;
 pub mod stores;
