@@ -5,3 +5,4 @@ pub mod Stores
 pub mod Audits
 pub mod Needs
 pub mod KeptRows
+pub mod Flags

@@ -5,6 +5,7 @@
 pub mod answers;
 pub mod audits;
 pub mod conditions;
+pub mod flags;
 pub mod histories;
 pub mod kept_rows;
 pub mod stores;
