@@ -12,3 +12,5 @@ pub mod TruthWithChange
 pub mod ValidFronts
 pub mod OneStore
 pub mod NeededTuples
+pub mod OwnConditions
+pub mod HitsTheorem

@@ -6,3 +6,4 @@ pub mod Audits
 pub mod Needs
 pub mod KeptRows
 pub mod Flags
+pub mod Hits

@@ -7,5 +7,6 @@ pub mod audits;
 pub mod conditions;
 pub mod flags;
 pub mod histories;
+pub mod hits;
 pub mod kept_rows;
 pub mod stores;
