@@ -6,6 +6,7 @@ mod DamageExamples
 mod StoreExamples
 mod RetentionExamples
 mod FormExamples
+mod HandedOverExamples
 pub mod Codes
 pub mod ActCodes
 pub mod TruthWithChange
