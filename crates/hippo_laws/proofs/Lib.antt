@@ -7,6 +7,7 @@ mod StoreExamples
 mod RetentionExamples
 mod FormExamples
 mod HandedOverExamples
+mod FlagExamples
 pub mod Codes
 pub mod ActCodes
 pub mod TruthWithChange
