@@ -6,9 +6,13 @@ mod DamageExamples
 mod StoreExamples
 mod RetentionExamples
 mod FormExamples
+mod HandedOverExamples
+mod FlagExamples
 pub mod Codes
 pub mod ActCodes
 pub mod TruthWithChange
 pub mod ValidFronts
 pub mod OneStore
 pub mod NeededTuples
+pub mod OwnConditions
+pub mod HitsTheorem

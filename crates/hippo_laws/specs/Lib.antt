@@ -4,3 +4,6 @@ pub mod Histories
 pub mod Stores
 pub mod Audits
 pub mod Needs
+pub mod KeptRows
+pub mod Flags
+pub mod Hits

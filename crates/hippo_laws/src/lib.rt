@@ -5,5 +5,8 @@
 pub mod answers;
 pub mod audits;
 pub mod conditions;
+pub mod flags;
 pub mod histories;
+pub mod hits;
+pub mod kept_rows;
 pub mod stores;

@@ -1,12 +1,13 @@
 -- Which queries an audit flags, and by which shared tuple (after the indispensable tuples of Agrawal and others,
 -- Auditing Compliance with a Hippocratic Database, VLDB 2004; that answers are compared as bags, that a query is judged
 -- over its view and the audit over unmasked rows, and SHOWN are this project's own).
-use Rattle.std.specs.Prelude.{Bool, false, not, ◌&&◌, ◌||◌, int_le, List, [], map, filter, find, slice_index_or, Option, None, is_some, option_and_then, if◌then◌else◌, bytes_eq}
+use Rattle.std.specs.Prelude.{ℕ, ◌-◌, Bool, false, not, ◌&&◌, ◌||◌, int_le, List, [], map, filter, filter_map, find, take, drop, slice_index_or, Option, Some, None, is_some, option_and_then, if◌then◌else◌, bytes_eq}
 use Rattle.std.specs.List.{list_any, list_all, position_or_len}
 use Rattle.std.specs.Option.{option_map_or}
 use Rattle.hippo_values.specs.declared.moments.Moment.{Moment}
 use Rattle.hippo_values.specs.declared.names.Name.{Name}
 use Rattle.hippo_model.specs.declared.audit.Audit.{Audit}
+use Rattle.hippo_model.specs.declared.audit.Flag.{Flag}
 use Rattle.hippo_model.specs.declared.audit.SharedRow.{SharedRow}
 use Rattle.hippo_model.specs.declared.born_row.BornRow.{BornRow}
 use Rattle.hippo_model.specs.declared.entry.Act.{Act}
@@ -118,3 +119,24 @@ shared meaning history audit entry = shared_in meaning (before_entry entry histo
 -- an entry is flagged where it has a shared tuple
 abbrev pub flagged : Meaning → History → Audit → Entry → Bool
 flagged meaning history audit entry = is_some (shared meaning history audit entry)
+
+-- an entry as a flag, where an audit flags it
+abbrev pub flag_by : Entry → Act → List SharedRow → Option Flag
+flag_by entry (Asked user purpose recipient text) tuple =
+    Some (record {
+      seq = entry.seq;
+      moment = entry.moment;
+      user = user;
+      pair = record { purpose = purpose; recipient = recipient };
+      shared = tuple;
+    })
+flag_by entry act tuple = None
+
+abbrev pub flag_of : Meaning → History → Audit → Entry → Option Flag
+flag_of meaning history audit entry =
+    option_and_then (flag_by entry entry.act) (shared meaning history audit entry)
+
+-- the flags of the entries above a number, up to another
+abbrev pub flags_between : Meaning → History → Audit → ℕ → ℕ → List Flag
+flags_between meaning history audit above upto =
+    filter_map (flag_of meaning history audit) (take (upto - above) (drop above history))

@@ -1,0 +1,129 @@
+-- A condition on one table's columns has the same truth over each reading of them; where a condition is true, so are its parts.
+use Rattle.std.proofs.Common.{◌≡◌, Bool, true, ◌&&◌, List, [], ◌∷◌, ◌++◌, map, refl, sym, ap, subst, ◌∙◌}
+use Rattle.std.specs.Prelude.{flat_map}
+use Rattle.std.specs.List.{list_all}
+use Rattle.std.proofs.lemmas.Bool.{and_parts, and_from}
+use Rattle.std.proofs.lemmas.List.Folds.{list_all-append}
+use Rattle.std.proofs.lemmas.List.Concat.{flat_map-cons}
+use Rattle.hippo_values.specs.declared.values.Value.{Value}
+use Rattle.hippo_values.specs.declared.truths.Truth.{Truth}
+use Rattle.hippo_values.specs.declared.truths.Truth.TheVariants.{False, Unknown, True}
+use Rattle.hippo_values.specs.declared.truths.CompareOp.TheVariants.{Eq, Le, Ge}
+use Rattle.hippo_values.specs.Truths.{truth_and, truth_or, truth_not, truth_of, comparison}
+use Rattle.hippo_model.specs.declared.query.CondOf.{CondOf, CondOf-F, fold-roll-CondOf, out-roll-CondOf, roll-CondOf, map-CondOf, ind-CondOf}
+use Rattle.hippo_model.specs.declared.query.CondOf.TheOpen.{All, Any, Not, Compare, Between, Among, Missing}
+use Rattle.hippo_model.specs.declared.query.CondOf.TheVariants.{rolls-All}
+use Rattle.hippo_model.specs.declared.query.Operand.{Operand}
+use Rattle.hippo_model.specs.declared.query.Ref.{Ref}
+use Rattle.hippo_model.specs.Conditions.{least, greatest, is_null, truth_step, truth, is_true, outer_parts}
+use Rattle.hippo_model.specs.Columns.{columns_in, columns_step, condition_columns}
+use Rattle.hippo_model.proofs.Truths.{truth-All}
+
+-- two readings that agree on each operand whose columns all pass a test
+module _ (is_own : Ref → Bool) (read other : Operand → Value) (agree : (operand : Operand) → list_all is_own (columns_in operand) ≡ true → read operand ≡ other operand) where
+  abbrev Agrees : CondOf Operand → Type 0
+  Agrees condition = list_all is_own (condition_columns condition) ≡ true → truth read condition ≡ truth other condition
+
+  abbrev Agreeing : Type 0
+  Agreeing = (condition : CondOf Operand) × Agrees condition
+
+  abbrev parts_of : List Agreeing → List (CondOf Operand)
+  parts_of parts = map (λ part. part.0) parts
+
+  -- the columns of two parts
+  both_own : (here later : List Ref) → list_all is_own (here ++ later) ≡ true → (list_all is_own here ≡ true) × (list_all is_own later ≡ true)
+  both_own here later own = and_parts (list_all is_own here) (list_all is_own later) (sym (list_all-append is_own here later) ∙ own)
+
+  one_own : {A : Type 0} (columns : A → List Ref) (first : A) (rest : List A) → list_all is_own (flat_map columns (first ∷ rest)) ≡ true
+      → (list_all is_own (columns first) ≡ true) × (list_all is_own (flat_map columns rest) ≡ true)
+  one_own columns first rest own = both_own (columns first) (flat_map columns rest) (sym (ap (list_all is_own) (flat_map-cons columns first rest)) ∙ own)
+
+  abbrev own_parts : List Agreeing → Type 0
+  own_parts parts = list_all is_own (flat_map (λ (columns : List Ref). columns) (map condition_columns (parts_of parts))) ≡ true
+
+  least_agrees : (parts : List Agreeing) → own_parts parts → least (map (truth read) (parts_of parts)) ≡ least (map (truth other) (parts_of parts))
+  least_agrees [] own = refl
+  least_agrees (part ∷ parts) own =
+      let both = one_own (λ (columns : List Ref). columns) (condition_columns part.0) (map condition_columns (parts_of parts)) own in
+      λ i. truth_and (part.1 both.0 i) (least_agrees parts both.1 i)
+
+  greatest_agrees : (parts : List Agreeing) → own_parts parts → greatest (map (truth read) (parts_of parts)) ≡ greatest (map (truth other) (parts_of parts))
+  greatest_agrees [] own = refl
+  greatest_agrees (part ∷ parts) own =
+      let both = one_own (λ (columns : List Ref). columns) (condition_columns part.0) (map condition_columns (parts_of parts)) own in
+      λ i. truth_or (part.1 both.0 i) (greatest_agrees parts both.1 i)
+
+  members_agree : (operand : Operand) → read operand ≡ other operand → (list : List Operand) → list_all is_own (flat_map columns_in list) ≡ true
+      → greatest (map (λ member. comparison Eq (read operand) (read member)) list) ≡ greatest (map (λ member. comparison Eq (other operand) (other member)) list)
+  members_agree operand e [] own = refl
+  members_agree operand e (member ∷ list) own =
+      let both = one_own columns_in member list own in
+      λ i. truth_or (comparison Eq (e i) (agree member both.0 i)) (members_agree operand e list both.1 i)
+
+  abbrev plain_layer : CondOf-F Operand Agreeing → CondOf-F Operand (CondOf Operand)
+  plain_layer layer = map-CondOf Operand Agreeing (CondOf Operand) (λ part. part.0) layer
+
+  -- one layer, whose parts agree
+  layer_agrees : (layer : CondOf-F Operand Agreeing) → list_all is_own (columns_step (map-CondOf Operand (CondOf Operand) (List Ref) condition_columns (plain_layer layer))) ≡ true
+      → truth_step read (map-CondOf Operand (CondOf Operand) Truth (truth read) (plain_layer layer)) ≡ truth_step other (map-CondOf Operand (CondOf Operand) Truth (truth other) (plain_layer layer))
+  layer_agrees (All parts) own = least_agrees parts own
+  layer_agrees (Any parts) own = greatest_agrees parts own
+  layer_agrees (Not part) own = ap truth_not (part.1 own)
+  layer_agrees (Compare op left right) own =
+      let both = both_own (columns_in left) (columns_in right) own in
+      λ i. comparison op (agree left both.0 i) (agree right both.1 i)
+  layer_agrees (Between operand low high) own =
+      let last = both_own (columns_in operand ++ columns_in low) (columns_in high) own in
+      let both = both_own (columns_in operand) (columns_in low) last.0 in
+      λ i. truth_and (comparison Ge (agree operand both.0 i) (agree low both.1 i)) (comparison Le (agree operand both.0 i) (agree high last.1 i))
+  layer_agrees (Among operand list) own =
+      let both = both_own (columns_in operand) (flat_map columns_in list) own in
+      members_agree operand (agree operand both.0) list both.1
+  layer_agrees (Missing operand) own = ap (λ v. truth_of (is_null v)) (agree operand own)
+
+  rolled_agrees : (layer : CondOf-F Operand Agreeing) → Agrees (roll-CondOf Operand (plain_layer layer))
+  rolled_agrees layer own =
+      fold-roll-CondOf Operand Truth (truth_step read) (plain_layer layer)
+      ∙ layer_agrees layer (sym (ap (list_all is_own) (fold-roll-CondOf Operand (List Ref) columns_step (plain_layer layer))) ∙ own)
+      ∙ sym (fold-roll-CondOf Operand Truth (truth_step other) (plain_layer layer))
+
+  -- give a condition whose columns all pass it the same truth
+  pub truth-own : (condition : CondOf Operand) → Agrees condition
+  truth-own = ind-CondOf Operand Agrees (λ layer parts is. subst (λ (plain : CondOf-F Operand (CondOf Operand)). Agrees (roll-CondOf Operand plain)) is (rolled_agrees parts))
+
+-- where a condition is true, so is each of its outer parts
+module _ (value : Operand → Value) where
+  abbrev is_held : CondOf Operand → Bool
+  is_held part = is_true (truth value part)
+
+  true_both : (a b : Truth) → is_true (truth_and a b) ≡ (is_true a && is_true b)
+  true_both False b = refl
+  true_both Unknown False = refl
+  true_both Unknown Unknown = refl
+  true_both Unknown True = refl
+  true_both True b = refl
+
+  all_held : (parts : List (CondOf Operand)) → is_true (least (map (truth value) parts)) ≡ list_all is_held parts
+  all_held [] = refl
+  all_held (part ∷ parts) = true_both (truth value part) (least (map (truth value) parts)) ∙ ap (λ b. is_held part && b) (all_held parts)
+
+  abbrev parts_in : CondOf-F Operand (CondOf Operand) → CondOf Operand → List (CondOf Operand)
+  parts_in layer condition = elim layer [ All parts ↦ parts | _ ↦ condition ∷ [] ]
+
+  by_layer : (layer : CondOf-F Operand (CondOf Operand)) → is_held (roll-CondOf Operand layer) ≡ true → list_all is_held (parts_in layer (roll-CondOf Operand layer)) ≡ true
+  by_layer (All parts) held = sym (all_held parts) ∙ sym (ap is_true (truth-All value parts)) ∙ sym (ap is_held (rolls-All parts)) ∙ held
+  by_layer (Any parts) held = and_from (is_held (roll-CondOf Operand (Any parts))) true held refl
+  by_layer (Not part) held = and_from (is_held (roll-CondOf Operand (Not part))) true held refl
+  by_layer (Compare op left right) held = and_from (is_held (roll-CondOf Operand (Compare op left right))) true held refl
+  by_layer (Between operand low high) held = and_from (is_held (roll-CondOf Operand (Between operand low high))) true held refl
+  by_layer (Among operand list) held = and_from (is_held (roll-CondOf Operand (Among operand list))) true held refl
+  by_layer (Missing operand) held = and_from (is_held (roll-CondOf Operand (Missing operand))) true held refl
+
+  abbrev HasParts : CondOf Operand → Type 0
+  HasParts condition = is_held condition ≡ true → list_all is_held (outer_parts condition) ≡ true
+
+  opened : (layer : CondOf-F Operand (CondOf Operand)) → HasParts (roll-CondOf Operand layer)
+  opened layer held = subst (λ (l : CondOf-F Operand (CondOf Operand)). list_all is_held (parts_in l (roll-CondOf Operand layer)) ≡ true) (sym (out-roll-CondOf Operand layer)) (by_layer layer held)
+
+  pub parts_held : (condition : CondOf Operand) → HasParts condition
+  parts_held = ind-CondOf Operand HasParts (λ layer parts is. opened layer)
