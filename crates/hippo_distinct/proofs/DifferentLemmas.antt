@@ -35,7 +35,7 @@ different-push (first ∷ rows) row =
     ∙ ap (λ (last : List ShownRow). first ∷ filter (λ other. not (same_row first other)) (different rows) ++ last) (new_after first row (same_row first row) (stands_in row rows) refl)
 
 -- equal values are the same
-value_exact : (a b : Value) → same_cell (Shown a) (Shown b) ≡ true → a ≡ b
+pub value_exact : (a b : Value) → same_cell (Shown a) (Shown b) ≡ true → a ≡ b
 value_exact a b same = ap (first_or a) (same_exact (a ∷ []) (b ∷ []) (then_equal (value_cmp a b) ∙ same))
   where
     first_or : Value → List Value → Value
@@ -47,7 +47,7 @@ value_exact a b same = ap (first_or a) (same_exact (a ∷ []) (b ∷ []) (then_e
     then_equal Equal = refl
     then_equal Greater = refl
 
-same_cell-exact : (a b : Cell) → same_cell a b ≡ true → a ≡ b
+pub same_cell-exact : (a b : Cell) → same_cell a b ≡ true → a ≡ b
 same_cell-exact (Shown a) (Shown b) same = ap Shown (value_exact a b same)
 same_cell-exact (Denied a) (Denied b) same = ap Denied (eqb-true a b same)
 same_cell-exact (Shown a) (Denied b) same = absurd cc

@@ -3,3 +3,6 @@ pub mod NeededRows
 pub mod KeptLemmas
 pub mod FoundLemmas
 pub mod CellOrder
+pub mod BagLemmas
+pub mod BestValues
+pub mod NeededGroups

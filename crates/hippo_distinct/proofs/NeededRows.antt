@@ -14,19 +14,19 @@ use Rattle.hippo_model.specs.Bags.{same_cell, same_row, occurrences, same_bag}
 use Rattle.hippo_model.specs.Forms.{different}
 use Rattle.hippo_distinct.proofs.DifferentLemmas.{same_row-exact}
 
-same_cell-refl : (cell : Cell) → same_cell cell cell ≡ true
+pub same_cell-refl : (cell : Cell) → same_cell cell cell ≡ true
 same_cell-refl (Shown value) = (eq_by_cmp_equiv value_total).refl value
 same_cell-refl (Denied rule) = nat_eq_equiv.refl rule
 
-same_row-refl : (row : ShownRow) → same_row row row ≡ true
+pub same_row-refl : (row : ShownRow) → same_row row row ≡ true
 same_row-refl [] = refl
 same_row-refl (cell ∷ row) = and_from _ _ (same_cell-refl cell) (same_row-refl row)
 
 -- whether a row is among others
-abbrev is_among : List ShownRow → ShownRow → Bool
+abbrev pub is_among : List ShownRow → ShownRow → Bool
 is_among rows row = list_any (same_row row) rows
 
-abbrev one_if : Bool → ℕ
+abbrev pub one_if : Bool → ℕ
 one_if test = cond test 1 0
 
 abbrev others : ShownRow → List ShownRow → List ShownRow
@@ -50,7 +50,7 @@ all_others p first passes [] = refl
 all_others p first passes (row ∷ rows) = one_dropped p first row (same_row first row) refl passes (others first rows) rows (all_others p first passes rows)
 
 -- the different rows pass a test where all rows do
-all_different : (p : ShownRow → Bool) (rows : List ShownRow) → list_all p (different rows) ≡ list_all p rows
+pub all_different : (p : ShownRow → Bool) (rows : List ShownRow) → list_all p (different rows) ≡ list_all p rows
 all_different p [] = refl
 all_different p (first ∷ rows) = by (p first) refl ∙ ap (λ (rest : Bool). p first && rest) (all_different p rows)
   where
@@ -58,7 +58,7 @@ all_different p (first ∷ rows) = by (p first) refl ∙ ap (λ (rest : Bool). p
     by true passes = ap (λ (rest : Bool). p first && rest) (all_others p first passes (different rows))
     by false passes = ap (λ (test : Bool). test && list_all p (others first (different rows))) passes ∙ sym (ap (λ (test : Bool). test && list_all p (different rows)) passes)
 
-counted : (row first : ShownRow) (rest : List ShownRow) → occurrences row (first ∷ rest) ≡ one_if (same_row row first) + occurrences row rest
+pub counted : (row first : ShownRow) (rest : List ShownRow) → occurrences row (first ∷ rest) ≡ one_if (same_row row first) + occurrences row rest
 counted row first rest = sum_by-cons (λ other. cond (same_row row other) 1 0) first rest
 
 -- a row does not stand among those that differ from it
@@ -83,7 +83,7 @@ as_often_in_others row first apart [] = refl
 as_often_in_others row first apart (one ∷ rows) = one_kept row first one (same_row first one) refl apart (others first rows) rows (as_often_in_others row first apart rows)
 
 -- a row stands among the different rows once, or not at all
-once : (row : ShownRow) (rows : List ShownRow) → occurrences row (different rows) ≡ one_if (is_among rows row)
+pub once : (row : ShownRow) (rows : List ShownRow) → occurrences row (different rows) ≡ one_if (is_among rows row)
 once row [] = refl
 once row (first ∷ rows) = counted row first (others first (different rows)) ∙ by (same_row row first) refl (once row rows)
   where
@@ -125,7 +125,7 @@ same_where_all_are_left some all within =
     ∙ (λ i. as_often_within some all some within i && as_often_within some all all (all_among all) i)
     ∙ ap (λ (test : Bool). test && list_all (is_among some) all) (all_among some)
 
-not_all : (p : ShownRow → Bool) (rows : List ShownRow) → not (list_all p rows) ≡ list_any (λ row. not (p row)) rows
+pub not_all : (p : ShownRow → Bool) (rows : List ShownRow) → not (list_all p rows) ≡ list_any (λ row. not (p row)) rows
 not_all p [] = refl
 not_all p (row ∷ rows) = by (p row) ∙ ap (λ (test : Bool). not (p row) || test) (not_all p rows)
   where
@@ -134,14 +134,14 @@ not_all p (row ∷ rows) = by (p row) ∙ ap (λ (test : Bool). not (p row) || t
     by false = refl
 
 module _ {C : Type 0} (row_of : C → ShownRow) (passes is_out : C → Bool) where
-  abbrev answered : List C → List ShownRow
+  abbrev pub answered : List C → List ShownRow
   answered combinations = map row_of (filter passes combinations)
 
-  abbrev left : List C → List ShownRow
+  abbrev pub left : List C → List ShownRow
   left combinations = answered (filter (λ c. not (is_out c)) combinations)
 
   -- whether a row comes from combinations that are taken out alone
-  abbrev alone : List C → ShownRow → Bool
+  abbrev pub alone : List C → ShownRow → Bool
   alone combinations row = list_all (λ c. not (passes c && same_row row (row_of c)) || is_out c) combinations
 
   one_answer : (test : Bool) (c : C) (rest : List C) → map row_of (cond test (c ∷ rest) rest) ≡ cond test (row_of c ∷ map row_of rest) (map row_of rest)
@@ -167,7 +167,7 @@ module _ {C : Type 0} (row_of : C → ShownRow) (passes is_out : C → Bool) whe
   alone_with_one false true false first row rows e = ap (λ (test : Bool). not (test || is_among rows row)) (sym e)
 
   -- a row comes from them alone where it is not among those that are left
-  alone_is : (row : ShownRow) (combinations : List C) → alone combinations row ≡ not (is_among (left combinations) row)
+  pub alone_is : (row : ShownRow) (combinations : List C) → alone combinations row ≡ not (is_among (left combinations) row)
   alone_is row [] = refl
   alone_is row (c ∷ rest) =
       ap (λ (test : Bool). (not (passes c && same_row row (row_of c)) || is_out c) && test) (alone_is row rest)
@@ -184,7 +184,7 @@ module _ {C : Type 0} (row_of : C → ShownRow) (passes is_out : C → Bool) whe
       (list_all-mono (is_among all) (is_among (first ∷ all)) (λ row among. or_right (same_row row first) (is_among all row) among) some within)
   within_one false false first some all within = within
 
-  left_within : (combinations : List C) → list_all (is_among (answered combinations)) (left combinations) ≡ true
+  pub left_within : (combinations : List C) → list_all (is_among (answered combinations)) (left combinations) ≡ true
   left_within [] = refl
   left_within (c ∷ rest) =
       let step = within_one (is_out c) (passes c) (row_of c) (left rest) (answered rest) (left_within rest) in

@@ -1,3 +1,4 @@
 pub mod RowKeys
 pub mod DistinctRows
 pub mod DistinctNeeds
+pub mod GroupedNeeds
