@@ -185,6 +185,21 @@ new_item_again x kind rest fits =
     ap leading_new_item (append_assoc (name_bytes x) (item_kind kind ∷ []) rest)
     ∙ rw (name_again x (item_kind kind ∷ rest) fits, item_kind_again kind) refl
 
+-- three names that fit, and what stands behind them
+record ThreeFit (x y z : Name) (behind : Bool) : Type 0 where
+  first : is_folded_name x ≡ true
+  second : is_folded_name y ≡ true
+  third : is_folded_name z ≡ true
+  rest : behind ≡ true
+
+three_fit : (x y z : Name) (behind : Bool)
+    → (is_folded_name x && is_folded_name y && is_folded_name z && behind) ≡ true → ThreeFit x y z behind
+three_fit x y z behind fits =
+    let all = and_parts (is_folded_name x && is_folded_name y && is_folded_name z) behind fits in
+    let front = and_parts (is_folded_name x && is_folded_name y) (is_folded_name z) all.0 in
+    let names = and_parts (is_folded_name x) (is_folded_name y) front.0 in
+    record { first = names.0; second = names.1; third = front.1; rest = all.1 }
+
 grant_again : (kind : ℕ) (u p r : Name) (rest : List ℕ)
     → (is_folded_name u && is_folded_name p && is_folded_name r) ≡ true
     → leading_grant kind ((name_bytes u ++ name_bytes p ++ name_bytes r) ++ rest) ≡ Some (grant_of kind u p r, rest)
@@ -223,18 +238,16 @@ allow_again : (format : ℕ) (p r t : Name) (c : List Place) (i : Option Name) (
 unfolding leading_allow
 allow_again format p r t c i d rest fits days =
     let both = and_parts (rule_is_keepable p r t c) (item_is_keepable i) fits in
-    let all = and_parts (is_folded_name p && is_folded_name r && is_folded_name t) (places_are_keepable c) both.0 in
-    let front = and_parts (is_folded_name p && is_folded_name r) (is_folded_name t) all.0 in
-    let first = and_parts (is_folded_name p) (is_folded_name r) front.0 in
+    let names = three_fit p r t (places_are_keepable c) both.0 in
     let behind_columns : List ℕ = item_bytes i ++ (days_bytes d ++ rest) in
     let behind_table : List ℕ = list_bytes place_bytes c ++ behind_columns in
     ap (leading_allow format)
     (six (name_bytes p) (name_bytes r) (name_bytes t) (list_bytes place_bytes c) (item_bytes i) (days_bytes d) rest)
     ∙ rw (
-      name_again p (name_bytes r ++ (name_bytes t ++ behind_table)) first.0,
-      name_again r (name_bytes t ++ behind_table) first.1,
-      name_again t behind_table front.1,
-      places_again c behind_columns all.1,
+      name_again p (name_bytes r ++ (name_bytes t ++ behind_table)) names.first,
+      name_again r (name_bytes t ++ behind_table) names.second,
+      name_again t behind_table names.third,
+      places_again c behind_columns names.rest,
       item_again i (days_bytes d ++ rest) both.1,
       days,
     ) refl
@@ -244,16 +257,14 @@ revoke_again : (p r t : Name) (c : List Place) (rest : List ℕ) → rule_is_kee
     ≡ Some (Revoke p r t c, rest)
 unfolding leading_revoke
 revoke_again p r t c rest fits =
-    let all = and_parts (is_folded_name p && is_folded_name r && is_folded_name t) (places_are_keepable c) fits in
-    let front = and_parts (is_folded_name p && is_folded_name r) (is_folded_name t) all.0 in
-    let first = and_parts (is_folded_name p) (is_folded_name r) front.0 in
+    let names = three_fit p r t (places_are_keepable c) fits in
     let behind_table : List ℕ = list_bytes place_bytes c ++ rest in
     ap leading_revoke (four (name_bytes p) (name_bytes r) (name_bytes t) (list_bytes place_bytes c) rest)
     ∙ rw (
-      name_again p (name_bytes r ++ (name_bytes t ++ behind_table)) first.0,
-      name_again r (name_bytes t ++ behind_table) first.1,
-      name_again t behind_table front.1,
-      places_again c rest all.1,
+      name_again p (name_bytes r ++ (name_bytes t ++ behind_table)) names.first,
+      name_again r (name_bytes t ++ behind_table) names.second,
+      name_again t behind_table names.third,
+      places_again c rest names.rest,
     ) refl
 
 choice_again : (subject : ℤ) (item : Name) (agreed : Bool) (rest : List ℕ)
@@ -276,15 +287,13 @@ question_again : (u p r : Name) (text : Txt) (rest : List ℕ)
     ≡ Some (Asked u p r text, rest)
 unfolding leading_question
 question_again u p r text rest fits =
-    let all = and_parts (is_folded_name u && is_folded_name p && is_folded_name r) (question_is_keepable text) fits in
-    let front = and_parts (is_folded_name u && is_folded_name p) (is_folded_name r) all.0 in
-    let first = and_parts (is_folded_name u) (is_folded_name p) front.0 in
-    let within = (and_parts (nat_le 1 (length text)) (is_text 65536 text) all.1).1 in
+    let names = three_fit u p r (question_is_keepable text) fits in
+    let within = (and_parts (nat_le 1 (length text)) (is_text 65536 text) names.rest).1 in
     ap leading_question (four (name_bytes u) (name_bytes p) (name_bytes r) (text_bytes text) rest)
     ∙ rw (
-      name_again u (name_bytes p ++ (name_bytes r ++ (text_bytes text ++ rest))) first.0,
-      name_again p (name_bytes r ++ (text_bytes text ++ rest)) first.1,
-      name_again r (text_bytes text ++ rest) front.1,
+      name_again u (name_bytes p ++ (name_bytes r ++ (text_bytes text ++ rest))) names.first,
+      name_again p (name_bytes r ++ (text_bytes text ++ rest)) names.second,
+      name_again r (text_bytes text ++ rest) names.third,
       text_again 65536 text rest (omega arith) within,
     ) refl
 

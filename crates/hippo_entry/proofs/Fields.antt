@@ -54,22 +54,24 @@ unsigned64 x f = omega (arith, ints)
 unsigned32 : (x : ℤ) → FitsSigned w32 x → cast_unsigned w32 x < 2 ^ 32
 unsigned32 x f = omega (arith, ints)
 
-signed : (w : Width) → Option (ℕ × List ℕ) → Option (ℤ × List ℕ)
-signed w found = found >>= λ n. Some (cast_signed w n.0, n.1)
+-- a signed number, where the unsigned one in its place is read again
+signed_of : (w : Width) (x : ℤ) (rest : List ℕ)
+    → leading_number w (to_be_bytes w (cast_unsigned w x) ++ rest) ≡ Some (cast_unsigned w x, rest)
+    → cast_signed w (cast_unsigned w x) ≡ x
+    → leading_signed w (to_be_bytes w (cast_unsigned w x) ++ rest) ≡ Some (x, rest)
+signed_of w x rest again same =
+    ap (λ (found : Option (ℕ × List ℕ)). found >>= λ n. Some (cast_signed w n.0, n.1)) again
+    ∙ ap (λ (y : ℤ). Some (y, rest)) same
 
 pub signed_again : (x : ℤ) (rest : List ℕ) → FitsSigned w64 x
     → leading_signed w64 (to_be_bytes w64 (cast_unsigned w64 x) ++ rest) ≡ Some (x, rest)
 signed_again x rest fits =
-    ap (λ (found : Option (ℕ × List ℕ)). found >>= λ n. Some (cast_signed w64 n.0, n.1))
-    (long_again (cast_unsigned w64 x) rest (unsigned64 x fits))
-    ∙ ap (λ (y : ℤ). Some (y, rest)) (to_z-of_z w64 x fits)
+    signed_of w64 x rest (long_again (cast_unsigned w64 x) rest (unsigned64 x fits)) (to_z-of_z w64 x fits)
 
 pub short_signed_again : (x : ℤ) (rest : List ℕ) → FitsSigned w32 x
     → leading_signed w32 (to_be_bytes w32 (cast_unsigned w32 x) ++ rest) ≡ Some (x, rest)
 short_signed_again x rest fits =
-    ap (λ (found : Option (ℕ × List ℕ)). found >>= λ n. Some (cast_signed w32 n.0, n.1))
-    (short_again (cast_unsigned w32 x) rest (unsigned32 x fits))
-    ∙ ap (λ (y : ℤ). Some (y, rest)) (to_z-of_z w32 x fits)
+    signed_of w32 x rest (short_again (cast_unsigned w32 x) rest (unsigned32 x fits)) (to_z-of_z w32 x fits)
 
 -- ---- texts and names
 

@@ -1,11 +1,13 @@
 //! The stored form of an entry.
 ghost use Rattle.std.specs.Prelude.{◌≡◌, true, [], ◌∷◌, ◌++◌, IfOk, OnOk};
-ghost use Rattle.hippo_model.specs.declared.entry.Act.TheVariants.{Allow, Revoke, Choice, Asked};
-ghost use Rattle.hippo_model.specs.StoredForms.{name_bytes, list_bytes, value_bytes, subject_byte, schema_bytes};
+ghost use Rattle.hippo_model.specs.declared.entry.Act.TheVariants.{Choice};
+ghost use Rattle.hippo_model.specs.StoredForms.{name_bytes, text_bytes, list_bytes, place_bytes, value_bytes, subject_byte, schema_bytes};
 ghost use Rattle.hippo_model.specs.StoredForms.{item_kind, item_bytes, days_bytes, act_format, act_kind, act_bytes};
 ghost use Rattle.hippo_model.specs.StoredForms.{body, table_changed, stored};
 ghost use Rattle.hippo_model.specs.Keepable.{is_keepable};
+ghost use Rattle.hippo_entry.specs.Names.{names_bytes};
 
+use crate::names::three_names;
 use crate::parts::{Part, one_byte, write_byte, write_number, write_signed, write_text};
 use hippo_model::{Act, Cells, Entry, ItemKind, Places, Schema, StoredEntry};
 use hippo_values::{Bytes, Duplicate, Memory, Name, Txt};
@@ -85,26 +87,23 @@ fn write_new_item(item: &Name, kind: ItemKind, out: &mut Vec<u8>) -> Result<(), 
     write_byte(item_kind(kind), out)
 }
 
-fn write_names(first: &Name, second: &Name, third: &Name, out: &mut Vec<u8>) -> Result<(), Memory>
-    ensures { OnOk result
-        (out.new.items ≡ out.old.items ++ (name_bytes first.now ++ name_bytes second.now ++ name_bytes third.now)) }
+// Adds the three names that stand first in an act that has them.
+fn write_names(act: &Act, out: &mut Vec<u8>) -> Result<(), Memory>
+    ensures { OnOk result (out.new.items ≡ out.old.items ++ names_bytes act.now) }
 {
+    let Some((first, second, third)) = three_names(act) else {
+        return Ok(());
+    };
     first.write(out)?;
     second.write(out)?;
     third.write(out)
 }
 
-fn write_cells(
-    purpose: &Name,
-    recipient: &Name,
-    table: &Name,
-    columns: &Places,
-    out: &mut Vec<u8>,
-) -> Result<(), Memory>
+fn write_cells(act: &Act, columns: &Places, out: &mut Vec<u8>) -> Result<(), Memory>
     ensures { OnOk result
-        (out.new.items ≡ out.old.items ++ act_bytes (Revoke purpose.now recipient.now table.now columns.now)) }
+        (out.new.items ≡ out.old.items ++ (names_bytes act.now ++ list_bytes place_bytes columns.now)) }
 {
-    write_names(purpose, recipient, table, out)?;
+    write_names(act, out)?;
     columns.write(out)
 }
 
@@ -141,34 +140,24 @@ fn write_choice(subject: i64, item: &Name, yes: bool, out: &mut Vec<u8>) -> Resu
     write_byte(u8::from(yes), out)
 }
 
-fn write_question(
-    user: &Name,
-    purpose: &Name,
-    recipient: &Name,
-    text: &Txt,
-    out: &mut Vec<u8>,
-) -> Result<(), Memory>
-    ensures { OnOk result
-        (out.new.items ≡ out.old.items ++ act_bytes (Asked user.now purpose.now recipient.now text.now)) }
+fn write_question(act: &Act, text: &Txt, out: &mut Vec<u8>) -> Result<(), Memory>
+    ensures { OnOk result (out.new.items ≡ out.old.items ++ (names_bytes act.now ++ text_bytes text.now)) }
 {
-    write_names(user, purpose, recipient, out)?;
+    write_names(act, out)?;
     write_text(text, out)
 }
 
 fn write_rule(
-    purpose: &Name,
-    recipient: &Name,
-    table: &Name,
+    act: &Act,
     columns: &Places,
     item: &Option<Name>,
     days: Option<u32>,
     out: &mut Vec<u8>,
 ) -> Result<(), Memory>
-    ensures { OnOk result
-        (out.new.items ≡ out.old.items
-        ++ act_bytes (Allow purpose.now recipient.now table.now columns.now item.now days)) }
+    ensures { OnOk result (out.new.items ≡ out.old.items
+        ++ (names_bytes act.now ++ list_bytes place_bytes columns.now ++ item_bytes item.now ++ days_bytes days)) }
 {
-    write_cells(purpose, recipient, table, columns, out)?;
+    write_cells(act, columns, out)?;
     write_item(item, out)?;
     write_days(days, out)
 }
@@ -185,37 +174,16 @@ impl Part for Act {
             Act::Delete { table, key } => write_row(table, key, out),
             Act::Purpose(name) | Act::Recipient(name) => name.write(out),
             Act::Item { item, kind } => write_new_item(item, *kind, out),
-            Act::Authorize {
-                user,
-                purpose,
-                recipient,
-            }
-            | Act::Deauthorize {
-                user,
-                purpose,
-                recipient,
-            } => write_names(user, purpose, recipient, out),
+            Act::Authorize { .. } | Act::Deauthorize { .. } => write_names(self, out),
             Act::Allow {
-                purpose,
-                recipient,
-                table,
                 columns,
                 item,
                 days,
-            } => write_rule(purpose, recipient, table, columns, item, *days, out),
-            Act::Revoke {
-                purpose,
-                recipient,
-                table,
-                columns,
-            } => write_cells(purpose, recipient, table, columns, out),
+                ..
+            } => write_rule(self, columns, item, *days, out),
+            Act::Revoke { columns, .. } => write_cells(self, columns, out),
             Act::Choice { subject, item, yes } => write_choice(*subject, item, *yes, out),
-            Act::Asked {
-                user,
-                purpose,
-                recipient,
-                text,
-            } => write_question(user, purpose, recipient, text, out),
+            Act::Asked { text, .. } => write_question(self, text, out),
         }
     }
 }

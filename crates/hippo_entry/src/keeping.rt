@@ -3,11 +3,12 @@ ghost use Rattle.std.specs.Prelude.{◌≡◌, ◌&&◌, nat_le, nat_lt};
 ghost use Rattle.std.specs.List.{list_all};
 ghost use Rattle.hippo_values.specs.Limits.{text_limit, line_limit};
 ghost use Rattle.hippo_values.specs.Moments.{is_day, is_moment, is_signed_number};
-ghost use Rattle.hippo_model.specs.declared.entry.Act.TheVariants.{Allow};
 ghost use Rattle.hippo_model.specs.Keepable.{is_folded_name, is_text, cells_are_keepable, columns_are_keepable};
 ghost use Rattle.hippo_model.specs.Keepable.{key_is_keepable, subject_is_keepable, days_are_keepable, item_is_keepable};
-ghost use Rattle.hippo_model.specs.Keepable.{question_is_keepable, rule_is_keepable, act_is_keepable};
+ghost use Rattle.hippo_model.specs.Keepable.{places_are_keepable, question_is_keepable};
+ghost use Rattle.hippo_entry.specs.Names.{names_are_keepable};
 
+use crate::names::three_names;
 use hippo_model::{Act, Cells, Column, Columns, Entry, Places, Schema};
 use hippo_values::{DayNumber, LINE_LIMIT, Moment, Name, Sequence, TEXT_LIMIT, Txt, Value};
 
@@ -202,25 +203,20 @@ fn are_names(first: &Name, second: &Name, third: &Name) -> bool
     first.is_keepable() && second.is_keepable() && third.is_keepable()
 }
 
-fn rule_is_keepable(purpose: &Name, recipient: &Name, table: &Name, columns: &Places) -> bool
-    ensures { result ≡ rule_is_keepable purpose.now recipient.now table.now columns.now }
+// Whether the three names that stand first in an act can be kept, where it has them.
+fn names_are_keepable(act: &Act) -> bool
+    ensures { result ≡ names_are_keepable act.now }
 {
-    are_names(purpose, recipient, table) && columns.is_keepable()
+    match three_names(act) {
+        None => true,
+        Some((first, second, third)) => are_names(first, second, third),
+    }
 }
 
-fn allow_is_keepable(
-    purpose: &Name,
-    recipient: &Name,
-    table: &Name,
-    columns: &Places,
-    item: &Option<Name>,
-    days: Option<u32>,
-) -> bool
-    ensures { result ≡ act_is_keepable (Allow purpose.now recipient.now table.now columns.now item.now days) }
+fn rule_is_keepable(act: &Act, columns: &Places) -> bool
+    ensures { result ≡ names_are_keepable act.now && places_are_keepable columns.now }
 {
-    rule_is_keepable(purpose, recipient, table, columns)
-        && item_is_keepable(item)
-        && days_are_keepable(days)
+    names_are_keepable(act) && columns.is_keepable()
 }
 
 impl Keepable for Act {
@@ -235,37 +231,20 @@ impl Keepable for Act {
             Act::Delete { table, key } => row_is_keepable(table, key),
             Act::Purpose(name) | Act::Recipient(name) => name.is_keepable(),
             Act::Item { item, .. } => item.is_keepable(),
-            Act::Authorize {
-                user,
-                purpose,
-                recipient,
-            }
-            | Act::Deauthorize {
-                user,
-                purpose,
-                recipient,
-            } => are_names(user, purpose, recipient),
+            Act::Authorize { .. } | Act::Deauthorize { .. } => names_are_keepable(self),
             Act::Allow {
-                purpose,
-                recipient,
-                table,
                 columns,
                 item,
                 days,
-            } => allow_is_keepable(purpose, recipient, table, columns, item, *days),
-            Act::Revoke {
-                purpose,
-                recipient,
-                table,
-                columns,
-            } => rule_is_keepable(purpose, recipient, table, columns),
+                ..
+            } => {
+                rule_is_keepable(self, columns)
+                    && item_is_keepable(item)
+                    && days_are_keepable(*days)
+            }
+            Act::Revoke { columns, .. } => rule_is_keepable(self, columns),
             Act::Choice { subject, item, .. } => is_number(*subject) && item.is_keepable(),
-            Act::Asked {
-                user,
-                purpose,
-                recipient,
-                text,
-            } => are_names(user, purpose, recipient) && question_is_keepable(text),
+            Act::Asked { text, .. } => names_are_keepable(self) && question_is_keepable(text),
         }
     }
 }

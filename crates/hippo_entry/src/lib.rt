@@ -6,6 +6,7 @@ mod decoding;
 mod encoding;
 mod fault;
 mod keeping;
+mod names;
 mod parts;
 mod reading;
 

@@ -2,26 +2,17 @@
 use Rattle.std.proofs.Common.{◌≡◌, ◌∙◌, ap, ◌==◌, ◌||◌, ◌+◌, List, [], ◌∷◌, map, cond, refl, sym}
 use Rattle.std.proofs.lemmas.List.Sums.{sum_by-cons}
 use Rattle.hippo_model.specs.declared.entry.Act.{Act}
-use Rattle.hippo_model.specs.declared.entry.Act.TheVariants.{Create, Insert, Update, Delete, Purpose, Recipient, Item, Authorize, Deauthorize, Allow, Revoke, Choice, Asked}
+use Rattle.hippo_model.specs.declared.entry.Act.TheVariants.{Insert, Update, Delete}
 use Rattle.hippo_model.specs.declared.entry.Entry.{Entry}
 use Rattle.hippo_model.specs.StoredForms.{stored, act_kind}
 use Rattle.hippo_model.specs.Versions.{is_version, versions}
 use Rattle.hippo_keeper.specs.Selecting.{is_stored_version, stored_versions}
 
 kind_of_version : (act : Act) → (act_kind act == 2 || act_kind act == 3 || act_kind act == 4) ≡ is_version act
-kind_of_version (Create schema) = refl
 kind_of_version (Insert table row) = refl
 kind_of_version (Update table row) = refl
 kind_of_version (Delete table key) = refl
-kind_of_version (Purpose name) = refl
-kind_of_version (Recipient name) = refl
-kind_of_version (Item name kind) = refl
-kind_of_version (Authorize user purpose recipient) = refl
-kind_of_version (Deauthorize user purpose recipient) = refl
-kind_of_version (Allow purpose recipient table columns item days) = refl
-kind_of_version (Revoke purpose recipient table columns) = refl
-kind_of_version (Choice subject item agreed) = refl
-kind_of_version (Asked user purpose recipient text) = refl
+kind_of_version act = refl
 
 -- the stored form of a version, and of nothing else, is counted
 pub is_stored_version-stored : (entry : Entry) → is_stored_version (stored entry) ≡ is_version entry.act

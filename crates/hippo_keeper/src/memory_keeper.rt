@@ -45,9 +45,9 @@ impl Model for MemoryKeeper {
 }
 
 impl MemoryKeeper {
-    /// A keeper of these entries, whose numbers begin above 0 and rise. Of all calls of the trait `Keeper`, counted from
-    /// 1, those fail that are in `failing`; where an append is to keep its entry and fail, and finds no memory for it, it
-    /// answers `Memory` instead.
+    /// A keeper of these entries, whose numbers begin above 0 and rise. Of all calls of the trait `Keeper`, counted
+    /// from 1, those fail that are in `failing`; where an append is to keep its entry and fail, and finds no memory for
+    /// it, it answers `Memory` instead.
     pub fn new(kept: StoredList, failing: KeeperFails) -> MemoryKeeper
         requires { RisesAbove 0 kept }
         ensures { result ≡ new_store kept failing }
@@ -74,7 +74,8 @@ impl MemoryKeeper {
     pub fn restart(self) -> MemoryKeeper
         ensures new { result ≡ new_store self.kept [] }
         ensures survived { SurvivesInMemory self result.kept }
-        ensures finds { (name : List ℕ) (store : Store) → FindsInMemory result name store → SurvivesInMemory self store }
+        ensures finds { (name : List ℕ) (store : Store)
+            → FindsInMemory result name store → SurvivesInMemory self store }
     {
         let mut failing = self.failing;
         failing.clear();

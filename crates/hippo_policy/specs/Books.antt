@@ -9,7 +9,7 @@ use Rattle.hippo_model.specs.declared.entry.Act.TheVariants.{Item, Authorize, De
 use Rattle.hippo_model.specs.declared.policy.Authorization.{Authorization}
 use Rattle.hippo_model.specs.Terms.{History, Place}
 use Rattle.hippo_model.specs.Histories.{item_created}
-use Rattle.hippo_model.specs.Rules.{Rule, RuledCell, rule_in, choice_in, authorization_in}
+use Rattle.hippo_model.specs.Rules.{Rule, RuledCell, rule_in, rule_at, choice_in, authorization_in}
 use Rattle.hippo_policy.specs.declared.book.Matter.{Matter}
 use Rattle.hippo_policy.specs.declared.book.Matter.TheVariants.{Nothing, Cells, Choice as OfChoice, User, Item as OfItem}
 use Rattle.hippo_policy.specs.declared.book.PolicyBook.{PolicyBook}
@@ -21,7 +21,16 @@ use Rattle.hippo_policy.specs.Words.{LastWords, words_of, with_word, numbered, l
 
 abbrev pub cell_of : CellKey → RuledCell
 cell_of key =
-    record { purpose = key.table.purpose; recipient = key.table.recipient; table = key.table.table; column = key.column }
+    record {
+      purpose = key.table.purpose;
+      recipient = key.table.recipient;
+      table = key.table.table;
+      column = key.column;
+    }
+
+-- the rule of the cell that a key names
+abbrev pub rule_of : History → CellKey → Option Rule
+rule_of history key = rule_at history key.table.purpose key.table.recipient key.table.table key.column
 
 -- what an entry says of a cell, of a patient's choice, of a user's authorization, of an item
 abbrev pub rule_word : CellKey → Entry → Option Rule
@@ -53,6 +62,12 @@ cell_keys purpose recipient table columns =
     (λ column. record { table = record { purpose = purpose; recipient = recipient; table = table }; column = column })
     columns
 
+-- the keys of the cells that an act rules
+abbrev pub ruled_cells : Act → List CellKey
+ruled_cells (Allow purpose recipient table columns item days) = cell_keys purpose recipient table columns
+ruled_cells (Revoke purpose recipient table columns) = cell_keys purpose recipient table columns
+ruled_cells act = []
+
 -- what an act speaks of
 abbrev pub matter_of : Act → Matter
 matter_of (Item item kind) = OfItem item
@@ -65,15 +80,13 @@ matter_of (Revoke purpose recipient table columns) = Cells (cell_keys purpose re
 matter_of (Choice subject item agreed) = OfChoice (record { subject = subject; item = item })
 matter_of act = Nothing
 
+abbrev is_nothing : Matter → Bool
+is_nothing Nothing = true
+is_nothing matter = false
+
 -- whether an act says nothing that a book keeps
 abbrev pub is_silent : Act → Bool
-is_silent (Item item kind) = false
-is_silent (Authorize user purpose recipient) = false
-is_silent (Deauthorize user purpose recipient) = false
-is_silent (Allow purpose recipient table columns item days) = false
-is_silent (Revoke purpose recipient table columns) = false
-is_silent (Choice subject item agreed) = false
-is_silent act = true
+is_silent act = is_nothing (matter_of act)
 
 -- a book knows what its last entry speaks of
 abbrev pub Remembers : PolicyBook → Act → Type 0
@@ -90,14 +103,16 @@ pub record Adds (old new : PolicyBook) (number : ℕ) (act : Act) : Type 0 where
 pub record AddsUser (old new : PolicyBook) (number : ℕ) (key : UserKey) (word : Authorization) : Type 0 where
   pub users : (other : UserKey) → words_of same_user new.users other
       ≡ with_word (same_user key other) (record { number = number; word = word }) (words_of same_user old.users other)
-  pub others : new ≡ record { rules = old.rules; choices = old.choices; users = new.users; items = old.items; last = User key }
+  pub others : new
+      ≡ record { rules = old.rules; choices = old.choices; users = new.users; items = old.items; last = User key }
 
 -- a book has one word more on some cells
 pub record AddsRule (old new : PolicyBook) (number : ℕ) (keys : List CellKey) (word : Rule) : Type 0 where
   pub rules : (other : CellKey) → words_of same_cell new.rules other
       ≡ with_word (list_any (λ key. same_cell key other) keys) (record { number = number; word = word })
       (words_of same_cell old.rules other)
-  pub others : new ≡ record { rules = new.rules; choices = old.choices; users = old.users; items = old.items; last = Cells keys }
+  pub others : new
+      ≡ record { rules = new.rules; choices = old.choices; users = old.users; items = old.items; last = Cells keys }
 
 -- a book stands for what it stood for
 pub record IsAsBefore (old new : PolicyBook) : Type 0 where

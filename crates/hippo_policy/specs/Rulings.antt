@@ -1,5 +1,7 @@
 -- How a rule is held and answered.
-use Rattle.std.specs.Prelude.{Bool, true, false, Option, Some, None}
+use Rattle.std.specs.Prelude.{ℕ, Bool, true, false, Option, Some, None}
+use Rattle.hippo_model.specs.declared.entry.Act.{Act}
+use Rattle.hippo_model.specs.declared.entry.Act.TheVariants.{Allow}
 use Rattle.hippo_model.specs.declared.entry.ItemKind.{ItemKind}
 use Rattle.hippo_model.specs.declared.entry.ItemKind.TheVariants.{OptIn, OptOut}
 use Rattle.hippo_model.specs.Terms.{History}
@@ -13,6 +15,11 @@ use Rattle.hippo_policy.specs.declared.ruling.Held.TheVariants.{Allowed, Revoked
 abbrev pub held_rule : Held → Rule
 held_rule (Allowed rule item days) = allowed rule item days
 held_rule (HeldRevoked rule) = revoked rule
+
+-- what an act that rules cells says of them, as the entry with a number
+abbrev pub ruling_in : ℕ → Act → Rule
+ruling_in number (Allow purpose recipient table columns item days) = allowed number item days
+ruling_in number act = revoked number
 
 -- the rule that is answered, whatever is said of its item
 abbrev pub ruling_of : RuleAt → Option Rule

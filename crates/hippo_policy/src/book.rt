@@ -3,13 +3,14 @@ ghost use Rattle.std.specs.Prelude.{◌≡◌, ℕ, true, IsOk, ◌∷◌, [], �
 ghost use Rattle.hippo_model.specs.Terms.{History};
 ghost use Rattle.hippo_model.specs.declared.entry.Entry.{Entry as HistoryEntry};
 ghost use Rattle.hippo_model.specs.declared.entry.Act.{Act as HistoryAct};
-ghost use Rattle.hippo_model.specs.declared.entry.Act.TheVariants.{Item, Authorize, Deauthorize, Allow, Revoke, Choice};
-ghost use Rattle.hippo_policy.specs.Books.{StandsFor, Remembers, Adds, AddsUser, AddsRule, IsAsBefore, cell_keys, is_silent};
+ghost use Rattle.hippo_model.specs.declared.entry.Act.TheVariants.{Item, Choice};
+ghost use Rattle.hippo_policy.specs.Books.{StandsFor, Remembers, Adds, AddsUser, AddsRule, IsAsBefore, cell_keys, ruled_cells, is_silent};
+ghost use Rattle.hippo_policy.specs.Rulings.{ruling_in};
 
 use crate::keys::{CellKey, ChoiceKey, KeyName, TableKey, UserKey};
 use crate::last_words::{LastWords, Said};
 use crate::ruling::Ruling;
-use hippo_model::{Act, Authorization, Entry, ItemKind, Places};
+use hippo_model::{Act, Authorization, Entry, ItemKind};
 use hippo_values::{Memory, Name, Sequence};
 use std::alloc::Global;
 
@@ -54,6 +55,28 @@ fn cell_keys(
     Ok(keys)
 }
 
+// The keys of the cells that an act rules.
+fn ruled_cells(alloc: Global, act: &Act) -> Result<Sequence<CellKey<'static>>, Memory>
+    ensures { IfOk result (λ keys. keys ≡ ruled_cells act.now) }
+{
+    match act {
+        Act::Allow {
+            purpose,
+            recipient,
+            table,
+            columns,
+            ..
+        }
+        | Act::Revoke {
+            purpose,
+            recipient,
+            table,
+            columns,
+        } => cell_keys(alloc, purpose, recipient, table, columns.as_slice()),
+        _ => Ok(Sequence::new(alloc)),
+    }
+}
+
 impl PolicyBook {
     /// The book of the empty history; takes no memory.
     pub fn new(alloc: Global) -> PolicyBook
@@ -70,7 +93,13 @@ impl PolicyBook {
 
     // What the last entry speaks of.
     fn remember(&mut self, last: Matter)
-        ensures { self.new ≡ record { rules = self.old.rules; choices = self.old.choices; users = self.old.users; items = self.old.items; last = last } }
+        ensures { self.new ≡ record {
+          rules = self.old.rules;
+          choices = self.old.choices;
+          users = self.old.users;
+          items = self.old.items;
+          last = last;
+        } }
     {
         self.last = last;
     }
@@ -130,90 +159,18 @@ impl PolicyBook {
         Ok(())
     }
 
-    fn add_authorize(
-        &mut self,
-        alloc: Global,
-        number: u64,
-        user: &Name,
-        purpose: &Name,
-        recipient: &Name,
-    ) -> Result<(), Memory>
-        ensures ok { OnOk result (Adds self.old self.new number (Authorize user.now purpose.now recipient.now)) }
+    // An ALLOW or a REVOKE.
+    fn add_rule(&mut self, alloc: Global, number: u64, act: &Act) -> Result<(), Memory>
+        ensures ok { OnOk result
+            (AddsRule self.old self.new number (ruled_cells act.now) (ruling_in number act.now)) }
         ensures err { OnErr result (IsAsBefore self.old self.new) }
     {
-        self.add_user(alloc, number, user, purpose, recipient, Authorization::Yes)
-    }
-
-    fn add_deauthorize(
-        &mut self,
-        alloc: Global,
-        number: u64,
-        user: &Name,
-        purpose: &Name,
-        recipient: &Name,
-    ) -> Result<(), Memory>
-        ensures ok { OnOk result (Adds self.old self.new number (Deauthorize user.now purpose.now recipient.now)) }
-        ensures err { OnErr result (IsAsBefore self.old self.new) }
-    {
-        self.add_user(
-            alloc,
-            number,
-            user,
-            purpose,
-            recipient,
-            Authorization::No(number),
-        )
-    }
-
-    fn add_rule(
-        &mut self,
-        alloc: Global,
-        number: u64,
-        keys: Sequence<CellKey<'static>>,
-        ruling: &Ruling,
-    ) -> Result<(), Memory>
-        ensures ok { OnOk result (AddsRule self.old self.new number keys.entry ruling.now) }
-        ensures err { OnErr result (IsAsBefore self.old self.new) }
-    {
-        self.rules.push_all(alloc, keys.as_slice(), number, ruling)?;
+        let keys = ruled_cells(alloc, act)?;
+        let ruling = Ruling::of(alloc, number, act)?;
+        self.rules
+            .push_all(alloc, keys.as_slice(), number, &ruling)?;
         self.remember(Matter::Cells(keys));
         Ok(())
-    }
-
-    fn add_allow(
-        &mut self,
-        alloc: Global,
-        number: u64,
-        purpose: &Name,
-        recipient: &Name,
-        table: &Name,
-        columns: &Places,
-        item: &Option<Name>,
-        days: Option<u32>,
-    ) -> Result<(), Memory>
-        ensures ok { OnOk result (Adds self.old self.new number (Allow purpose.now recipient.now table.now columns.now item.now days)) }
-        ensures err { OnErr result (IsAsBefore self.old self.new) }
-    {
-        let keys = cell_keys(alloc, purpose, recipient, table, columns.as_slice())?;
-        let ruling = Ruling::allowed(alloc, number, item, days)?;
-        self.add_rule(alloc, number, keys, &ruling)
-    }
-
-    fn add_revoke(
-        &mut self,
-        alloc: Global,
-        number: u64,
-        purpose: &Name,
-        recipient: &Name,
-        table: &Name,
-        columns: &Places,
-    ) -> Result<(), Memory>
-        ensures ok { OnOk result (Adds self.old self.new number (Revoke purpose.now recipient.now table.now columns.now)) }
-        ensures err { OnErr result (IsAsBefore self.old self.new) }
-    {
-        let keys = cell_keys(alloc, purpose, recipient, table, columns.as_slice())?;
-        let ruling = Ruling::revoked(number);
-        self.add_rule(alloc, number, keys, &ruling)
     }
 
     // An entry that says nothing of what the book keeps.
@@ -237,26 +194,14 @@ impl PolicyBook {
                 user,
                 purpose,
                 recipient,
-            } => self.add_authorize(alloc, seq, user, purpose, recipient),
+            } => self.add_user(alloc, seq, user, purpose, recipient, Authorization::Yes),
             Act::Deauthorize {
                 user,
                 purpose,
                 recipient,
-            } => self.add_deauthorize(alloc, seq, user, purpose, recipient),
-            Act::Allow {
-                purpose,
-                recipient,
-                table,
-                columns,
-                item,
-                days,
-            } => self.add_allow(alloc, seq, purpose, recipient, table, columns, item, *days),
-            Act::Revoke {
-                purpose,
-                recipient,
-                table,
-                columns,
-            } => self.add_revoke(alloc, seq, purpose, recipient, table, columns),
+            } => self.add_user(alloc, seq, user, purpose, recipient, Authorization::No(seq)),
+            Act::Allow { .. } => self.add_rule(alloc, seq, &entry.act),
+            Act::Revoke { .. } => self.add_rule(alloc, seq, &entry.act),
             Act::Choice { subject, item, yes } => self.add_choice(alloc, seq, subject, item, *yes),
             _ => Ok(self.pass_over()),
         }

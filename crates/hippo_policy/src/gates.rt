@@ -1,15 +1,15 @@
 //! What decides whether the cells of tables are shown, at an entry number.
 ghost use Rattle.std.specs.Prelude.{◌≡◌, take, IfOk, Some, option_map, map};
 ghost use Rattle.hippo_model.specs.Terms.{History};
-ghost use Rattle.hippo_model.specs.Rules.{rule_at};
-ghost use Rattle.hippo_policy.specs.Books.{StandsFor};
-ghost use Rattle.hippo_policy.specs.Gates.{after, gate_of_age, gate_of_item, gate_by, gates_at, table_rules};
+ghost use Rattle.hippo_policy.specs.Books.{StandsFor, rule_of};
+ghost use Rattle.hippo_policy.specs.Gates.{after, gate_of_age, gate_of_item, gate_by, table_rules};
 ghost use Rattle.hippo_model.specs.Rules.{allowed};
 
 use crate::book::PolicyBook;
+use crate::keys::CellKey;
 use crate::ruling::Ruling;
 use crate::verdicts::DAY;
-use hippo_model::{Gate, Gates, ItemKind, RuleAt, RulesInForce, Schema, Schemas, TableRules};
+use hippo_model::{Gate, ItemKind, RuleAt, RulesInForce, Schema, Schemas, TableRules};
 use hippo_values::{Duplicate, Memory, Moment, Name, Sequence};
 use std::alloc::Global;
 
@@ -78,20 +78,17 @@ impl PolicyBook {
         }
     }
 
-    fn gate_at(
-        &self,
+    fn gate_at<'a>(
+        &'a self,
         alloc: Global,
         n: u64,
         moment: &Moment,
-        purpose: &Name,
-        recipient: &Name,
-        table: &Name,
-        column: usize,
+        cell: &CellKey<'a>,
     ) -> Result<Gate, Memory>
         ensures { IfOk result (λ gate. (history : History) → StandsFor self.now history
-            → gate ≡ gate_by (take n history) moment.now (rule_at (take n history) purpose.now recipient.now table.now column)) }
+            → gate ≡ gate_by (take n history) moment.now (rule_of (take n history) cell.now)) }
     {
-        match self.ruling_at(n, purpose, recipient, table, column) {
+        match self.ruling_at(n, cell) {
             None => Ok(Gate::Never(0)),
             Some(ruling) => self.gate_by(alloc, n, moment, ruling),
         }
@@ -124,38 +121,24 @@ fn gate_of_kind(moment: &Moment, rule: u64, item: Name, days: Option<u32>, kind:
 }
 
 impl PolicyBook {
-    fn gates_at(
-        &self,
+    fn table_rules<'a>(
+        &'a self,
         alloc: Global,
         n: u64,
         moment: &Moment,
-        purpose: &Name,
-        recipient: &Name,
-        schema: &Schema,
-    ) -> Result<Gates, Memory>
-        ensures { IfOk result (λ gates. (history : History) → StandsFor self.now history
-            → gates ≡ gates_at (take n history) (record { purpose = purpose.now; recipient = recipient.now; moment = moment.now }) schema.now) }
+        purpose: &'a Name,
+        recipient: &'a Name,
+        schema: &'a Schema,
+    ) -> Result<TableRules, Memory>
+        ensures { IfOk result (λ rules. (history : History) → StandsFor self.now history
+            → rules ≡ table_rules (take n history)
+            (record { purpose = purpose.now; recipient = recipient.now; moment = moment.now }) schema.now) }
     {
         let mut gates = Sequence::new(alloc);
         for place in 0..schema.columns.len() {
-            gates.push(self.gate_at(alloc, n, moment, purpose, recipient, &schema.name, place)?)?;
+            let cell = CellKey::lent(purpose, recipient, &schema.name, place);
+            gates.push(self.gate_at(alloc, n, moment, &cell)?)?;
         }
-        Ok(gates)
-    }
-
-    fn table_rules(
-        &self,
-        alloc: Global,
-        n: u64,
-        moment: &Moment,
-        purpose: &Name,
-        recipient: &Name,
-        schema: &Schema,
-    ) -> Result<TableRules, Memory>
-        ensures { IfOk result (λ rules. (history : History) → StandsFor self.now history
-            → rules ≡ table_rules (take n history) (record { purpose = purpose.now; recipient = recipient.now; moment = moment.now }) schema.now) }
-    {
-        let gates = self.gates_at(alloc, n, moment, purpose, recipient, schema)?;
         let key = schema.key.copy(alloc)?;
         Ok(TableRules {
             gates,
@@ -164,8 +147,8 @@ impl PolicyBook {
         })
     }
 
-    /// The rules of each table for a purpose and recipient at a moment, by the first `n` entries: a gate for each column,
-    /// the places of the key and of the subject.
+    /// The rules of each table for a purpose and recipient at a moment, by the first `n` entries: a gate for each
+    /// column, the places of the key and of the subject.
     pub fn rules_in_force(
         &self,
         alloc: Global,
@@ -176,7 +159,8 @@ impl PolicyBook {
         tables: &Schemas,
     ) -> Result<RulesInForce, Memory>
         ensures { IfOk result (λ rules. (history : History) → StandsFor self.now history
-            → rules ≡ map (table_rules (take n history) (record { purpose = purpose.now; recipient = recipient.now; moment = moment })) tables.now) }
+            → rules ≡ map (table_rules (take n history)
+            (record { purpose = purpose.now; recipient = recipient.now; moment = moment })) tables.now) }
     {
         let mut rules = Sequence::new(alloc);
         for schema in tables.as_slice() {

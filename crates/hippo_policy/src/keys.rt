@@ -137,7 +137,8 @@ impl<'a> UserKey<'a> {
         purpose: &Name,
         recipient: &Name,
     ) -> Result<UserKey<'a>, Memory>
-        ensures { IfOk result (λ made. made ≡ record { user = user.now; purpose = purpose.now; recipient = recipient.now }) }
+        ensures { IfOk result (λ made. made
+            ≡ record { user = user.now; purpose = purpose.now; recipient = recipient.now }) }
     {
         let user = KeyName::owned(alloc, user)?;
         let purpose = KeyName::owned(alloc, purpose)?;
@@ -175,7 +176,8 @@ impl<'a> TableKey<'a> {
         recipient: &Name,
         table: &Name,
     ) -> Result<TableKey<'a>, Memory>
-        ensures { IfOk result (λ made. made ≡ record { purpose = purpose.now; recipient = recipient.now; table = table.now }) }
+        ensures { IfOk result (λ made. made
+            ≡ record { purpose = purpose.now; recipient = recipient.now; table = table.now }) }
     {
         let purpose = KeyName::owned(alloc, purpose)?;
         let recipient = KeyName::owned(alloc, recipient)?;
@@ -193,6 +195,25 @@ impl<'a> TableKey<'a> {
 pub struct CellKey<'a> {
     pub table: TableKey<'a>,
     pub column: usize,
+}
+
+impl<'a> CellKey<'a> {
+    pub fn lent(
+        purpose: &'a Name,
+        recipient: &'a Name,
+        table: &'a Name,
+        column: usize,
+    ) -> CellKey<'a>
+        ensures { result ≡ record {
+          table = record { purpose = purpose.now; recipient = recipient.now; table = table.now };
+          column = column;
+        } }
+    {
+        CellKey {
+            table: TableKey::lent(purpose, recipient, table),
+            column,
+        }
+    }
 }
 
 impl<'a> Duplicate for CellKey<'a> {

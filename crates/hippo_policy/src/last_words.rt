@@ -49,7 +49,8 @@ impl<K: Eq + Hash + Drop, W: Drop> LastWords<K, W> {
 
     /// What was said last of a key up to entry number `n`.
     pub fn at(&self, n: u64, key: &K) -> Option<&W>
-        ensures history { (word : Entry → Option W) (history : History) → words_of K.eq self.now key.now ≡ numbered word history
+        ensures history { (word : Entry → Option W) (history : History)
+            → words_of K.eq self.now key.now ≡ numbered word history
             → option_copied result ≡ last_word word (take n history) }
         ensures latest { option_copied result ≡ latest n (words_of K.eq self.now key.now) }
     {
@@ -61,7 +62,8 @@ impl<K: Eq + Hash + Drop, W: Drop> LastWords<K, W> {
 
     /// Adds what an entry says of a key.
     pub fn push(&mut self, alloc: Global, key: K, said: Said<W>) -> Result<(), Memory>
-        ensures ok { OnOk result ((other : K) → words_of K.eq self.new other ≡ with_word (K.eq key other) said (words_of K.eq self.old other)) }
+        ensures ok { OnOk result ((other : K) → words_of K.eq self.new other
+            ≡ with_word (K.eq key other) said (words_of K.eq self.old other)) }
         ensures err { OnErr result ((other : K) → words_of K.eq self.new other ≡ words_of K.eq self.old other) }
     {
         match self.words.get_mut(&key) {
@@ -74,7 +76,8 @@ impl<K: Eq + Hash + Drop, W: Drop> LastWords<K, W> {
     }
 
     fn begin(&mut self, alloc: Global, key: K, said: Said<W>) -> Result<(), Memory>
-        ensures ok { OnOk result ((other : K) → words_of K.eq self.new other ≡ (if K.eq key other then no_earlier [] said ∷ [] else words_of K.eq self.old other)) }
+        ensures ok { OnOk result ((other : K) → words_of K.eq self.new other
+            ≡ (if K.eq key other then no_earlier [] said ∷ [] else words_of K.eq self.old other)) }
         ensures err { OnErr result ((other : K) → words_of K.eq self.new other ≡ words_of K.eq self.old other) }
     {
         let mut words = Sayings::new(alloc);
@@ -85,7 +88,8 @@ impl<K: Eq + Hash + Drop, W: Drop> LastWords<K, W> {
 
     /// Takes back what was said last of a key.
     pub fn pop(&mut self, key: &K)
-        ensures { (other : K) → words_of K.eq self.new other ≡ without_word (K.eq key.now other) (words_of K.eq self.old other) }
+        ensures { (other : K) → words_of K.eq self.new other
+            ≡ without_word (K.eq key.now other) (words_of K.eq self.old other) }
     {
         if let Some(words) = self.words.get_mut(key) {
             words.pop();
@@ -96,7 +100,8 @@ impl<K: Eq + Hash + Drop, W: Drop> LastWords<K, W> {
 impl<K: Eq + Hash + Duplicate + Drop, W: Duplicate + Drop> LastWords<K, W> {
     fn push_copy(&mut self, alloc: Global, key: &K, number: u64, word: &W) -> Result<(), Memory>
         ensures ok { OnOk result ((other : K) → words_of K.eq self.new other
-            ≡ with_word (K.eq key.now other) (record { number = number; word = word.now }) (words_of K.eq self.old other)) }
+            ≡ with_word (K.eq key.now other) (record { number = number; word = word.now })
+            (words_of K.eq self.old other)) }
         ensures err { OnErr result ((other : K) → words_of K.eq self.new other ≡ words_of K.eq self.old other) }
     {
         let key = key.copy(alloc)?;
@@ -125,7 +130,8 @@ impl<K: Eq + Hash + Duplicate + Drop, W: Duplicate + Drop> LastWords<K, W> {
         word: &W,
     ) -> Result<(), Memory>
         ensures ok { OnOk result ((other : K) → words_of K.eq self.new other
-            ≡ with_word (list_any (λ key. K.eq key other) keys.now) (record { number = number; word = word.now }) (words_of K.eq self.old other)) }
+            ≡ with_word (list_any (λ key. K.eq key other) keys.now) (record { number = number; word = word.now })
+            (words_of K.eq self.old other)) }
         ensures err { OnErr result ((other : K) → words_of K.eq self.new other ≡ words_of K.eq self.old other) }
     {
         for place in 0..keys.len() {

@@ -3,29 +3,21 @@ ghost use Rattle.std.specs.Prelude.{◌≡◌, ℕ, take, option_copied, option_
 ghost use Rattle.hippo_model.specs.Terms.{History};
 ghost use Rattle.hippo_model.specs.Histories.{item_at};
 ghost use Rattle.hippo_model.specs.Rules.{rule_at, choice_at, authorized_at};
-ghost use Rattle.hippo_policy.specs.Books.{StandsFor, choice_kept};
+ghost use Rattle.hippo_policy.specs.Books.{StandsFor, rule_of, choice_kept};
 ghost use Rattle.hippo_policy.specs.Rulings.{ruling_of, asks_opt_in, opt_in_at, is_opt_in};
 
 use crate::book::PolicyBook;
-use crate::keys::{CellKey, ChoiceKey, KeyName, TableKey, UserKey};
+use crate::keys::{CellKey, ChoiceKey, KeyName, UserKey};
 use crate::ruling::Ruling;
 use hippo_model::{Authorization, ItemKind, RuleAt};
 use hippo_values::Name;
 
 impl PolicyBook {
-    pub(crate) fn ruling_at<'a>(
-        &'a self,
-        n: u64,
-        purpose: &'a Name,
-        recipient: &'a Name,
-        table: &'a Name,
-        column: usize,
-    ) -> Option<&'a Ruling>
+    pub(crate) fn ruling_at<'a>(&'a self, n: u64, cell: &CellKey<'a>) -> Option<&'a Ruling>
         ensures { (history : History) → StandsFor self.now history
-            → option_copied result ≡ rule_at (take n history) purpose.now recipient.now table.now column }
+            → option_copied result ≡ rule_of (take n history) cell.now }
     {
-        let table = TableKey::lent(purpose, recipient, table);
-        self.rules.at(n, &CellKey { table, column })
+        self.rules.at(n, cell)
     }
 
     /// How silence on an item is read, as of the first `n` entries; none where no entry creates it.
@@ -36,7 +28,8 @@ impl PolicyBook {
     }
 
     pub(crate) fn choice_of(&self, n: u64, subject: &i64, item: &Name) -> Option<bool>
-        ensures history { (history : History) → StandsFor self.now history → result ≡ choice_at (take n history) subject.now item.now }
+        ensures history { (history : History) → StandsFor self.now history
+            → result ≡ choice_at (take n history) subject.now item.now }
         ensures kept { result ≡ choice_kept self.now n subject.now item.now }
     {
         self.choices.at(n, &ChoiceKey::lent(subject, item)).copied()
@@ -44,7 +37,8 @@ impl PolicyBook {
 
     /// The last choice of a patient on an item, among the first `n` entries.
     pub fn choice_at(&self, n: u64, subject: i64, item: &Name) -> Option<bool>
-        ensures { (history : History) → StandsFor self.now history → result ≡ choice_at (take n history) subject item.now }
+        ensures { (history : History) → StandsFor self.now history
+            → result ≡ choice_at (take n history) subject item.now }
     {
         self.choice_of(n, &subject, item)
     }
@@ -80,9 +74,11 @@ impl PolicyBook {
         ensures rule { (history : History) → StandsFor self.now history
             → ruling_of result ≡ rule_at (take n history) purpose.now recipient.now table.now column }
         ensures silence { (history : History) → StandsFor self.now history
-            → asks_opt_in result ≡ opt_in_at (take n history) (rule_at (take n history) purpose.now recipient.now table.now column) }
+            → asks_opt_in result
+            ≡ opt_in_at (take n history) (rule_at (take n history) purpose.now recipient.now table.now column) }
     {
-        match self.ruling_at(n, purpose, recipient, table, column) {
+        let cell = CellKey::lent(purpose, recipient, table, column);
+        match self.ruling_at(n, &cell) {
             None => RuleAt::Unnamed,
             Some(ruling) => self.answered(n, ruling),
         }
@@ -111,7 +107,8 @@ impl PolicyBook {
 
     // Whether an item needs a YES; one that no entry creates does.
     fn is_opt_in(&self, n: u64, item: &Name) -> bool
-        ensures { (history : History) → StandsFor self.now history → result ≡ is_opt_in (item_at (take n history) item.now) }
+        ensures { (history : History) → StandsFor self.now history
+            → result ≡ is_opt_in (item_at (take n history) item.now) }
     {
         !matches!(self.item_at(n, item), Some(ItemKind::OptOut))
     }

@@ -1,9 +1,9 @@
 //! What an ALLOW or a REVOKE says of a cell.
 ghost use Rattle.std.specs.Prelude.{◌≡◌, IfOk, Some, option_map};
 ghost use Rattle.hippo_model.specs.Rules.{allowed, revoked};
-ghost use Rattle.hippo_policy.specs.Rulings.{ruling_of};
+ghost use Rattle.hippo_policy.specs.Rulings.{ruling_of, ruling_in};
 
-use hippo_model::RuleAt;
+use hippo_model::{Act, RuleAt};
 use hippo_values::{Duplicate, Memory, Name};
 use std::alloc::Global;
 use std::marker::Model;
@@ -62,6 +62,16 @@ impl Ruling {
     {
         Ruling {
             held: Held::Revoked(rule),
+        }
+    }
+
+    /// What an act that rules cells says of them, as the entry with this number.
+    pub fn of(alloc: Global, number: u64, act: &Act) -> Result<Ruling, Memory>
+        ensures { IfOk result (λ made. made ≡ ruling_in number act.now) }
+    {
+        match act {
+            Act::Allow { item, days, .. } => Ruling::allowed(alloc, number, item, *days),
+            _ => Ok(Ruling::revoked(number)),
         }
     }
 

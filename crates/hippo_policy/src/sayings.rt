@@ -44,7 +44,8 @@ impl<W: Drop> Sayings<W> {
 
     /// Adds what an entry says. It counts as said no earlier than what was said before it.
     pub fn push(&mut self, said: Said<W>) -> Result<(), Memory>
-        ensures ok { OnOk result (self.new.said.items ≡ self.old.said.items ++ no_earlier self.old.said.items said ∷ []) }
+        ensures ok { OnOk result (self.new.said.items
+            ≡ self.old.said.items ++ no_earlier self.old.said.items said ∷ []) }
         ensures err { OnErr result (self.new.said.items ≡ self.old.said.items) }
     {
         let Said { number, word } = said;

@@ -5,6 +5,7 @@ ghost use Rattle.hippo_model.specs.Verdicts.{subject_of, consents, days_long, ha
 ghost use Rattle.hippo_policy.specs.Books.{StandsFor};
 
 use crate::book::PolicyBook;
+use crate::keys::CellKey;
 use crate::ruling::Ruling;
 use hippo_model::{Cells, ItemKind, RuleAt, Schema, Verdict};
 use hippo_values::{Moment, Name, Value};
@@ -66,7 +67,8 @@ impl PolicyBook {
         ruling: &Ruling,
     ) -> Verdict
         ensures { (history : History) → StandsFor self.now history
-            → result ≡ verdict_by (take n history) (moment.now -ℤ born.now) (option_copied subject.entry) (Some ruling.now) }
+            → result
+            ≡ verdict_by (take n history) (moment.now -ℤ born.now) (option_copied subject.entry) (Some ruling.now) }
     {
         match ruling.as_rule_at() {
             RuleAt::Unnamed => Verdict::Denied(0),
@@ -93,25 +95,27 @@ impl PolicyBook {
         }
     }
 
-    /// Whether the cell in a row's column is shown for a purpose and recipient at a moment, by the first `n` entries, or
-    /// the number of the rule that denies it, 0 where no rule names it. A row's age counts from the moment at which it
-    /// was born, the last INSERT of its key.
-    pub fn verdict(
-        &self,
+    /// Whether the cell in a row's column is shown for a purpose and recipient at a moment, by the first `n` entries,
+    /// or the number of the rule that denies it, 0 where no rule names it. A row's age counts from the moment at which
+    /// it was born, the last INSERT of its key.
+    pub fn verdict<'a>(
+        &'a self,
         n: u64,
         moment: Moment,
-        purpose: &Name,
-        recipient: &Name,
-        schema: &Schema,
+        purpose: &'a Name,
+        recipient: &'a Name,
+        schema: &'a Schema,
         row: &Cells,
         born: Moment,
         column: usize,
     ) -> Verdict
         ensures { (history : History) → StandsFor self.now history
-            → result ≡ verdict (take n history) (record { purpose = purpose.now; recipient = recipient.now; moment = moment })
+            → result ≡ verdict (take n history)
+            (record { purpose = purpose.now; recipient = recipient.now; moment = moment })
             schema.now (record { row = row.now; born = born }) column }
     {
-        match self.ruling_at(n, purpose, recipient, &schema.name, column) {
+        let cell = CellKey::lent(purpose, recipient, &schema.name, column);
+        match self.ruling_at(n, &cell) {
             None => Verdict::Denied(0),
             Some(ruling) => {
                 let subject = subject_of(schema, row);

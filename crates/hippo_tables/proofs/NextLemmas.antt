@@ -28,6 +28,10 @@ none_of_or : {A : Type 0} (first second : Option A) → option_or first second �
 none_of_or None second none = (refl, none)
 none_of_or (Some x) second none = absurd cc
 
+none_found : {A : Type 0} (found : Option A) → is_none found ≡ true → found ≡ None
+none_found None e = refl
+none_found (Some x) e = absurd cc
+
 not_made : (history : History) (table : Name) (test : Schema → Bool) → schema_at history table ≡ None → option_map_or test (schema_at history table) false ≡ true → ⊥
 not_made history table test unmade passes = false≢true (sym (ap (λ found. option_map_or test found false) unmade) ∙ passes)
 
@@ -61,10 +65,6 @@ follows : (test : Bool) (found : Option ℕ) (place : ℕ) → (if test then fou
 follows true found place e = (refl, e)
 follows false found place e = absurd cc
 
-none_from_test : (found : Option ℕ) → is_none found ≡ true → found ≡ None
-none_from_test None e = refl
-none_from_test (Some place) e = absurd cc
-
 MadeFirst-after : (meaning : Meaning) (front later : History) → MadeFirst front → damage_after meaning front later ≡ None → MadeFirst (front ++ later)
 MadeFirst-after meaning front [] made sound = subst (λ (history : History). MadeFirst history) (sym (append-nil front)) made
 MadeFirst-after meaning front (entry ∷ later) made sound =
@@ -73,15 +73,11 @@ MadeFirst-after meaning front (entry ∷ later) made sound =
     (MadeFirst-after meaning (front ++ entry ∷ []) later (MadeFirst-append meaning front entry made (acts_fit meaning front entry both.0)) both.1)
 
 pub MadeFirst-valid : (meaning : Meaning) (history : History) → is_valid meaning history ≡ true → MadeFirst history
-MadeFirst-valid meaning history valid = MadeFirst-after meaning [] history (λ schema unmade. refl) (none_from_test (damage meaning history) valid)
-
-unmade_from : (found : Option Schema) → is_none found ≡ true → found ≡ None
-unmade_from None e = refl
-unmade_from (Some schema) e = absurd cc
+MadeFirst-valid meaning history valid = MadeFirst-after meaning [] history (λ schema unmade. refl) (none_found (damage meaning history) valid)
 
 -- what is asked of an act that follows a history holds where the history is valid and the act may follow it
 pub IsNext-valid : (meaning : Meaning) (history : History) (act : Act) → is_valid meaning history ≡ true → is_acceptable meaning history act ≡ true → IsNext history act
-IsNext-valid meaning history (Create schema) valid fits = (fits, MadeFirst-valid meaning history valid schema (unmade_from (schema_at history schema.name) (create_parts history schema fits)))
+IsNext-valid meaning history (Create schema) valid fits = (fits, MadeFirst-valid meaning history valid schema (none_found (schema_at history schema.name) (create_parts history schema fits)))
 IsNext-valid meaning history (Insert table row) valid fits = fits
 IsNext-valid meaning history (Update table row) valid fits = fits
 IsNext-valid meaning history (Delete table key) valid fits = fits

@@ -87,7 +87,8 @@ impl Tables {
         row: &Cells,
         key: &Cells,
     ) -> Result<Act, TableFault>
-        ensures { (history : History) → StandsFor self.now history → IsFinished (finished history (Add table.now row.now key.now)) result }
+        ensures { (history : History) → StandsFor self.now history
+            → IsFinished (finished history (Add table.now row.now key.now)) result }
     {
         match self.number(table, key) {
             Some(number) => Err(TableFault::KeyThere(number)),
@@ -103,7 +104,8 @@ impl Tables {
         places: &[usize],
         values: &[Value],
     ) -> Result<Act, TableFault>
-        ensures { (history : History) → StandsFor self.now history → IsFinished (finished history (Set table.now key.now places.now values.now)) result }
+        ensures { (history : History) → StandsFor self.now history
+            → IsFinished (finished history (Set table.now key.now places.now values.now)) result }
     {
         match self.row(table, key) {
             Some(row) => update_act(alloc, table, row, places, values),
@@ -112,7 +114,8 @@ impl Tables {
     }
 
     fn finish_remove(&self, alloc: Global, table: &Name, key: &Cells) -> Result<Act, TableFault>
-        ensures { (history : History) → StandsFor self.now history → IsFinished (finished history (Remove table.now key.now)) result }
+        ensures { (history : History) → StandsFor self.now history
+            → IsFinished (finished history (Remove table.now key.now)) result }
     {
         match self.row(table, key) {
             Some(_) => delete_act(alloc, table, key),
@@ -120,9 +123,9 @@ impl Tables {
         }
     }
 
-    /// The act that a change which is wanted comes to: an UPDATE's is the whole new row. Answers `KeyThere`, with the number of
-    /// the last entry that names the key, exactly where an INSERT's key is live, and `KeyMissing` exactly where an UPDATE's or
-    /// a DELETE's is not; else `Memory` where memory is short.
+    /// The act that a change which is wanted comes to: an UPDATE's is the whole new row. Answers `KeyThere`, with the
+    /// number of the last entry that names the key, exactly where an INSERT's key is live, and `KeyMissing` exactly
+    /// where an UPDATE's or a DELETE's is not; else `Memory` where memory is short.
     pub fn finish(&self, alloc: Global, wanted: &Wanted) -> Result<Act, TableFault>
         ensures { (history : History) → StandsFor self.now history → IsFinished (finished history wanted.now) result }
     {

@@ -45,8 +45,10 @@ fn insert_into(
     number: u64,
 ) -> Result<Option<Cells>, Memory>
     ensures ok { OnOk result ((other : TableName) → get bytes_eq tables.new other
-        ≡ with_change table.now (inserted (record { row = row.now; born = born }) number) (get bytes_eq tables.old) other) }
-    ensures key { IfOk result (λ key. key ≡ option_map (λ kept. key_of kept.rows.key row.now) (get bytes_eq tables.old table.now)) }
+        ≡ with_change table.now (inserted (record { row = row.now; born = born }) number)
+        (get bytes_eq tables.old) other) }
+    ensures key { IfOk result (λ key. key
+        ≡ option_map (λ kept. key_of kept.rows.key row.now) (get bytes_eq tables.old table.now)) }
     ensures err { OnErr result ((other : TableName) → get bytes_eq tables.new other ≡ get bytes_eq tables.old other) }
 {
     match tables.get_mut(table) {
@@ -78,7 +80,9 @@ fn update_in(
 ) -> Result<Option<Before>, Memory>
     ensures ok { OnOk result ((other : TableName) → get bytes_eq tables.new other
         ≡ with_change table.now (renewed_table row.now number) (get bytes_eq tables.old) other) }
-    ensures before { IfOk result (λ before. before ≡ option_and_then (λ kept. before_of (key_of kept.rows.key row.now) kept) (get bytes_eq tables.old table.now)) }
+    ensures before { IfOk result (λ before. before
+        ≡ option_and_then (λ kept. before_of (key_of kept.rows.key row.now) kept)
+        (get bytes_eq tables.old table.now)) }
     ensures err { OnErr result ((other : TableName) → get bytes_eq tables.new other ≡ get bytes_eq tables.old other) }
 {
     match tables.get_mut(table) {
@@ -93,7 +97,8 @@ fn update_in(
 // Puts back a row that was updated, if the table and a row with its key are there.
 fn restore_in(tables: &mut HashMap<Name, Table>, table: &Name, before: Before)
     ensures { (other : TableName) → get bytes_eq tables.new other
-        ≡ with_change table.now (updated (record { row = before.row; born = before.born }) before.number) (get bytes_eq tables.old) other }
+        ≡ with_change table.now (updated (record { row = before.row; born = before.born }) before.number)
+        (get bytes_eq tables.old) other }
 {
     if let Some(kept) = tables.get_mut(table) {
         kept.update(before.row, before.born, before.number);
@@ -113,7 +118,8 @@ impl Tables {
 
     /// A table's schema, none where there is no such table.
     pub fn schema(&self, table: &Name) -> Option<&Schema>
-        ensures { (history : History) → StandsFor self.now history → option_copied result ≡ schema_at history table.now }
+        ensures { (history : History) → StandsFor self.now history
+            → option_copied result ≡ schema_at history table.now }
     {
         match self.tables.get(table) {
             None => None,
@@ -134,7 +140,8 @@ impl Tables {
 
     /// The row of a table with a key; none exactly where the table or the row is not there.
     pub fn row(&self, table: &Name, key: &Cells) -> Option<&Cells>
-        ensures { (history : History) → StandsFor self.now history → option_copied result ≡ live_row history table.now key.now }
+        ensures { (history : History) → StandsFor self.now history
+            → option_copied result ≡ live_row history table.now key.now }
     {
         match self.tables.get(table) {
             None => None,
@@ -179,7 +186,8 @@ impl Tables {
         born: &Moment,
         number: u64,
     ) -> Result<(), Memory>
-        ensures ok { OnOk result (Inserts self.old self.new table.now (record { row = row.now; born = born.now }) number) }
+        ensures ok { OnOk result
+            (Inserts self.old self.new table.now (record { row = row.now; born = born.now }) number) }
         ensures err { OnErr result (IsAsBefore self.old self.new) }
     {
         let name = table.copy(alloc)?;
@@ -227,8 +235,8 @@ impl Tables {
         self.remember(Change::Nothing);
     }
 
-    /// Takes in the entry that comes next: the tables then stand for the history with the entry behind. They are unchanged
-    /// where memory is short, which it never is for a Delete, nor for what changes no row and makes no table.
+    /// Takes in the entry that comes next: the tables then stand for the history with the entry behind. They are
+    /// unchanged where memory is short, which it never is for a Delete, nor for what changes no row and makes no table.
     pub fn apply(&mut self, alloc: Global, entry: &Entry) -> Result<(), Memory>
         ensures ok { OnOk result (Adds self.old self.new entry.now) }
         ensures err { OnErr result (IsAsBefore self.old self.new) }
@@ -254,8 +262,8 @@ impl Tables {
         }
     }
 
-    /// Takes back the entry that was applied last, which must be no Delete: the tables then stand for the history before it.
-    /// Takes no memory.
+    /// Takes back the entry that was applied last, which must be no Delete: the tables then stand for the history
+    /// before it. Takes no memory.
     pub fn take_back(&mut self)
         ensures { (history : History) → Remembers self.old history → StandsFor self.new history }
     {
