@@ -5,6 +5,7 @@ pub mod SlotLemmas
 pub mod LookupLemmas
 pub mod PartLemmas
 pub mod PruneLemmas
+pub mod KeyLemmas
 pub mod ReachLemmas
 pub mod FindingLemmas
 pub mod ExistenceLemmas

@@ -1,5 +1,5 @@
 -- Lists of places that have each place that counts.
-use Rattle.std.proofs.Common.{◌≡◌, ℕ, zero, suc, ◌+◌, ◌<◌, Bool, true, false, List, [], ◌∷◌, ◌++◌, length, refl, sym, ap, subst, ◌∙◌, Option, Some, None, inl, inr, ◌⊎◌, arith}
+use Rattle.std.proofs.Common.{◌≡◌, ℕ, zero, suc, ◌+◌, ◌<◌, ◌≤◌, Bool, true, false, List, [], ◌∷◌, ◌++◌, length, refl, sym, ap, subst, ◌∙◌, Option, Some, None, inl, inr, ◌⊎◌, arith}
 use Rattle.std.specs.Prelude.{slice_get, slice_set, replicate, if◌then◌else◌}
 use Rattle.std.specs.List.{Contains, list_all}
 use Rattle.hippo_model.specs.declared.query.CondOf.{CondOf}
@@ -24,18 +24,18 @@ use Rattle.hippo_model.specs.Masking.{Choices}
 use Rattle.hippo_join.specs.declared.ties.Tie.{Tie}
 use Rattle.hippo_join.specs.Places.{chosen, Fits, slot_at, stands}
 use Rattle.hippo_join.specs.Ties.{holds, AreEqual, IsTieOf}
-use Rattle.hippo_join.specs.Steps.{Reaches, IsStep}
-use Rattle.hippo_join.proofs.PruneLemmas.{below-rows, in-range, all-hold, value-tied}
+use Rattle.hippo_join.specs.Steps.{IsStep}
+use Rattle.hippo_join.proofs.PruneLemmas.{all-hold, value-tied}
 use Rattle.hippo_join.proofs.SlotLemmas.{Fits-open, Fits-set}
 
 below_or_at : (k n : ℕ) → k < n + 1 → (k < n) ⊎ (k ≡ n)
 below_or_at k n lower = grind arith
 
-pub contains-more : (xs ys : List ℕ) (n : ℕ) → ys ≡ xs ++ n ∷ [] → ((k : ℕ) → k < n → Contains xs k) → (k : ℕ) → k < n + 1 → Contains ys k
-contains-more xs ys n pushed below k lower =
+pub contains-more : (xs ys : List ℕ) (low n : ℕ) → ys ≡ xs ++ n ∷ [] → ((k : ℕ) → low ≤ k → k < n → Contains xs k) → (k : ℕ) → low ≤ k → k < n + 1 → Contains ys k
+contains-more xs ys low n pushed below k least lower =
     subst (λ (l : List ℕ). Contains l k) (sym pushed)
     (elim (below_or_at k n lower) as (λ _. Contains (xs ++ n ∷ []) k) [
-      | inl before ↦ Contains-append_left xs (n ∷ []) k (below k before)
+      | inl before ↦ Contains-append_left xs (n ∷ []) k (below k least before)
       | inr here ↦ subst (λ (j : ℕ). Contains (xs ++ n ∷ []) j) (sym here) (Contains-push xs n)
     ])
 
@@ -64,10 +64,6 @@ module _ (Counts : List Place → Type 0) (table : Place) where
       ])
 
 module _ (choices : Choices) (query : Masked) (sets : List KeyedRows) where
-  -- places that have each place below the number of rows
-  pub reaches-below : (table : Place) (set : KeyedRows) (some : List Place) → slice_get sets table ≡ Some set → ((places : List Place) → stands choices query sets places ≡ true → (place : Place) → slice_get places table ≡ Some place → place < length set.rows → Contains some place) → Reaches choices query sets table some
-  reaches-below table set some at below places counts place here = below places counts place here (below-rows sets places table set place (in-range choices query sets places counts) at here)
-
   pub tie-counts : (table : Place) (tie : Tie) (parts : List (CondOf Expr)) → parts ≡ outer_parts query.cond → IsTieOf parts table tie → (places : List Place) → stands choices query sets places ≡ true → AreEqual (chosen sets places) (record { table = table; column = tie.column }) tie.other
   tie-counts table tie parts same tied places counts = tied choices (chosen sets places) (subst (λ (l : List (CondOf Expr)). list_all (holds choices (chosen sets places)) l ≡ true) (sym same) (all-hold choices query sets places counts))
 

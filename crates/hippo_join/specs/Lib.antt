@@ -2,6 +2,7 @@ pub mod Places
 pub mod Known
 pub mod Lookups
 pub mod Ties
+pub mod Keys
 pub mod Steps
 pub mod Finding
 pub mod Existence

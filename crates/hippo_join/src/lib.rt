@@ -4,6 +4,7 @@
 mod existence;
 mod finding;
 mod joins;
+mod keys;
 mod known;
 mod lookups;
 mod orders;

@@ -5,9 +5,9 @@ ghost use Rattle.std.specs.List.Sorted.{IsPermutation};
 ghost use Rattle.hippo_join.specs.Plans.{IsPlanOf};
 
 use crate::reaching::open_slots;
-use crate::ties::{find_tie, outer_parts};
-use hippo_model::{Masked, Plan, Sizes};
-use hippo_values::{Memory, Sequence};
+use crate::ties::{column_of, find_tie, outer_parts};
+use hippo_model::{CondOf, Expr, Masked, Plan, Sizes};
+use hippo_values::{CompareOp, Memory, Sequence};
 use std::alloc::Global;
 
 fn tables_below(alloc: Global, count: usize) -> Result<Vec<usize>, Memory>
@@ -27,10 +27,37 @@ fn size_of(sizes: &Sizes, table: usize) -> u64 {
     }
 }
 
-// How late a table is to be joined: those behind a tie come before the others, and then the small ones.
-fn lateness(query: &Masked, sizes: &Sizes, table: usize, slots: &[Option<usize>]) -> (bool, u64) {
-    let tie = find_tie(outer_parts(&query.cond), table, slots);
-    (tie.is_none(), size_of(sizes, table))
+// Whether an expression shows a column of a table, and the other one is a literal.
+fn is_fixed(expr: &Expr, other: &Expr, table: usize) -> bool {
+    match column_of(expr) {
+        Some(column) => column.table == table && matches!(other, Expr::Literal(_)),
+        None => false,
+    }
+}
+
+fn fixes(part: &CondOf<Expr>, table: usize) -> bool {
+    match part {
+        CondOf::Compare {
+            op: CompareOp::Eq,
+            left,
+            right,
+        } => is_fixed(left, right, table) || is_fixed(right, left, table),
+        _ => false,
+    }
+}
+
+// How late a table is to be joined: those behind a tie come before the others, then those of which a literal says a
+// value, and then the small ones.
+fn lateness(
+    query: &Masked,
+    sizes: &Sizes,
+    table: usize,
+    slots: &[Option<usize>],
+) -> (bool, bool, u64) {
+    let parts = outer_parts(&query.cond);
+    let tie = find_tie(parts, table, slots);
+    let is_fixed = parts.iter().any(|part| fixes(part, table));
+    (tie.is_none(), !is_fixed, size_of(sizes, table))
 }
 
 // The place of the table that is to be joined next, among those that are left.
@@ -56,8 +83,9 @@ fn mark(slots: &mut [Option<usize>], table: usize) {
     }
 }
 
-/// Some tables of a query, and then the others that are left, in an order in which they can be joined behind the first: next
-/// comes a table that an equality ties to one before it, if there is one, and of several the smallest.
+/// Some tables of a query, and then the others that are left, in an order in which they can be joined behind the first:
+/// next comes a table that an equality ties to one before it, if there is one, then one of which an equality with a
+/// literal says a value, and of several the smallest.
 pub fn order_behind(
     alloc: Global,
     query: &Masked,
@@ -83,9 +111,9 @@ pub fn order_behind(
     Ok(order)
 }
 
-/// An order in which the tables of a query can be joined, each once, for tables of these sizes: next comes a table that an
-/// equality ties to one before it, if there is one, and of several the smallest. `run` gives the same answer for every
-/// order; this one is chosen to be fast.
+/// An order in which the tables of a query can be joined, each once, for tables of these sizes: next comes a table that
+/// an equality ties to one before it, if there is one, then one of which an equality with a literal says a value, and
+/// of several the smallest. `run` gives the same answer for every order; this one is chosen to be fast.
 pub fn plan(alloc: Global, query: &Masked, sizes: &Sizes) -> Result<Plan, Memory>
     ensures { IfOk result (λ plan. IsPlanOf query.now plan) }
 {

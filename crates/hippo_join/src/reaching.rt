@@ -1,13 +1,15 @@
 //! Which rows of a table may follow those that are chosen.
-ghost use Rattle.std.specs.Prelude.{◌≡◌, ◌<◌, ℕ, true, None, Some, List, [], ◌∷◌, ◌++◌, if◌then◌else◌, OnOk, IfOk, length, replicate, slice_get};
+ghost use Rattle.std.specs.Prelude.{◌≡◌, ◌<◌, ◌≤◌, ℕ, true, None, Some, List, [], ◌∷◌, ◌++◌, if◌then◌else◌, OnOk, IfOk, length, replicate, slice_get};
 ghost use Rattle.std.specs.List.{All, Contains};
 ghost use Rattle.std.specs.List.Sorted.{IsPermutation};
 ghost use Rattle.hippo_model.specs.Terms.{Place};
 ghost use Rattle.hippo_join.specs.Places.{chosen, Fits, stands};
 ghost use Rattle.hippo_join.specs.Lookups.{IsByColumn};
 ghost use Rattle.hippo_join.specs.Ties.{AreEqual};
+ghost use Rattle.hippo_join.specs.Keys.{IsWithin};
 ghost use Rattle.hippo_join.specs.Steps.{Reaches, ReachesFrom, IsStep, AreSteps};
 
+use crate::keys::Span;
 use crate::known::{knows, knows_expr, slot_at};
 use crate::lookups::{known_value, sort_by_column, with_value};
 use crate::sides::Side;
@@ -24,12 +26,12 @@ pub fn open_slots(alloc: Global, tables: usize) -> Result<Vec<Option<usize>>, Me
     Ok(vec![in alloc; None; tables]?)
 }
 
-// The numbers below one.
-fn numbers_below(alloc: Global, count: usize) -> Result<Vec<usize>, Memory>
-    ensures { IfOk result (λ numbers. (number : ℕ) → number < count → Contains numbers.items number) }
+fn numbers_in(alloc: Global, span: Span) -> Result<Vec<usize>, Memory>
+    ensures { IfOk result (λ numbers. (number : ℕ) → span.start ≤ number → number < span.end
+        → Contains numbers.items number) }
 {
-    let mut numbers = Vec::with_capacity(alloc, count)?;
-    for number in 0..count {
+    let mut numbers = Vec::with_capacity(alloc, span.end.saturating_sub(span.start))?;
+    for number in span.start..span.end {
         numbers.push(number)?;
     }
     Ok(numbers)
@@ -71,20 +73,24 @@ impl<'a, C: ChoiceView> Side<'a, C> {
         Ok(known)
     }
 
-    // The places of a table's rows, without those of which the guards and the parts on this table alone say that they do
-    // not count.
+    // The places of a table's rows in a span, without those of which the guards and the parts on this table alone say
+    // that they do not count.
     fn tested_places(
         &self,
         alloc: Global,
         table: usize,
+        span: Span,
         tests: &[usize],
     ) -> Result<Vec<usize>, Memory>
-        requires { table < length self.now.sets.now }
-        ensures { IfOk result (λ places. Reaches (C.choices self.now.choices.now) self.now.query.now self.now.sets.now table places.items) }
+        requires table { table < length self.now.sets.now }
+        requires span { IsWithin (C.choices self.now.choices.now) self.now.query.now self.now.sets.now
+            (replicate (length self.now.sets.now) None) table span }
+        ensures { IfOk result (λ places. Reaches (C.choices self.now.choices.now) self.now.query.now self.now.sets.now
+            table places.items) }
     {
         let mut slots = open_slots(alloc, self.sets.len())?;
         let mut places = Vec::new(alloc);
-        for place in 0..self.sets.get(table).len() {
+        for place in span.start..span.end {
             slots[table] = Some(place);
             let may_count = self.may_count_alone(alloc, tests, &slots)?;
             push_if(may_count, &mut places, place)?;
@@ -92,25 +98,30 @@ impl<'a, C: ChoiceView> Side<'a, C> {
         Ok(places)
     }
 
-    fn all_places(&self, alloc: Global, table: usize) -> Result<Vec<usize>, Memory>
-        requires { table < length self.now.sets.now }
-        ensures { IfOk result (λ places. Reaches (C.choices self.now.choices.now) self.now.query.now self.now.sets.now table places.items) }
+    fn all_places(&self, alloc: Global, table: usize, span: Span) -> Result<Vec<usize>, Memory>
+        requires { IsWithin (C.choices self.now.choices.now) self.now.query.now self.now.sets.now
+            (replicate (length self.now.sets.now) None) table span }
+        ensures { IfOk result (λ places. Reaches (C.choices self.now.choices.now) self.now.query.now self.now.sets.now
+            table places.items) }
     {
-        numbers_below(alloc, self.sets.get(table).len())
+        numbers_in(alloc, span)
     }
 
-    // The places of a table's rows that can count.
+    // The places of a table's rows that can count. Where literals say the row's key, the row is looked up, in time that
+    // grows with the logarithm of the table.
     fn reached_places(&self, alloc: Global, table: usize) -> Result<Vec<usize>, Memory>
         requires { table < length self.now.sets.now }
-        ensures { IfOk result (λ places. Reaches (C.choices self.now.choices.now) self.now.query.now self.now.sets.now table places.items) }
+        ensures { IfOk result (λ places. Reaches (C.choices self.now.choices.now) self.now.query.now self.now.sets.now
+            table places.items) }
     {
         let mut slots = open_slots(alloc, self.sets.len())?;
+        let span = self.span(alloc, table, &slots)?;
         slots[table] = Some(0);
         let tests = self.known_parts(alloc, &slots)?;
         if tests.is_empty() && !self.knows_guard(&slots) {
-            self.all_places(alloc, table)
+            self.all_places(alloc, table, span)
         } else {
-            self.tested_places(alloc, table, &tests)
+            self.tested_places(alloc, table, span, &tests)
         }
     }
 

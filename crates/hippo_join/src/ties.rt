@@ -27,7 +27,7 @@ pub(crate) fn outer_parts(condition: &CondOf<Expr>) -> &[CondOf<Expr>]
     }
 }
 
-fn column_of(expr: &Expr) -> Option<Ref>
+pub(crate) fn column_of(expr: &Expr) -> Option<Ref>
     ensures { result ≡ column_of expr.now }
 {
     match expr {

@@ -5,14 +5,17 @@ use Rattle.hippo_model.specs.Terms.{Place}
 use Rattle.std.specs.Prelude.{Option}
 use Rattle.hippo_join.specs.Places.{Fits, stands}
 use Rattle.hippo_join.proofs.PruneLemmas.{long-enough}
-use Rattle.hippo_join.proofs.ReachLemmas.{fits-alone, tested-more, reaches-below, length-unchosen}
+use Rattle.hippo_join.proofs.KeyLemmas.{within-open}
+use Rattle.hippo_join.proofs.ReachLemmas.{fits-alone, tested-more, length-unchosen}
 use Rattle.hippo_join.proofs.sides.Side.tested_places.Goals as goal
 
 pub loop-place-init : goal.loop-place-init
 loop-place-init g c = record {
   long = length-unchosen c.in_ok-slots.slots.items c.len.result _ c.in_ok-slots.ensures c.len.ensures;
   fit = λ places long place at. fits-alone c.in_ok-slots.slots.items c.len.result c.args.table places c.in_ok-slots.ensures (long ∙ sym c.len.ensures) place at;
-  so_far = λ places counts place at lower. absurd (omega arith);
+  so_far = λ places counts place at lower.
+      let within = within-open (g.C.ChoiceView.choices c.args.self.now.choices.now) c.args.self.now.query.now c.args.self.now.sets.now c.args.table c.args.span c.requires.span places counts place at in
+      absurd (omega (arith, within.0));
 }
 
 pub loop-place-preserved : goal.loop-place-preserved
@@ -27,6 +30,6 @@ loop-place-preserved g c = record {
 }
 
 pub returns : goal.returns
-returns g c =
-    reaches-below (g.C.ChoiceView.choices c.args.self.now.choices.now) c.args.self.now.query.now c.args.self.now.sets.now c.args.table c.get.result.now c.loop-place.places.items c.get.ensures
-    (λ places counts place at lower. c.loop-place.invariant.so_far places counts place at (omega (arith, c.len-place-end.ensures.rows)))
+returns g c = λ places counts place at.
+    let within = within-open (g.C.ChoiceView.choices c.args.self.now.choices.now) c.args.self.now.query.now c.args.self.now.sets.now c.args.table c.args.span c.requires.span places counts place at in
+    c.loop-place.invariant.so_far places counts place at (omega (arith, within.1))
