@@ -12,8 +12,8 @@ use Rattle.hippo_stmt_reader.specs.StatementGrammar.{IsStatement}
 use Rattle.hippo_commands.specs.Moments.{moment_in}
 use Rattle.hippo_commands.specs.Commands.{statement_in}
 
--- a text is a statement: it has tokens, which are neither too deep nor words that are refused, and by the grammar all of
--- them together are this statement
+-- a text is a statement: it has tokens, which are neither too deep nor words that are refused, and by the grammar all
+-- of them together are this statement
 pub record IsStatementText (text : Txt) (stmt : Stmt) : Type 0 where
   pub tokens : List Token
   pub cut : IsOutcome text (Ok tokens)

@@ -89,6 +89,10 @@ command_of (text_line text) = command_by (line_form text)
 command_of too_long_line = wrong None LineTooLong
 command_of not_utf8_line = wrong None BadLine
 
+-- the same, where the end of the input commands nothing
+abbrev pub commanded : Option LineText → Command
+commanded line = option_map_or command_of line nothing
+
 -- whose line it is: a session's, the console's, or nobody's
 abbrev pub who_commands : Command → Option ℕ
 who_commands nothing = None

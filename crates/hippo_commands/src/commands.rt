@@ -1,9 +1,9 @@
 //! What a line commands.
-ghost use Rattle.std.specs.Prelude.{◌≡◌, Option, None, IfSome};
+ghost use Rattle.std.specs.Prelude.{◌≡◌};
 ghost use Rattle.hippo_io.specs.LineTexts.{line_text};
 ghost use Rattle.hippo_lines.specs.Forms.{line_form};
 ghost use Rattle.hippo_commands.specs.Moments.{moment_in};
-ghost use Rattle.hippo_commands.specs.Commands.{clock_command, state_command, statement_in, command_by, command_of, IsCommand};
+ghost use Rattle.hippo_commands.specs.Commands.{clock_command, state_command, statement_in, command_by, commanded, IsCommand};
 ghost use Rattle.hippo_commands.specs.Lent.{command};
 
 use crate::command::Command;
@@ -66,7 +66,7 @@ fn text_command<'a>(alloc: Global, text: &'a str) -> Command<'a>
 /// What a line commands, by the forms of lines and the grammar alone. A statement may be refused for want of memory
 /// instead; nothing else takes memory. The end of the input commands nothing.
 pub fn command_of<'a>(alloc: Global, line: Line<'a>) -> Command<'a>
-    ensures { IfSome (line_text line.entry) (λ text. IsCommand (command_of text) (command result)) }
+    ensures { IsCommand (commanded (line_text line.entry)) (command result) }
 {
     match line {
         Line::Text(text) => text_command(alloc, text),

@@ -77,7 +77,8 @@ fn statement_by(alloc: Global, tokens: &Tokens) -> Result<Stmt, Refusal>
     }
 }
 
-/// The statement that a text is, or why it is none: its tokens, their words and the grammar are looked at in this order.
+/// The statement that a text is, or why it is none: its tokens, their words and the grammar are looked at in this
+/// order.
 pub fn statement_in(alloc: Global, text: &str) -> Result<Stmt, Refusal>
     ensures { OrMemory (statement_in text.now) result }
 {
