@@ -1,5 +1,5 @@
 -- What is found at the front of a list of tokens stands there.
-use Rattle.std.proofs.Common.{◌≡◌, ℕ, List, ◌∷◌, Option, Some, None, refl, bytes_eq}
+use Rattle.std.proofs.Common.{◌≡◌, ℕ, Bool, true, List, ◌∷◌, Option, Some, None, refl, bytes_eq, cond}
 use Rattle.std.proofs.lemmas.Option.{cond_some, none-some, some_pair_parts}
 use Rattle.std.proofs.lemmas.Slice.Eq.{bytes_eq-Decides}
 use denote.Enum.Bare.{same_true}
@@ -23,24 +23,23 @@ pub choice : {A B P : Type 0} (found : Option A) (one : A → Option B) (other y
 choice (Some x) one other y e first second = first x refl e
 choice None one other y e first second = second refl e
 
+-- a first token of some kind that passes the test for what is wanted is that, and the rest stands behind it
+first_is : {A : Type 0} (kind : A → TokenKind) (test : Bool) (first wanted : A) (behind rest : List TokenKind) → (test ≡ true → first ≡ wanted) →
+    cond test (Some behind) None ≡ Some rest → kind first ∷ behind ≡ kind wanted ∷ rest
+first_is kind test first wanted behind rest same e =
+    let p = cond_some test behind rest e in
+    rw (same p.0, p.1) refl
+
 pub after_keyword-some : (keyword : words.Keyword) (tokens rest : List TokenKind) → after_keyword keyword tokens ≡ Some rest → tokens ≡ Keyword keyword ∷ rest
-after_keyword-some keyword (Keyword first ∷ behind) rest e =
-    let p = cond_some (same_keyword first keyword) behind rest e in
-    let same : first ≡ keyword = same_true keywords.the_type tt first keyword p.0 in
-    rw (same, p.1) refl
+after_keyword-some keyword (Keyword first ∷ behind) rest e = first_is Keyword (same_keyword first keyword) first keyword behind rest (same_true keywords.the_type tt first keyword) e
 after_keyword-some keyword _ rest e = absurd (none-some rest e)
 
 pub after_symbol-some : (symbol : signs.Symbol) (tokens rest : List TokenKind) → after_symbol symbol tokens ≡ Some rest → tokens ≡ Symbol symbol ∷ rest
-after_symbol-some symbol (Symbol first ∷ behind) rest e =
-    let p = cond_some (same_symbol first symbol) behind rest e in
-    let same : first ≡ symbol = same_true symbols.the_type tt first symbol p.0 in
-    rw (same, p.1) refl
+after_symbol-some symbol (Symbol first ∷ behind) rest e = first_is Symbol (same_symbol first symbol) first symbol behind rest (same_true symbols.the_type tt first symbol) e
 after_symbol-some symbol _ rest e = absurd (none-some rest e)
 
 pub after_word-some : (word : List ℕ) (tokens rest : List TokenKind) → after_word word tokens ≡ Some rest → tokens ≡ Word word ∷ rest
-after_word-some word (Word first ∷ behind) rest e =
-    let p = cond_some (bytes_eq first word) behind rest e in
-    rw ((bytes_eq-Decides first word).0 p.0, p.1) refl
+after_word-some word (Word first ∷ behind) rest e = first_is Word (bytes_eq first word) first word behind rest (bytes_eq-Decides first word).0 e
 after_word-some word _ rest e = absurd (none-some rest e)
 
 pub after_word-same : (word : List ℕ) (rest : List TokenKind) → after_word word (Word word ∷ rest) ≡ Some rest

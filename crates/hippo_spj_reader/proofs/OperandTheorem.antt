@@ -102,21 +102,19 @@ operand_shorter tokens o rest (column c) = column_shorter tokens _ rest c
 operand_shorter tokens o rest (literal l) = literal_shorter tokens _ rest l
 
 -- an operand begins neither with a parenthesis nor with NOT
+neither_stands : (tokens : List TokenKind) (o : RawOperand) (rest : List TokenKind) → IsOperand tokens o rest → (after_symbol LeftParen tokens ≡ None) × (after_keyword KNot tokens ≡ None)
+neither_stands tokens o rest (column bare) = (refl, refl)
+neither_stands tokens o rest (column qualified) = (refl, refl)
+neither_stands tokens o rest (literal number) = (refl, refl)
+neither_stands tokens o rest (literal quoted) = (refl, refl)
+neither_stands tokens o rest (literal day) = (refl, refl)
+neither_stands tokens o rest (literal null) = (refl, refl)
+
 pub no_parenthesis : (tokens : List TokenKind) (o : RawOperand) (rest : List TokenKind) → IsOperand tokens o rest → after_symbol LeftParen tokens ≡ None
-no_parenthesis tokens o rest (column bare) = refl
-no_parenthesis tokens o rest (column qualified) = refl
-no_parenthesis tokens o rest (literal number) = refl
-no_parenthesis tokens o rest (literal quoted) = refl
-no_parenthesis tokens o rest (literal day) = refl
-no_parenthesis tokens o rest (literal null) = refl
+no_parenthesis tokens o rest d = (neither_stands tokens o rest d).0
 
 pub no_not : (tokens : List TokenKind) (o : RawOperand) (rest : List TokenKind) → IsOperand tokens o rest → after_keyword KNot tokens ≡ None
-no_not tokens o rest (column bare) = refl
-no_not tokens o rest (column qualified) = refl
-no_not tokens o rest (literal number) = refl
-no_not tokens o rest (literal quoted) = refl
-no_not tokens o rest (literal day) = refl
-no_not tokens o rest (literal null) = refl
+no_not tokens o rest d = (neither_stands tokens o rest d).1
 
 -- no operator is a dot
 pub no_operator-dot : (sign : signs.Symbol) (op : CompareOp) (rest : List TokenKind) → IsOperator sign op → after_symbol Dot (Symbol sign ∷ rest) ≡ None

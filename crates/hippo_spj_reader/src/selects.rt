@@ -25,7 +25,8 @@ type Conditions = Sequence<RawCond>;
 
 // The tokens behind `t.*`, where it stands first.
 fn after_whole_table(tokens: &[Token]) -> Option<&[Token]>
-    ensures rest { option_map (λ rest. kinds rest.now) result ≡ option_map (λ x. x.1) (leading_whole_table (kinds tokens.now)) }
+    ensures rest { option_map (λ rest. kinds rest.now) result
+        ≡ option_map (λ x. x.1) (leading_whole_table (kinds tokens.now)) }
     ensures shorter { IfSome result (λ rest. length rest.now < length tokens.now) }
 {
     match split(tokens)? {
