@@ -196,21 +196,28 @@ assignment_complete _ _ rest (assignment {v = v} {tokens = tokens} l) follows = 
 assignment_shorter : (tokens : List TokenKind) (a : List ℕ × Value) (rest : List TokenKind) → IsAssignment tokens a rest → length rest < length tokens
 assignment_shorter _ _ rest (assignment {v = v} {tokens = tokens} l) = omega (arith, literal_shorter tokens v rest l)
 
+-- assignments with a separator between them
+module _ (after : List TokenKind → Option (List TokenKind)) (separator : TokenKind) where
+  assignments_found : ((tokens behind : List TokenKind) → after tokens ≡ Some behind → tokens ≡ separator ∷ behind) →
+      (tokens : List TokenKind) (list : List (List ℕ × Value)) (rest : List TokenKind) → leading_list leading_assignment after tokens ≡ Some (list, rest) → IsListOf IsAssignment separator tokens list rest
+  assignments_found next_found tokens list rest e = list_found leading_assignment after IsAssignment separator assignment_found next_found tokens list rest e
+
+  assignments_complete : ((behind : List TokenKind) → after (separator ∷ behind) ≡ Some behind) →
+      (tokens : List TokenKind) (list : List (List ℕ × Value)) (rest : List TokenKind) → IsListOf IsAssignment separator tokens list rest → after rest ≡ None → leading_list leading_assignment after tokens ≡ Some (list, rest)
+  assignments_complete passes tokens list rest ds no_more =
+      list_complete leading_assignment after IsAssignment separator (λ _. Unit {0}) assignment_complete (λ _. tt) (λ behind _ _ _. passes behind) assignment_shorter tokens list rest ds tt no_more
+
 pub settings_found : (tokens : List TokenKind) (list : List (List ℕ × Value)) (rest : List TokenKind) → leading_list leading_assignment (after_symbol Comma) tokens ≡ Some (list, rest) → AreSettings tokens list rest
-settings_found tokens list rest e =
-    list_found leading_assignment (after_symbol Comma) IsAssignment (Symbol Comma) assignment_found (after_symbol-some Comma) tokens list rest e
+settings_found tokens list rest e = assignments_found (after_symbol Comma) (Symbol Comma) (after_symbol-some Comma) tokens list rest e
 
 pub settings_complete : (tokens : List TokenKind) (list : List (List ℕ × Value)) (rest : List TokenKind) → AreSettings tokens list rest → after_symbol Comma rest ≡ None → leading_list leading_assignment (after_symbol Comma) tokens ≡ Some (list, rest)
-settings_complete tokens list rest ds no_comma =
-    list_complete leading_assignment (after_symbol Comma) IsAssignment (Symbol Comma) (λ _. Unit {0}) assignment_complete (λ _. tt) (λ _ _ _ _. refl) assignment_shorter tokens list rest ds tt no_comma
+settings_complete tokens list rest ds no_comma = assignments_complete (after_symbol Comma) (Symbol Comma) (λ _. refl) tokens list rest ds no_comma
 
 pub keys_found : (tokens : List TokenKind) (list : List (List ℕ × Value)) (rest : List TokenKind) → leading_list leading_assignment (after_keyword KAnd) tokens ≡ Some (list, rest) → AreKeys tokens list rest
-keys_found tokens list rest e =
-    list_found leading_assignment (after_keyword KAnd) IsAssignment (Keyword KAnd) assignment_found (after_keyword-some KAnd) tokens list rest e
+keys_found tokens list rest e = assignments_found (after_keyword KAnd) (Keyword KAnd) (after_keyword-some KAnd) tokens list rest e
 
 pub keys_complete : (tokens : List TokenKind) (list : List (List ℕ × Value)) (rest : List TokenKind) → AreKeys tokens list rest → after_keyword KAnd rest ≡ None → leading_list leading_assignment (after_keyword KAnd) tokens ≡ Some (list, rest)
-keys_complete tokens list rest ds no_and =
-    list_complete leading_assignment (after_keyword KAnd) IsAssignment (Keyword KAnd) (λ _. Unit {0}) assignment_complete (λ _. tt) (λ _ _ _ _. refl) assignment_shorter tokens list rest ds tt no_and
+keys_complete tokens list rest ds no_and = assignments_complete (after_keyword KAnd) (Keyword KAnd) (λ _. refl) tokens list rest ds no_and
 
 pub literals_found : (tokens : List TokenKind) (list : List Value) (rest : List TokenKind) → leading_list leading_literal (after_symbol Comma) tokens ≡ Some (list, rest) → IsListOf IsLiteral (Symbol Comma) tokens list rest
 literals_found tokens list rest e =

@@ -38,6 +38,16 @@ end_left tokens = either (after_symbol Semicolon tokens) nothing_left (nothing_l
 abbrev pub with_end : {A : Type 0} → A → Kinds → Option A
 with_end read tokens = end_left tokens >>= λ end. Some read
 
+-- a statement of one part, where it ends behind that part
+abbrev pub of_part : {A : Type 0} → (A → Stmt) → Option (A × Kinds) → Option Stmt
+of_part statement part = part >>= λ read. with_end (statement read.0) read.1
+
+-- one of two keywords, each with what it says
+abbrev pub one_of : {A : Type 0} → words.Keyword → A → words.Keyword → A → Finds A
+one_of first a second b tokens =
+    either (after_keyword first tokens) (λ rest. Some (a, rest))
+    (after_keyword second tokens >>= λ rest. Some (b, rest))
+
 abbrev pub column_kind_of : words.Keyword → Option ColumnKind
 column_kind_of KInteger = Some kind.Integer
 column_kind_of KText = Some kind.Text
@@ -118,28 +128,19 @@ create_table_of tokens = do
   key ← leading_names c
   subject ← leading_subject key.1
   rest ← after_symbol RightParen subject.1
-  end ← end_left rest
-  Some (stmt.CreateTable table.0 columns.0 key.0 subject.0)
+  with_end (stmt.CreateTable table.0 columns.0 key.0 subject.0) rest
 
 -- behind CREATE PURPOSE
 unfoldable pub create_purpose_of : Kinds → Option Stmt
-create_purpose_of tokens = do
-  purpose ← leading_name tokens
-  end ← end_left purpose.1
-  Some (stmt.CreatePurpose purpose.0)
+create_purpose_of tokens = of_part stmt.CreatePurpose (leading_name tokens)
 
 -- behind CREATE RECIPIENT
 unfoldable pub create_recipient_of : Kinds → Option Stmt
-create_recipient_of tokens = do
-  recipient ← leading_name tokens
-  end ← end_left recipient.1
-  Some (stmt.CreateRecipient recipient.0)
+create_recipient_of tokens = of_part stmt.CreateRecipient (leading_name tokens)
 
 -- IN | OUT
 abbrev pub leading_item_kind : Finds ItemKind
-leading_item_kind tokens =
-    either (after_keyword KIn tokens) (λ rest. Some (OptIn, rest))
-    (after_keyword KOut tokens >>= λ rest. Some (OptOut, rest))
+leading_item_kind tokens = one_of KIn OptIn KOut OptOut tokens
 
 -- behind CREATE ITEM
 unfoldable pub create_item_of : Kinds → Option Stmt
@@ -147,8 +148,7 @@ create_item_of tokens = do
   item ← leading_name tokens
   behind ← after_keyword KOpt item.1
   k ← leading_item_kind behind
-  end ← end_left k.1
-  Some (stmt.CreateItem item.0 k.0)
+  with_end (stmt.CreateItem item.0 k.0) k.1
 
 -- behind CREATE
 unfoldable pub create_of : Kinds → Option Stmt
@@ -172,15 +172,13 @@ leading_grant tokens = do
 unfoldable pub authorize_of : Kinds → Option Stmt
 authorize_of tokens = do
   grant ← leading_grant tokens
-  end ← end_left grant.1
-  Some (stmt.Authorize grant.0.user grant.0.purpose grant.0.recipient)
+  with_end (stmt.Authorize grant.0.user grant.0.purpose grant.0.recipient) grant.1
 
 -- behind DEAUTHORIZE
 unfoldable pub deauthorize_of : Kinds → Option Stmt
 deauthorize_of tokens = do
   grant ← leading_grant tokens
-  end ← end_left grant.1
-  Some (stmt.Deauthorize grant.0.user grant.0.purpose grant.0.recipient)
+  with_end (stmt.Deauthorize grant.0.user grant.0.purpose grant.0.recipient) grant.1
 
 -- p TO r ON t "(" c {"," c} ")"
 unfoldable pub leading_disclosure : Finds Disclosure
@@ -196,24 +194,20 @@ leading_disclosure tokens = do
 -- behind ALLOW
 unfoldable pub allow_of : Kinds → Option Stmt
 allow_of tokens = do
-  disclosure ← leading_disclosure tokens
-  item ← leading_item disclosure.1
+  rule ← leading_disclosure tokens
+  item ← leading_item rule.1
   days ← leading_retention item.1
-  end ← end_left days.1
-  Some (stmt.Allow disclosure.0.purpose disclosure.0.recipient disclosure.0.table disclosure.0.columns item.0 days.0)
+  with_end (stmt.Allow rule.0.purpose rule.0.recipient rule.0.table rule.0.columns item.0 days.0) days.1
 
 -- behind REVOKE
 unfoldable pub revoke_of : Kinds → Option Stmt
 revoke_of tokens = do
-  disclosure ← leading_disclosure tokens
-  end ← end_left disclosure.1
-  Some (stmt.Revoke disclosure.0.purpose disclosure.0.recipient disclosure.0.table disclosure.0.columns)
+  rule ← leading_disclosure tokens
+  with_end (stmt.Revoke rule.0.purpose rule.0.recipient rule.0.table rule.0.columns) rule.1
 
 -- YES | NO
 abbrev pub leading_yes_or_no : Finds Bool
-leading_yes_or_no tokens =
-    either (after_keyword KYes tokens) (λ rest. Some (true, rest))
-    (after_keyword KNo tokens >>= λ rest. Some (false, rest))
+leading_yes_or_no tokens = one_of KYes true KNo false tokens
 
 -- behind CHOICE
 unfoldable pub choice_of : Kinds → Option Stmt
@@ -223,8 +217,7 @@ choice_of tokens = do
   item ← leading_name a
   b ← after_keyword KIs item.1
   said ← leading_yes_or_no b
-  end ← end_left said.1
-  Some (stmt.Choice n.0 item.0 said.0)
+  with_end (stmt.Choice n.0 item.0 said.0) said.1
 
 -- behind INSERT
 unfoldable pub insert_of : Kinds → Option Stmt
@@ -235,8 +228,7 @@ insert_of tokens = do
   inside ← after_symbol LeftParen b
   values ← leading_list leading_literal (after_symbol Comma) inside
   rest ← after_symbol RightParen values.1
-  end ← end_left rest
-  Some (stmt.Insert table.0 values.0)
+  with_end (stmt.Insert table.0 values.0) rest
 
 -- behind UPDATE
 unfoldable pub update_of : Kinds → Option Stmt
@@ -246,8 +238,8 @@ update_of tokens = do
   settings ← leading_list leading_assignment (after_symbol Comma) a
   b ← after_keyword KWhere settings.1
   keys ← leading_list leading_assignment (after_keyword KAnd) b
-  end ← end_left keys.1
-  Some (stmt.Update table.0 (columns_of settings.0) (values_of settings.0) (columns_of keys.0) (values_of keys.0))
+  with_end (stmt.Update table.0 (columns_of settings.0) (values_of settings.0) (columns_of keys.0) (values_of keys.0))
+      keys.1
 
 -- behind DELETE
 unfoldable pub delete_of : Kinds → Option Stmt
@@ -256,36 +248,22 @@ delete_of tokens = do
   table ← leading_name a
   b ← after_keyword KWhere table.1
   keys ← leading_list leading_assignment (after_keyword KAnd) b
-  end ← end_left keys.1
-  Some (stmt.Delete table.0 (columns_of keys.0) (values_of keys.0))
+  with_end (stmt.Delete table.0 (columns_of keys.0) (values_of keys.0)) keys.1
 
 -- behind EXPLAIN
 unfoldable pub explain_of : Kinds → Option Stmt
-explain_of tokens = do
-  n ← leading_number tokens
-  end ← end_left n.1
-  Some (stmt.Explain n.0)
+explain_of tokens = of_part stmt.Explain (leading_number tokens)
 
 unfoldable pub audit_of : Kinds → Option Stmt
-audit_of tokens = do
-  a ← leading_audit tokens
-  end ← end_left a.1
-  Some (stmt.Audit a.0)
+audit_of tokens = of_part stmt.Audit (leading_audit tokens)
 
 -- behind BEGIN
 unfoldable pub begin_audit_of : Kinds → Option Stmt
-begin_audit_of tokens = do
-  behind ← after_keyword KAudit tokens
-  a ← leading_audit behind
-  end ← end_left a.1
-  Some (stmt.BeginAudit a.0)
+begin_audit_of tokens = after_keyword KAudit tokens >>= λ behind. of_part stmt.BeginAudit (leading_audit behind)
 
 -- behind WATCH
 unfoldable pub watch_of : Kinds → Option Stmt
-watch_of tokens = do
-  a ← leading_audit tokens
-  end ← end_left a.1
-  Some (stmt.Watch a.0)
+watch_of tokens = of_part stmt.Watch (leading_audit tokens)
 
 -- a statement of the console that begins with this keyword, behind it
 unfoldable pub console_behind : words.Keyword → Kinds → Option Stmt

@@ -175,8 +175,8 @@ fn statement(alloc: Global, tokens: &[Token]) -> Result<Stmt, SyntaxFault>
     console(alloc, tokens)
 }
 
-/// The statement that the tokens are, with or without a `;` at its end. TooDeep and Unsupported come as check_words says,
-/// BadSyntax exactly where that finds nothing and the tokens are no statement, but for want of memory.
+/// The statement that the tokens are, with or without a `;` at its end. TooDeep and Unsupported come as check_words
+/// says, BadSyntax exactly where that finds nothing and the tokens are no statement, but for want of memory.
 pub fn read_statement(alloc: Global, t: &Tokens) -> Result<Stmt, SyntaxFault>
     ensures found { IfOk result (IsStatement t.now) }
     ensures only { IfOk result (λ stmt. (other : Stmt) → IsStatement t.now other → other ≡ stmt) }
