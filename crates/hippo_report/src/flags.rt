@@ -2,7 +2,6 @@
 ghost use Rattle.std.specs.Prelude.{◌≡◌, ◌++◌, codes, OnOk, OnErr};
 ghost use Rattle.csv.specs.Writing.{default_writer, row_text};
 ghost use Rattle.serde_json.specs.Written.{compact_text};
-ghost use Rattle.hippo_values.specs.Dates.{moment_text};
 ghost use Rattle.hippo_values.specs.Printing.{KeepsFront};
 ghost use Rattle.hippo_report.specs.Flags.{question_text, tuple_text, flag_text, flag_data, flag_fields, flag_by, flag_line};
 
@@ -10,62 +9,76 @@ use crate::csv_flags::flag_bytes;
 use crate::format::Format;
 use crate::json_flags::flag_json;
 use crate::pieces::append_pieces;
-use crate::printed::append_later;
+use crate::printed::{Printed, append_later, append_whole};
 use hippo_model::Flag;
 use hippo_values::{Memory, RoomyTxt, moment_text};
 use itoa::Buffer;
 use std::alloc::Global;
+use std::marker::Model;
+
+// A flag with the text of its moment.
+#[derive(Drop)]
+struct DatedFlag<'a> {
+    flag: &'a Flag,
+    moment: &'a str,
+}
+
+impl<'a> Model for DatedFlag<'a> {
+    ghost use Rattle.std.specs.Prelude.{◌≡◌};
+    ghost use Rattle.hippo_values.specs.Dates.{moment_text};
+    ghost use Rattle.hippo_model.specs.declared.audit.Flag.{Flag as FlaggedQuestion};
+
+    ghost Value = { FlaggedQuestion };
+
+    ghost view = { λ dated. dated.flag.now };
+
+    ghost invariant = { λ dated. dated.moment.now ≡ moment_text dated.flag.now.moment };
+}
 
 fn append_question<const ROOM: usize>(
-    flag: &Flag,
-    moment: &str,
+    dated: &DatedFlag<'_>,
     out: &mut RoomyTxt<ROOM>,
 ) -> Result<(), Memory>
-    requires { moment.now ≡ moment_text flag.now.moment }
-    ensures ok { OnOk result (out.new ≡ out.old ++ question_text flag.now) }
+    ensures ok { OnOk result (out.new ≡ out.old ++ question_text dated.now) }
     ensures err { OnErr result (KeepsFront out.old out.new) }
 {
     append_pieces(
         &[
-            Buffer::new().format(flag.seq),
+            Buffer::new().format(dated.flag.seq),
             " ",
-            moment,
+            dated.moment,
             " ",
-            flag.user.as_str(),
+            dated.flag.user.as_str(),
             " ",
-            flag.pair.purpose.as_str(),
+            dated.flag.pair.purpose.as_str(),
             " ",
-            flag.pair.recipient.as_str(),
+            dated.flag.pair.recipient.as_str(),
         ],
         out,
     )
 }
 
 fn append_text<const ROOM: usize>(
-    flag: &Flag,
-    moment: &str,
+    dated: &DatedFlag<'_>,
     out: &mut RoomyTxt<ROOM>,
 ) -> Result<(), Memory>
-    requires { moment.now ≡ moment_text flag.now.moment }
-    ensures ok { OnOk result (out.new ≡ out.old ++ flag_text flag.now) }
+    ensures ok { OnOk result (out.new ≡ out.old ++ flag_text dated.now) }
     ensures err { OnErr result (KeepsFront out.old out.new) }
 {
-    append_question(flag, moment, out)?;
-    append_later(" ", flag.shared.as_slice(), out)?;
+    append_question(dated, out)?;
+    append_later(" ", dated.flag.shared.as_slice(), out)?;
     out.append("\n")
 }
 
 fn append_json<const ROOM: usize>(
     alloc: Global,
-    flag: &Flag,
-    moment: &str,
+    dated: &DatedFlag<'_>,
     out: &mut RoomyTxt<ROOM>,
 ) -> Result<(), Memory>
-    requires { moment.now ≡ moment_text flag.now.moment }
-    ensures ok { OnOk result (out.new ≡ out.old ++ (compact_text (flag_data flag.now) ++ codes "\n")) }
+    ensures ok { OnOk result (out.new ≡ out.old ++ (compact_text (flag_data dated.now) ++ codes "\n")) }
     ensures err { OnErr result (KeepsFront out.old out.new) }
 {
-    let text = flag_json(alloc, flag, moment)?;
+    let text = flag_json(alloc, dated.flag, dated.moment)?;
     out.append(text.as_str())?;
     out.append("\n")
 }
@@ -73,15 +86,13 @@ fn append_json<const ROOM: usize>(
 // A record that is no text cannot come; it is answered with want of memory.
 fn append_csv<const ROOM: usize>(
     alloc: Global,
-    flag: &Flag,
-    moment: &str,
+    dated: &DatedFlag<'_>,
     out: &mut RoomyTxt<ROOM>,
 ) -> Result<(), Memory>
-    requires { moment.now ≡ moment_text flag.now.moment }
-    ensures ok { OnOk result (out.new ≡ out.old ++ row_text default_writer (flag_fields flag.now)) }
+    ensures ok { OnOk result (out.new ≡ out.old ++ row_text default_writer (flag_fields dated.now)) }
     ensures err { OnErr result (KeepsFront out.old out.new) }
 {
-    let bytes = flag_bytes(alloc, flag, moment)?;
+    let bytes = flag_bytes(alloc, dated.flag, dated.moment)?;
     match str::from_utf8(bytes.as_slice()) {
         Ok(text) => out.append(text),
         Err(_) => Err(Memory),
@@ -89,42 +100,57 @@ fn append_csv<const ROOM: usize>(
 }
 
 #[tactic(auto, using(crate::proofs::PieceLemmas::keeps_front_behind))]
-fn append_flag<const ROOM: usize>(
+fn append_dated<const ROOM: usize>(
     alloc: Global,
     format: Format,
-    flag: &Flag,
-    moment: &str,
+    dated: &DatedFlag<'_>,
     out: &mut RoomyTxt<ROOM>,
 ) -> Result<(), Memory>
-    requires { moment.now ≡ moment_text flag.now.moment }
-    ensures ok { OnOk result (out.new ≡ out.old ++ flag_line format flag.now) }
+    ensures ok { OnOk result (out.new ≡ out.old ++ flag_line format dated.now) }
     ensures err { OnErr result (KeepsFront out.old out.new) }
 {
     out.append("0 flag ")?;
     match format {
-        Format::Text => append_text(flag, moment, out),
-        Format::Json => append_json(alloc, flag, moment, out),
-        Format::Csv => append_csv(alloc, flag, moment, out),
+        Format::Text => append_text(dated, out),
+        Format::Json => append_json(alloc, dated, out),
+        Format::Csv => append_csv(alloc, dated, out),
     }
 }
 
-fn append_whole<const ROOM: usize>(
+// A flag as it is printed in a format.
+#[derive(Clone, Copy)]
+struct FlagLine<'a> {
     alloc: Global,
     format: Format,
-    flag: &Flag,
+    flag: &'a Flag,
+}
+
+fn append_flag<const ROOM: usize>(
+    line: &FlagLine<'_>,
     out: &mut RoomyTxt<ROOM>,
 ) -> Result<(), Memory>
-    ensures ok { OnOk result (out.new ≡ out.old ++ flag_line format flag.now) }
+    ensures ok { OnOk result (out.new ≡ out.old ++ flag_line line.now.format line.now.flag.now) }
     ensures err { OnErr result (KeepsFront out.old out.new) }
 {
+    let flag = line.flag;
     match str::from_utf8(&moment_text(flag.moment)) {
-        Ok(moment) => append_flag(alloc, format, flag, moment, out),
+        Ok(moment) => append_dated(line.alloc, line.format, &DatedFlag { flag, moment }, out),
         Err(_) => unreachable!(),
     }
 }
 
-/// Adds one flagged question: `0 flag` and its number, moment, user, purpose, recipient and shared tuple, as words, as a
-/// JSON object or as a CSV record. The text is unchanged where memory is short.
+impl<'a, const ROOM: usize> Printed<ROOM> for FlagLine<'a> {
+    ghost use Rattle.hippo_report.specs.Flags.{flag_line};
+
+    ghost text = { λ line. flag_line line.format line.flag.now };
+
+    fn print(&self, out: &mut RoomyTxt<ROOM>) -> Result<(), Memory> {
+        append_flag(self, out)
+    }
+}
+
+/// Adds one flagged question: `0 flag` and its number, moment, user, purpose, recipient and shared tuple, as words, as
+/// a JSON object or as a CSV record. The text is unchanged where memory is short.
 pub fn flag_line<const ROOM: usize>(
     alloc: Global,
     format: Format,
@@ -134,10 +160,10 @@ pub fn flag_line<const ROOM: usize>(
     ensures ok { OnOk result (out.new ≡ out.old ++ flag_line format flag.now) }
     ensures err { OnErr result (out.new ≡ out.old) }
 {
-    let length = out.as_str().len();
-    let printed = append_whole(alloc, format, flag, out);
-    if printed.is_err() {
-        out.truncate(length);
-    }
-    printed
+    let line = FlagLine {
+        alloc,
+        format,
+        flag,
+    };
+    append_whole(&line, out)
 }

@@ -1,10 +1,10 @@
 //! Flags as JSON (RFC 8259).
 ghost use Rattle.std.specs.Prelude.{◌≡◌, ◌∷◌, [], map, IfOk, string_bytes};
-ghost use Rattle.serde_json.specs.Data.{string, array, item, no_items};
+ghost use Rattle.serde_json.specs.Data.{string, array};
 ghost use Rattle.serde_json.specs.View.{view, items_of};
 ghost use Rattle.serde_json.specs.Written.{compact_text};
 ghost use Rattle.hippo_values.specs.Dates.{day_text, moment_text};
-ghost use Rattle.hippo_report.specs.Flags.{value_data, shared_data, flag_data};
+ghost use Rattle.hippo_report.specs.Flags.{shared_data, flag_data};
 
 use hippo_model::{Flag, SharedRow};
 use hippo_values::{DayNumber, Value, day_text, moment_text};
@@ -20,42 +20,55 @@ fn day_data(alloc: Global, day: DayNumber) -> Result<serde_json::Value, AllocErr
     }
 }
 
-fn value_data(alloc: Global, value: &Value) -> Result<serde_json::Value, AllocError>
-    ensures { IfOk result (λ made. view made ≡ value_data value.now) }
-{
-    match value {
-        Value::Null => Ok(serde_json::Value::Null),
-        Value::Int(number) => Ok(serde_json::Value::from(*number)),
-        Value::Text(text) => serde_json::Value::try_from_str(alloc, text.as_str()),
-        Value::Day(day) => day_data(alloc, *day),
+// What has a form in JSON.
+trait JsonForm {
+    ghost use Rattle.serde_json.specs.Data.{Data};
+    ghost use Rattle.serde_json.specs.View.{view};
+    ghost use Rattle.std.specs.Prelude.{◌≡◌, IfOk};
+
+    ghost form: { Self → Data };
+
+    fn data(&self, alloc: Global) -> Result<serde_json::Value, AllocError>
+        ensures { IfOk result (λ made. view made ≡ form self.now) };
+}
+
+impl JsonForm for Value {
+    ghost use Rattle.hippo_report.specs.Flags.{value_data};
+
+    ghost form = { value_data };
+
+    fn data(&self, alloc: Global) -> Result<serde_json::Value, AllocError> {
+        match self {
+            Value::Null => Ok(serde_json::Value::Null),
+            Value::Int(number) => Ok(serde_json::Value::from(*number)),
+            Value::Text(text) => serde_json::Value::try_from_str(alloc, text.as_str()),
+            Value::Day(day) => day_data(alloc, *day),
+        }
     }
 }
 
-fn key_data(alloc: Global, key: &[Value]) -> Result<Vec<serde_json::Value>, AllocError>
-    ensures { IfOk result (λ made. map view made.items ≡ map value_data key.now) }
+fn items_data<T: JsonForm>(
+    alloc: Global,
+    members: &[T],
+) -> Result<Vec<serde_json::Value>, AllocError>
+    ensures { IfOk result (λ made. map view made.items ≡ map T.form members.now) }
 {
     let mut items = Vec::new(alloc);
-    for value in key {
-        items.push(value_data(alloc, value)?)?;
+    for member in members {
+        items.push(member.data(alloc)?)?;
     }
     Ok(items)
 }
 
-fn shared_data(alloc: Global, shared: &SharedRow) -> Result<serde_json::Value, AllocError>
-    ensures { IfOk result (λ made. view made ≡ shared_data shared.now) }
-{
-    let key = serde_json::Value::Array(key_data(alloc, shared.key.as_slice())?);
-    json!(in alloc; [shared.table.as_str(), key])
-}
+impl JsonForm for SharedRow {
+    ghost use Rattle.hippo_report.specs.Flags.{shared_data};
 
-fn tuple_data(alloc: Global, tuple: &[SharedRow]) -> Result<Vec<serde_json::Value>, AllocError>
-    ensures { IfOk result (λ made. map view made.items ≡ map shared_data tuple.now) }
-{
-    let mut items = Vec::new(alloc);
-    for shared in tuple {
-        items.push(shared_data(alloc, shared)?)?;
+    ghost form = { shared_data };
+
+    fn data(&self, alloc: Global) -> Result<serde_json::Value, AllocError> {
+        let key = serde_json::Value::Array(items_data(alloc, self.key.as_slice())?);
+        json!(in alloc; [self.table.as_str(), key])
     }
-    Ok(items)
 }
 
 fn object_data(
@@ -83,6 +96,6 @@ pub fn flag_json(alloc: Global, flag: &Flag, moment: &str) -> Result<String, All
     requires { moment.now ≡ moment_text flag.now.moment }
     ensures { IfOk result (λ text. string_bytes text ≡ compact_text (flag_data flag.now)) }
 {
-    let shared = serde_json::Value::Array(tuple_data(alloc, flag.shared.as_slice())?);
+    let shared = serde_json::Value::Array(items_data(alloc, flag.shared.as_slice())?);
     object_data(alloc, flag, moment, shared)?.to_string(alloc)
 }

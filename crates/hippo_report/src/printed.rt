@@ -49,6 +49,22 @@ impl<const ROOM: usize> Printed<ROOM> for Cell {
     }
 }
 
+/// Adds a part. The text is unchanged where memory is short.
+pub fn append_whole<const ROOM: usize, T: Printed<ROOM>>(
+    part: &T,
+    out: &mut RoomyTxt<ROOM>,
+) -> Result<(), Memory>
+    ensures ok { OnOk result (out.new ≡ out.old ++ T.text part.now) }
+    ensures err { OnErr result (out.new ≡ out.old) }
+{
+    let length = out.as_str().len();
+    let printed = part.print(out);
+    if printed.is_err() {
+        out.truncate(length);
+    }
+    printed
+}
+
 /// Adds the members of a list, each behind a separator.
 pub fn append_later<const ROOM: usize, T: Printed<ROOM>>(
     separator: &str,

@@ -176,7 +176,8 @@ fn append_moment<const ROOM: usize>(
 ) -> Result<(), Memory>
     ensures ok { OnOk result (out.new ≡ out.old ++ said_of who.now title.now (Some (moment_text moment.now))) }
     ensures err { OnErr result (out.new ≡ out.old) }
-    ensures room { length out.old + length (said_of who.now title.now (Some (moment_text moment.now))) ≤ ROOM → IsOk result }
+    ensures room { length out.old + length (said_of who.now title.now (Some (moment_text moment.now))) ≤ ROOM
+        → IsOk result }
 {
     match str::from_utf8(&moment_text(*moment)) {
         Ok(text) => append_naming(who, title, text, out),
@@ -208,16 +209,19 @@ fn append_refusal<const ROOM: usize>(
     refusal: &Refusal,
     out: &mut RoomyTxt<ROOM>,
 ) -> Result<(), Memory>
-    ensures ok { OnOk result (out.new ≡ out.old ++ said_of who.now (refusal_title refusal.now) (refusal_detail refusal.now)) }
+    ensures ok { OnOk result
+        (out.new ≡ out.old ++ said_of who.now (refusal_title refusal.now) (refusal_detail refusal.now)) }
     ensures err { OnErr result (out.new ≡ out.old) }
-    ensures room { length out.old + length (said_of who.now (refusal_title refusal.now) (refusal_detail refusal.now)) ≤ ROOM → IsOk result }
+    ensures room { length out.old
+        + length (said_of who.now (refusal_title refusal.now) (refusal_detail refusal.now)) ≤ ROOM
+        → IsOk result }
 {
     append_said(who, refusal_title(refusal), &refusal_detail(refusal), out)
 }
 
 /// Adds the reply to a line that is not carried out: `N no CODE NAME`, with what the refusal names behind it; N is the
-/// session's number, 0 for the console, and `-` where the line is nobody's. The text is unchanged where memory is short,
-/// which it never is within the room.
+/// session's number, 0 for the console, and `-` where the line is nobody's. The text is unchanged where memory is
+/// short, which it never is within the room.
 pub fn refusal_line<const ROOM: usize>(
     who: Option<u8>,
     refusal: &Refusal,

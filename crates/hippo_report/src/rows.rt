@@ -4,23 +4,29 @@ ghost use Rattle.hippo_values.specs.Printing.{KeepsFront};
 ghost use Rattle.hippo_report.specs.Cells.{answer_line, denied_line};
 
 use crate::pieces::append_pieces;
-use crate::printed::{append_joined, append_keyed};
+use crate::printed::{Printed, append_joined, append_keyed, append_whole};
 use hippo_model::{CellRow, Cells};
 use hippo_values::{Memory, Name, RoomyTxt};
 use itoa::Buffer;
 
-fn append_answer<const ROOM: usize>(
+// One row of an answer to a session.
+#[derive(Clone, Copy)]
+struct AnswerRow<'a> {
     session: u8,
-    row: &CellRow,
-    out: &mut RoomyTxt<ROOM>,
-) -> Result<(), Memory>
-    ensures ok { OnOk result (out.new ≡ out.old ++ answer_line session row.now) }
-    ensures err { OnErr result (KeepsFront out.old out.new) }
-{
-    out.append(Buffer::new().format(session))?;
-    out.append(" row ")?;
-    append_joined(", ", row.as_slice(), out)?;
-    out.append("\n")
+    row: &'a CellRow,
+}
+
+impl<'a, const ROOM: usize> Printed<ROOM> for AnswerRow<'a> {
+    ghost use Rattle.hippo_report.specs.Cells.{answer_line};
+
+    ghost text = { λ line. answer_line line.session line.row.now };
+
+    fn print(&self, out: &mut RoomyTxt<ROOM>) -> Result<(), Memory> {
+        out.append(Buffer::new().format(self.session))?;
+        out.append(" row ")?;
+        append_joined(", ", self.row.as_slice(), out)?;
+        out.append("\n")
+    }
 }
 
 /// Adds one row of an answer to a session: `N row CELLS`, where a value is printed as in SQL and a denied cell as
@@ -33,12 +39,7 @@ pub fn answer_line<const ROOM: usize>(
     ensures ok { OnOk result (out.new ≡ out.old ++ answer_line session row.now) }
     ensures err { OnErr result (out.new ≡ out.old) }
 {
-    let length = out.as_str().len();
-    let printed = append_answer(session, row, out);
-    if printed.is_err() {
-        out.truncate(length);
-    }
-    printed
+    append_whole(&AnswerRow { session, row }, out)
 }
 
 fn append_answers<const ROOM: usize>(
@@ -55,6 +56,24 @@ fn append_answers<const ROOM: usize>(
     Ok(())
 }
 
+// Rows of an answer to a session.
+#[derive(Clone, Copy)]
+struct AnswerRows<'a> {
+    session: u8,
+    rows: &'a [CellRow],
+}
+
+impl<'a, const ROOM: usize> Printed<ROOM> for AnswerRows<'a> {
+    ghost use Rattle.std.specs.Prelude.{flat_map};
+    ghost use Rattle.hippo_report.specs.Cells.{answer_line};
+
+    ghost text = { λ lines. flat_map (answer_line lines.session) lines.rows.now };
+
+    fn print(&self, out: &mut RoomyTxt<ROOM>) -> Result<(), Memory> {
+        append_answers(self.session, self.rows, out)
+    }
+}
+
 /// Adds rows of an answer to a session, each as `answer_line` does. The text is unchanged where memory is short.
 pub fn answer_lines<const ROOM: usize>(
     session: u8,
@@ -64,30 +83,37 @@ pub fn answer_lines<const ROOM: usize>(
     ensures ok { OnOk result (out.new ≡ out.old ++ flat_map (answer_line session) rows.now) }
     ensures err { OnErr result (out.new ≡ out.old) }
 {
-    let length = out.as_str().len();
-    let printed = append_answers(session, rows, out);
-    if printed.is_err() {
-        out.truncate(length);
-    }
-    printed
+    append_whole(&AnswerRows { session, rows }, out)
 }
 
-fn append_cell<const ROOM: usize>(
-    table: &Name,
-    key: &Cells,
-    column: &Name,
+// A cell that was denied, and the rule.
+#[derive(Clone, Copy)]
+struct DeniedCell<'a> {
+    table: &'a Name,
+    key: &'a Cells,
+    column: &'a Name,
     rule: u64,
-    out: &mut RoomyTxt<ROOM>,
-) -> Result<(), Memory>
-    ensures ok { OnOk result (out.new ≡ out.old ++ denied_line table.now key.now column.now rule) }
-    ensures err { OnErr result (KeepsFront out.old out.new) }
-{
-    out.append("0 denied ")?;
-    append_keyed(table, key, out)?;
-    append_pieces(
-        &[" ", column.as_str(), " ", Buffer::new().format(rule), "\n"],
-        out,
-    )
+}
+
+impl<'a, const ROOM: usize> Printed<ROOM> for DeniedCell<'a> {
+    ghost use Rattle.hippo_report.specs.Cells.{denied_line};
+
+    ghost text = { λ cell. denied_line cell.table.now cell.key.now cell.column.now cell.rule };
+
+    fn print(&self, out: &mut RoomyTxt<ROOM>) -> Result<(), Memory> {
+        out.append("0 denied ")?;
+        append_keyed(self.table, self.key, out)?;
+        append_pieces(
+            &[
+                " ",
+                self.column.as_str(),
+                " ",
+                Buffer::new().format(self.rule),
+                "\n",
+            ],
+            out,
+        )
+    }
 }
 
 /// Adds one cell that was denied: `0 denied TABLE(KEY) COLUMN RULE`. The text is unchanged where memory is short.
@@ -101,10 +127,11 @@ pub fn denied_line<const ROOM: usize>(
     ensures ok { OnOk result (out.new ≡ out.old ++ denied_line table.now key.now column.now rule) }
     ensures err { OnErr result (out.new ≡ out.old) }
 {
-    let length = out.as_str().len();
-    let printed = append_cell(table, key, column, rule, out);
-    if printed.is_err() {
-        out.truncate(length);
-    }
-    printed
+    let cell = DeniedCell {
+        table,
+        key,
+        column,
+        rule,
+    };
+    append_whole(&cell, out)
 }
