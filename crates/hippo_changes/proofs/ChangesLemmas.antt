@@ -29,20 +29,6 @@ pub first_of_front : {A : Type 0} (refuse : A → List NameFault) (front back : 
 first_of_front refuse front back fault first =
     rw (flat_map-append refuse front back) (first_with_more (flat_map refuse front) (flat_map refuse back) fault first)
 
--- the first refusal of a group, where nothing is refused before it, and groups come behind it
-module _ (before group : List NameFault) (fault : NameFault) (none : before ≡ []) (first : IsFirstOf group fault) where
-  pub with_one : (a : List NameFault) → IsFirstOf (before ++ group ++ a) fault
-  with_one a = first_with_more (before ++ group) a fault (first_after before group fault none first)
-
-  pub with_two : (a b : List NameFault) → IsFirstOf (before ++ group ++ a ++ b) fault
-  with_two a b = first_with_more (before ++ group ++ a) b fault (with_one a)
-
-  pub with_three : (a b c : List NameFault) → IsFirstOf (before ++ group ++ a ++ b ++ c) fault
-  with_three a b c = first_with_more (before ++ group ++ a ++ b) c fault (with_two a b)
-
-  pub with_four : (a b c d : List NameFault) → IsFirstOf (before ++ group ++ a ++ b ++ c ++ d) fault
-  with_four a b c d = first_with_more (before ++ group ++ a ++ b ++ c) d fault (with_three a b c)
-
--- nothing is refused in two groups where nothing is in either
-pub neither : (a b : List NameFault) → a ≡ [] → b ≡ [] → a ++ b ≡ []
-neither a b none also = rw (none, also) refl
+-- the first refusal of a group, where nothing is refused before it, and a group comes behind it
+pub with_one : (before group : List NameFault) (fault : NameFault) → before ≡ [] → IsFirstOf group fault → (later : List NameFault) → IsFirstOf (before ++ group ++ later) fault
+with_one before group fault none first later = first_with_more (before ++ group) later fault (first_after before group fault none first)

@@ -1,99 +1,68 @@
 //! What a statement that changes something asks for, or why it is refused.
-ghost use Rattle.std.specs.Prelude.{◌≡◌, false, Err};
+ghost use Rattle.std.specs.Prelude.{◌≡◌, false, if◌then◌else◌, Some, Err};
 ghost use Rattle.hippo_model.specs.declared.name_fault.NameFault.TheVariants as faults;
-ghost use Rattle.hippo_model.specs.declared.statement.Stmt.TheVariants.{CreatePurpose, CreateRecipient, CreateItem};
-ghost use Rattle.hippo_model.specs.declared.statement.Stmt.TheVariants.{Authorize, Deauthorize, Choice, Insert};
-ghost use Rattle.hippo_catalog.specs.ChangesRefused.{change_refused};
+ghost use Rattle.hippo_model.specs.declared.statement.Stmt.TheVariants.{Choice, Insert};
+ghost use Rattle.hippo_model.specs.declared.statement.Wanted.TheVariants.{Ready};
+ghost use Rattle.hippo_model.specs.declared.entry.Act.TheVariants as acts;
+ghost use Rattle.hippo_catalog.specs.Refusals.{Resolves, unknown_pair};
+ghost use Rattle.hippo_catalog.specs.ChangesRefused.{taken, change_refused};
 ghost use Rattle.hippo_catalog.specs.ChangesWanted.{wanted_by, Grants, changes_something};
+ghost use Rattle.hippo_changes.specs.Checking.{Checks};
 
 use crate::keys::{check_delete, check_update};
 use crate::names::{check_item, check_new, known_table};
 use crate::rules::{RuleNames, check_allow, check_revoke};
-use crate::tables::check_create_table;
+use crate::tables::{Draft, check_create_table};
 use crate::values::{check_new_row, key_of};
 use hippo_catalog::{Catalog, check_pair};
-use hippo_model::{Act, Cells, ItemKind, NameFault, Stmt, Wanted};
+use hippo_model::{Act, Cells, NameFault, Stmt, Wanted};
 use hippo_values::{Duplicate, Name};
 use std::alloc::Global;
 
-fn check_create_purpose(
-    alloc: Global,
-    catalog: &Catalog,
-    purpose: &Name,
-) -> Result<Wanted, NameFault>
-    ensures { Grants (change_refused catalog.now.names (CreatePurpose purpose.now))
-        (wanted_by catalog.now.names (CreatePurpose purpose.now)) result }
+// A name that has to be new.
+fn new_name(alloc: Global, is_there: bool, name: &Name) -> Result<Name, NameFault>
+    ensures { Resolves (taken is_there name.now) name.now result }
 {
-    check_new(alloc, catalog.has_purpose(purpose), purpose)?;
-    Ok(Wanted::Ready(Act::Purpose(purpose.copy(alloc)?)))
+    check_new(alloc, is_there, name)?;
+    Ok(name.copy(alloc)?)
 }
 
-fn check_create_recipient(
-    alloc: Global,
-    catalog: &Catalog,
-    recipient: &Name,
-) -> Result<Wanted, NameFault>
-    ensures { Grants (change_refused catalog.now.names (CreateRecipient recipient.now))
-        (wanted_by catalog.now.names (CreateRecipient recipient.now)) result }
+fn grant_act(is_given: bool, user: Name, purpose: Name, recipient: Name) -> Act
+    ensures { result ≡ (if is_given then acts.Authorize user purpose recipient
+        else acts.Deauthorize user purpose recipient) }
 {
-    check_new(alloc, catalog.has_recipient(recipient), recipient)?;
-    Ok(Wanted::Ready(Act::Recipient(recipient.copy(alloc)?)))
+    if is_given {
+        return Act::Authorize {
+            user,
+            purpose,
+            recipient,
+        };
+    }
+    Act::Deauthorize {
+        user,
+        purpose,
+        recipient,
+    }
 }
 
-fn check_create_item(
+// AUTHORIZE, where the grant is given, and DEAUTHORIZE.
+fn check_grant(
     alloc: Global,
     catalog: &Catalog,
-    item: &Name,
-    kind: ItemKind,
-) -> Result<Wanted, NameFault>
-    ensures { Grants (change_refused catalog.now.names (CreateItem item.now kind))
-        (wanted_by catalog.now.names (CreateItem item.now kind)) result }
-{
-    check_new(alloc, catalog.item(item).is_some(), item)?;
-    let item = item.copy(alloc)?;
-    Ok(Wanted::Ready(Act::Item { item, kind }))
-}
-
-fn check_authorize(
-    alloc: Global,
-    catalog: &Catalog,
+    is_given: bool,
     user: &Name,
     purpose: &Name,
     recipient: &Name,
 ) -> Result<Wanted, NameFault>
-    ensures { Grants (change_refused catalog.now.names (Authorize user.now purpose.now recipient.now))
-        (wanted_by catalog.now.names (Authorize user.now purpose.now recipient.now)) result }
+    ensures { Grants (unknown_pair catalog.now.names purpose.now recipient.now)
+        (Some (Ready (if is_given then acts.Authorize user.now purpose.now recipient.now
+        else acts.Deauthorize user.now purpose.now recipient.now))) result }
 {
     check_pair(alloc, catalog, purpose, recipient)?;
     let user = user.copy(alloc)?;
     let purpose = purpose.copy(alloc)?;
     let recipient = recipient.copy(alloc)?;
-    Ok(Wanted::Ready(Act::Authorize {
-        user,
-        purpose,
-        recipient,
-    }))
-}
-
-fn check_deauthorize(
-    alloc: Global,
-    catalog: &Catalog,
-    user: &Name,
-    purpose: &Name,
-    recipient: &Name,
-) -> Result<Wanted, NameFault>
-    ensures { Grants (change_refused catalog.now.names (Deauthorize user.now purpose.now recipient.now))
-        (wanted_by catalog.now.names (Deauthorize user.now purpose.now recipient.now)) result }
-{
-    check_pair(alloc, catalog, purpose, recipient)?;
-    let user = user.copy(alloc)?;
-    let purpose = purpose.copy(alloc)?;
-    let recipient = recipient.copy(alloc)?;
-    Ok(Wanted::Ready(Act::Deauthorize {
-        user,
-        purpose,
-        recipient,
-    }))
+    Ok(Wanted::Ready(grant_act(is_given, user, purpose, recipient)))
 }
 
 fn check_choice(
@@ -103,8 +72,7 @@ fn check_choice(
     item: &Name,
     yes: bool,
 ) -> Result<Wanted, NameFault>
-    ensures { Grants (change_refused catalog.now.names (Choice subject.now item.now yes))
-        (wanted_by catalog.now.names (Choice subject.now item.now yes)) result }
+    ensures { Checks catalog.now.names (Choice subject.now item.now yes) result }
 {
     check_item(alloc, catalog, item)?;
     let item = item.copy(alloc)?;
@@ -121,8 +89,7 @@ fn check_insert(
     table: &Name,
     values: &Cells,
 ) -> Result<Wanted, NameFault>
-    ensures { Grants (change_refused catalog.now.names (Insert table.now values.now))
-        (wanted_by catalog.now.names (Insert table.now values.now)) result }
+    ensures { Checks catalog.now.names (Insert table.now values.now) result }
 {
     let schema = known_table(alloc, catalog, table)?.schema();
     check_new_row(alloc, schema, values.as_slice())?;
@@ -134,7 +101,7 @@ fn check_insert(
 
 // INSERT, UPDATE and DELETE.
 fn check_row_change(alloc: Global, catalog: &Catalog, change: &Stmt) -> Result<Wanted, NameFault>
-    ensures answer { Grants (change_refused catalog.now.names change.now) (wanted_by catalog.now.names change.now) result }
+    ensures answer { Checks catalog.now.names change.now result }
     ensures other { changes_something change.now ≡ false → result ≡ Err faults.Memory }
 {
     match change {
@@ -165,7 +132,7 @@ fn check_row_change(alloc: Global, catalog: &Catalog, change: &Stmt) -> Result<W
 
 // ALLOW, REVOKE and what changes rows.
 fn check_table_change(alloc: Global, catalog: &Catalog, change: &Stmt) -> Result<Wanted, NameFault>
-    ensures answer { Grants (change_refused catalog.now.names change.now) (wanted_by catalog.now.names change.now) result }
+    ensures answer { Checks catalog.now.names change.now result }
     ensures other { changes_something change.now ≡ false → result ≡ Err faults.Memory }
 {
     match change {
@@ -203,6 +170,28 @@ fn check_table_change(alloc: Global, catalog: &Catalog, change: &Stmt) -> Result
     }
 }
 
+// What makes a purpose, a recipient or an item, or changes tables.
+fn check_creation(alloc: Global, catalog: &Catalog, change: &Stmt) -> Result<Wanted, NameFault>
+    ensures answer { Checks catalog.now.names change.now result }
+    ensures other { changes_something change.now ≡ false → result ≡ Err faults.Memory }
+{
+    match change {
+        Stmt::CreatePurpose(name) => {
+            let purpose = new_name(alloc, catalog.has_purpose(name), name)?;
+            Ok(Wanted::Ready(Act::Purpose(purpose)))
+        }
+        Stmt::CreateRecipient(name) => {
+            let recipient = new_name(alloc, catalog.has_recipient(name), name)?;
+            Ok(Wanted::Ready(Act::Recipient(recipient)))
+        }
+        Stmt::CreateItem { item, kind } => {
+            let item = new_name(alloc, catalog.item(item).is_some(), item)?;
+            Ok(Wanted::Ready(Act::Item { item, kind: *kind }))
+        }
+        _ => check_table_change(alloc, catalog, change),
+    }
+}
+
 /// What a statement that changes something asks for, or the first refusal that holds: its names and types are right
 /// where a catalog's names stand. What it does may still wait for the rows that are there. A statement that changes
 /// nothing is answered with want of memory; of one that does, any error else is its first refusal.
@@ -217,21 +206,25 @@ pub fn check_change(alloc: Global, catalog: &Catalog, statement: &Stmt) -> Resul
             columns,
             key,
             subject,
-        } => check_create_table(alloc, catalog, table, columns, key, subject),
-        Stmt::CreatePurpose(purpose) => check_create_purpose(alloc, catalog, purpose),
-        Stmt::CreateRecipient(recipient) => check_create_recipient(alloc, catalog, recipient),
-        Stmt::CreateItem { item, kind } => check_create_item(alloc, catalog, item, *kind),
+        } => {
+            let draft = Draft {
+                columns,
+                key,
+                subject,
+            };
+            check_create_table(alloc, catalog, table, draft)
+        }
         Stmt::Authorize {
             user,
             purpose,
             recipient,
-        } => check_authorize(alloc, catalog, user, purpose, recipient),
+        } => check_grant(alloc, catalog, true, user, purpose, recipient),
         Stmt::Deauthorize {
             user,
             purpose,
             recipient,
-        } => check_deauthorize(alloc, catalog, user, purpose, recipient),
+        } => check_grant(alloc, catalog, false, user, purpose, recipient),
         Stmt::Choice { subject, item, yes } => check_choice(alloc, catalog, subject, item, *yes),
-        _ => check_table_change(alloc, catalog, statement),
+        _ => check_creation(alloc, catalog, statement),
     }
 }

@@ -4,11 +4,11 @@ ghost use Rattle.std.specs.List.{list_any, list_all, zip};
 ghost use Rattle.std.specs.Map.{lookup};
 ghost use Rattle.hippo_catalog.specs.Refusals.{Resolves, refused};
 ghost use Rattle.hippo_catalog.specs.WrittenColumns.{place_of};
-ghost use Rattle.hippo_catalog.specs.ChangesRefused.{column_named, places_of, unknown_columns};
+ghost use Rattle.hippo_catalog.specs.ChangesRefused.{column_named, places_of, unknown_columns, rule_refused};
 ghost use Rattle.hippo_catalog.specs.ChangesRefused.{is_the_key, is_of_key, key_changed};
 ghost use Rattle.hippo_model.specs.declared.name_fault.NameFault.TheVariants.{NotTheKey};
 
-use hippo_catalog::{IndexedTable, column_faults};
+use hippo_catalog::{IndexedTable, check_repeats, column_faults};
 use hippo_model::{Cells, Column, Columns, NameFault, Names, Places, Schema};
 use hippo_values::{Duplicate, Memory, Name, Sequence, Value};
 use std::alloc::Global;
@@ -63,6 +63,18 @@ pub fn places<T: NamedColumns>(
         }
     }
     Ok(places)
+}
+
+/// The same, where each is named once.
+pub fn distinct_places(
+    alloc: Global,
+    table: &IndexedTable,
+    names: &[Name],
+) -> Result<Places, NameFault>
+    ensures { Resolves (rule_refused names.now table.now) (places_of table.now names.now) result }
+{
+    check_repeats(alloc, names)?;
+    places(alloc, table, names)
 }
 
 /// The place of a column, where one is named.

@@ -4,12 +4,12 @@ ghost use Rattle.std.specs.List.{zip};
 ghost use Rattle.std.specs.Map.{lookup};
 ghost use Rattle.hippo_model.specs.declared.statement.Stmt.TheVariants.{Update, Delete};
 ghost use Rattle.hippo_model.specs.declared.statement.Wanted.TheVariants.{Set, Remove};
-ghost use Rattle.hippo_catalog.specs.Refusals.{Resolves, repeated_names};
-ghost use Rattle.hippo_catalog.specs.ChangesRefused.{places_of, unknown_columns, change_refused};
+ghost use Rattle.hippo_catalog.specs.Refusals.{Resolves};
+ghost use Rattle.hippo_catalog.specs.ChangesRefused.{places_of, unknown_columns, rule_refused, key_refused};
 ghost use Rattle.hippo_catalog.specs.ChangesRefused.{update_refused, delete_refused};
-ghost use Rattle.hippo_catalog.specs.ChangesWanted.{wanted_by, Grants};
+ghost use Rattle.hippo_changes.specs.Checking.{Checks, names_refused};
 
-use crate::columns::{check_key, check_key_stays, key_written, places};
+use crate::columns::{check_key, check_key_stays, distinct_places, key_written, places};
 use crate::names::known_table;
 use crate::values::{Assigned, check_assignments};
 use hippo_catalog::{Catalog, IndexedTable, check_repeats};
@@ -44,13 +44,27 @@ fn named_places(
     set: &[Name],
     key: &[Name],
 ) -> Result<UpdatePlaces, NameFault>
-    ensures { Resolves (repeated_names set.now ++ repeated_names key.now
-        ++ unknown_columns table.now (set.now ++ key.now))
+    ensures { Resolves (names_refused set.now key.now table.now)
         (record { set = places_of table.now set.now; key = places_of table.now key.now }) result }
 {
     check_repeats(alloc, set)?;
     check_repeats(alloc, key)?;
     both_places(alloc, table, set, key)
+}
+
+// The same, where the columns of WHERE are those of the key.
+fn keyed_places(
+    alloc: Global,
+    table: &IndexedTable,
+    set: &[Name],
+    key: &[Name],
+) -> Result<UpdatePlaces, NameFault>
+    ensures { Resolves (names_refused set.now key.now table.now ++ key_refused table.now key.now)
+        (record { set = places_of table.now set.now; key = places_of table.now key.now }) result }
+{
+    let places = named_places(alloc, table, set, key)?;
+    check_key(table.schema(), places.key.as_slice())?;
+    Ok(places)
 }
 
 fn update_places(
@@ -66,8 +80,7 @@ fn update_places(
           key = places_of table.now key.entry.names.now;
         }) result }
 {
-    let places = named_places(alloc, table, set.names, key.names)?;
-    check_key(table.schema(), places.key.as_slice())?;
+    let places = keyed_places(alloc, table, set.names, key.names)?;
     check_key_stays(alloc, table, set.names)?;
     check_assignments(alloc, table, set, key)?;
     Ok(places)
@@ -115,9 +128,7 @@ pub fn check_update(
     keys: &Names,
     key_values: &Cells,
 ) -> Result<Wanted, NameFault>
-    ensures { Grants (change_refused catalog.now.names
-        (Update table.now columns.now values.now keys.now key_values.now))
-        (wanted_by catalog.now.names (Update table.now columns.now values.now keys.now key_values.now)) result }
+    ensures { Checks catalog.now.names (Update table.now columns.now values.now keys.now key_values.now) result }
 {
     let found = known_table(alloc, catalog, table)?;
     let assigned = Assigned {
@@ -132,13 +143,21 @@ pub fn check_update(
     Ok(set(alloc, table, found.schema(), places, values, key_values)?)
 }
 
+// The places of the key's columns, each named once.
+fn key_places(alloc: Global, table: &IndexedTable, key: &[Name]) -> Result<Places, NameFault>
+    ensures { Resolves (rule_refused key.now table.now ++ key_refused table.now key.now)
+        (places_of table.now key.now) result }
+{
+    let places = distinct_places(alloc, table, key)?;
+    check_key(table.schema(), places.as_slice())?;
+    Ok(places)
+}
+
 fn delete_places(alloc: Global, table: &IndexedTable, key: Assigned) -> Result<Places, NameFault>
     ensures { Resolves (delete_refused key.entry.names.now key.entry.values.now table.now)
         (places_of table.now key.entry.names.now) result }
 {
-    check_repeats(alloc, key.names)?;
-    let places = places(alloc, table, key.names)?;
-    check_key(table.schema(), places.as_slice())?;
+    let places = key_places(alloc, table, key.names)?;
     let none = Assigned {
         names: &[],
         values: &[],
@@ -170,8 +189,7 @@ pub fn check_delete(
     keys: &Names,
     values: &Cells,
 ) -> Result<Wanted, NameFault>
-    ensures { Grants (change_refused catalog.now.names (Delete table.now keys.now values.now))
-        (wanted_by catalog.now.names (Delete table.now keys.now values.now)) result }
+    ensures { Checks catalog.now.names (Delete table.now keys.now values.now) result }
 {
     let found = known_table(alloc, catalog, table)?;
     let key = Assigned {

@@ -4,12 +4,12 @@ ghost use Rattle.hippo_model.specs.declared.entry.Act.TheVariants as acts;
 ghost use Rattle.hippo_model.specs.declared.statement.Stmt.TheVariants.{Allow, Revoke};
 ghost use Rattle.hippo_model.specs.declared.statement.Wanted.TheVariants.{Ready};
 ghost use Rattle.hippo_catalog.specs.Refusals.{Resolves};
-ghost use Rattle.hippo_catalog.specs.ChangesRefused.{item_refused, rule_refused, places_of, change_refused};
-ghost use Rattle.hippo_catalog.specs.ChangesWanted.{wanted_by, Grants};
+ghost use Rattle.hippo_catalog.specs.ChangesRefused.{item_refused};
+ghost use Rattle.hippo_changes.specs.Checking.{Checks};
 
-use crate::columns::places;
+use crate::columns::distinct_places;
 use crate::names::{check_item_if_any, known_table};
-use hippo_catalog::{Catalog, IndexedTable, check_pair, check_repeats, name_faults};
+use hippo_catalog::{Catalog, check_pair, name_faults};
 use hippo_model::{Act, NameFault, Names, Places, Schema, Wanted};
 use hippo_values::{Duplicate, Memory, Name};
 use std::alloc::Global;
@@ -21,13 +21,6 @@ pub struct RuleNames<'a> {
     pub recipient: &'a Name,
     pub table: &'a Name,
     pub columns: &'a Names,
-}
-
-fn rule_places(alloc: Global, table: &IndexedTable, columns: &Names) -> Result<Places, NameFault>
-    ensures { Resolves (rule_refused columns.now table.now) (places_of table.now columns.now) result }
-{
-    check_repeats(alloc, columns.as_slice())?;
-    places(alloc, table, columns.as_slice())
 }
 
 // An item wants a table with SUBJECT.
@@ -96,28 +89,24 @@ pub fn check_allow(
     item: &Option<Name>,
     days: Option<u32>,
 ) -> Result<Wanted, NameFault>
-    ensures { Grants (change_refused catalog.now.names (Allow rule.entry.purpose.now rule.entry.recipient.now
-        rule.entry.table.now rule.entry.columns.now item.now days))
-        (wanted_by catalog.now.names (Allow rule.entry.purpose.now rule.entry.recipient.now
-        rule.entry.table.now rule.entry.columns.now item.now days)) result }
+    ensures { Checks catalog.now.names (Allow rule.entry.purpose.now rule.entry.recipient.now
+        rule.entry.table.now rule.entry.columns.now item.now days) result }
 {
     let table = known_table(alloc, catalog, rule.table)?;
     check_pair(alloc, catalog, rule.purpose, rule.recipient)?;
     check_item_if_any(alloc, catalog, item)?;
-    let columns = rule_places(alloc, table, rule.columns)?;
+    let columns = distinct_places(alloc, table, rule.columns.as_slice())?;
     check_subject(alloc, table.schema(), item)?;
     Ok(allow(alloc, rule, columns, item, days)?)
 }
 
 /// REVOKE: the columns that a rule no longer shows.
 pub fn check_revoke(alloc: Global, catalog: &Catalog, rule: RuleNames) -> Result<Wanted, NameFault>
-    ensures { Grants (change_refused catalog.now.names (Revoke rule.entry.purpose.now rule.entry.recipient.now
-        rule.entry.table.now rule.entry.columns.now))
-        (wanted_by catalog.now.names (Revoke rule.entry.purpose.now rule.entry.recipient.now
-        rule.entry.table.now rule.entry.columns.now)) result }
+    ensures { Checks catalog.now.names (Revoke rule.entry.purpose.now rule.entry.recipient.now
+        rule.entry.table.now rule.entry.columns.now) result }
 {
     let table = known_table(alloc, catalog, rule.table)?;
     check_pair(alloc, catalog, rule.purpose, rule.recipient)?;
-    let columns = rule_places(alloc, table, rule.columns)?;
+    let columns = distinct_places(alloc, table, rule.columns.as_slice())?;
     Ok(revoke(alloc, rule, columns)?)
 }

@@ -6,8 +6,9 @@ ghost use Rattle.hippo_model.specs.Validity.{is_integer};
 ghost use Rattle.hippo_catalog.specs.Refusals.{Resolves, repeated_names};
 ghost use Rattle.hippo_catalog.specs.WrittenColumns.{place_of};
 ghost use Rattle.hippo_catalog.specs.ChangesRefused.{draft_of, column_named, places_of, unknown_columns};
-ghost use Rattle.hippo_catalog.specs.ChangesRefused.{subject_refused, sizes_refused, create_refused, change_refused};
-ghost use Rattle.hippo_catalog.specs.ChangesWanted.{with_not_null, wanted_by, Grants};
+ghost use Rattle.hippo_catalog.specs.ChangesRefused.{subject_refused, sizes_refused, create_refused};
+ghost use Rattle.hippo_catalog.specs.ChangesWanted.{with_not_null};
+ghost use Rattle.hippo_changes.specs.Checking.{Checks, draft_refused};
 
 use crate::columns::{NamedColumns, place_if_any, places};
 use crate::names::check_new;
@@ -79,6 +80,41 @@ fn key_places(
     Ok(KeyPlaces { key, subject })
 }
 
+/// What CREATE TABLE says of a table, beside its name.
+#[derive(Clone, Copy)]
+pub struct Draft<'a> {
+    pub columns: &'a Columns,
+    pub key: &'a Names,
+    pub subject: &'a Option<Name>,
+}
+
+// Its names: the columns differ, and so do those of the key, which has to be among them.
+fn named_places(alloc: Global, draft: Draft) -> Result<KeyPlaces, NameFault>
+    ensures { Resolves (draft_refused draft.entry.columns.now draft.entry.key.now draft.entry.subject.now)
+        (record {
+          key = places_of (draft_of [] draft.entry.columns.now) draft.entry.key.now;
+          subject = option_and_then (place_of (draft_of [] draft.entry.columns.now)) draft.entry.subject.now;
+        }) result }
+{
+    check_columns_differ(alloc, draft.columns.as_slice())?;
+    check_repeats(alloc, draft.key.as_slice())?;
+    key_places(alloc, draft.columns, draft.key, draft.subject)
+}
+
+// Its names, and the SUBJECT's kind.
+fn fitting_places(alloc: Global, draft: Draft) -> Result<KeyPlaces, NameFault>
+    ensures { Resolves (draft_refused draft.entry.columns.now draft.entry.key.now draft.entry.subject.now
+        ++ subject_refused (draft_of [] draft.entry.columns.now) draft.entry.subject.now)
+        (record {
+          key = places_of (draft_of [] draft.entry.columns.now) draft.entry.key.now;
+          subject = option_and_then (place_of (draft_of [] draft.entry.columns.now)) draft.entry.subject.now;
+        }) result }
+{
+    let places = named_places(alloc, draft)?;
+    check_subject(draft.columns, draft.subject)?;
+    Ok(places)
+}
+
 fn check_sizes(catalog: &Catalog, columns: &Columns) -> Result<(), NameFault>
     ensures { Resolves (sizes_refused catalog.now.names columns.now) tt result }
 {
@@ -95,21 +131,17 @@ fn check_table(
     alloc: Global,
     catalog: &Catalog,
     table: &Name,
-    columns: &Columns,
-    key: &Names,
-    subject: &Option<Name>,
+    draft: Draft,
 ) -> Result<KeyPlaces, NameFault>
-    ensures { Resolves (create_refused catalog.now.names table.now columns.now key.now subject.now)
+    ensures { Resolves (create_refused catalog.now.names table.now draft.entry.columns.now draft.entry.key.now
+        draft.entry.subject.now)
         (record {
-          key = places_of (draft_of [] columns.now) key.now;
-          subject = option_and_then (place_of (draft_of [] columns.now)) subject.now;
+          key = places_of (draft_of [] draft.entry.columns.now) draft.entry.key.now;
+          subject = option_and_then (place_of (draft_of [] draft.entry.columns.now)) draft.entry.subject.now;
         }) result }
 {
-    check_columns_differ(alloc, columns.as_slice())?;
-    check_repeats(alloc, key.as_slice())?;
-    let places = key_places(alloc, columns, key, subject)?;
-    check_subject(columns, subject)?;
-    check_sizes(catalog, columns)?;
+    let places = fitting_places(alloc, draft)?;
+    check_sizes(catalog, draft.columns)?;
     check_new(alloc, catalog.table(table).is_some(), table)?;
     Ok(places)
 }
@@ -168,15 +200,18 @@ pub fn check_create_table(
     alloc: Global,
     catalog: &Catalog,
     table: &Name,
-    columns: &Columns,
-    key: &Names,
-    subject: &Option<Name>,
+    draft: Draft,
 ) -> Result<Wanted, NameFault>
-    ensures { Grants (change_refused catalog.now.names (CreateTable table.now columns.now key.now subject.now))
-        (wanted_by catalog.now.names (CreateTable table.now columns.now key.now subject.now)) result }
+    ensures { Checks catalog.now.names
+        (CreateTable table.now draft.entry.columns.now draft.entry.key.now draft.entry.subject.now) result }
 {
-    let places = check_table(alloc, catalog, table, columns, key, subject)?;
-    let columns = columns_made(alloc, key.as_slice(), subject, columns.as_slice())?;
+    let places = check_table(alloc, catalog, table, draft)?;
+    let columns = columns_made(
+        alloc,
+        draft.key.as_slice(),
+        draft.subject,
+        draft.columns.as_slice(),
+    )?;
     let name = table.copy(alloc)?;
     let KeyPlaces { key, subject } = places;
     Ok(Wanted::Ready(Act::Create(Schema {
