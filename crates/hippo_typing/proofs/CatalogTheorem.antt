@@ -1,5 +1,5 @@
 -- The names of a history, one entry after the other, and what the history says of each.
-use Rattle.std.proofs.Common.{◌≡◌, ◌+◌, Bool, true, false, cond, List, [], ◌∷◌, ◌++◌, length, Option, None, Some, refl, sym, ap, subst, ◌∙◌, arith}
+use Rattle.std.proofs.Common.{◌≡◌, ◌+◌, Bool, true, false, cond, List, [], ◌∷◌, ◌++◌, filter_map, length, Option, None, Some, refl, sym, ap, subst, ◌∙◌, arith}
 use Rattle.std.specs.Prelude.{not, ◌&&◌, ◌||◌, ◌==◌, if◌then◌else◌, nat_lt, is_none, bytes_eq, count_by}
 use Rattle.std.specs.Bool.{then_some}
 use Rattle.std.specs.Cmp.Lexicographic.{nat_list_eq_equiv}
@@ -18,7 +18,7 @@ use Rattle.hippo_model.specs.declared.entry.Act.TheVariants.{Create, Purpose, Re
 use Rattle.hippo_model.specs.declared.entry.Entry.{Entry}
 use Rattle.hippo_model.specs.declared.entry.ItemKind.{ItemKind}
 use Rattle.hippo_model.specs.declared.schema.Schema.{Schema}
-use Rattle.hippo_model.specs.Histories.{created, item_created, schema_at, item_at}
+use Rattle.hippo_model.specs.Histories.{last_word, created, item_created, schema_at, item_at}
 use Rattle.hippo_model.specs.Keepable.{is_keepable}
 use Rattle.hippo_model.specs.Terms.{History, Meaning}
 use Rattle.hippo_model.specs.Validity.{creates_purpose, creates_recipient, is_purpose, is_recipient, creates_table, keeps_order, is_acceptable, is_well_formed, may_follow, is_valid}
@@ -124,22 +124,24 @@ module _ (meaning : Meaning) (history : History) (entry : Entry) (may : may_foll
       let none : is_acceptable meaning history (Item name kind) ≡ true = subst (λ (a : Act). is_acceptable meaning history a ≡ true) is acceptable in
       ap (item_at history) (sym ((bytes_eq-Decides name item).0 named)) ∙ none_is (item_at history name) none
 
+  -- what has a name after the entry, where the entry says no other thing of a name that is there
+  named_after : {A : Type 0} (name : Name) (named : Act → Option (Name × A)) (said : Act → Option A) →
+      lookup (bytes_eq name) (filter_map (λ (e : Entry). named e.act) history) ≡ last_word (λ (e : Entry). said e.act) history →
+      option_or (last_word (λ (e : Entry). said e.act) history) (lookup (bytes_eq name) (cons_option (named entry.act) [])) ≡ option_or (said entry.act) (last_word (λ (e : Entry). said e.act) history) →
+      lookup (bytes_eq name) (filter_map (λ (e : Entry). named e.act) (history ++ entry ∷ [])) ≡ last_word (λ (e : Entry). said e.act) (history ++ entry ∷ [])
+  named_after name named said so_far step =
+      ap (lookup (bytes_eq name)) (filter_map-append (λ (e : Entry). named e.act) history (entry ∷ []))
+      ∙ lookup-append (bytes_eq name) (filter_map (λ (e : Entry). named e.act) history) (cons_option (named entry.act) [])
+      ∙ ap (λ o. option_or o (lookup (bytes_eq name) (cons_option (named entry.act) []))) so_far
+      ∙ step
+      ∙ sym (last_word-append (λ (e : Entry). said e.act) history entry)
+
   kept : NamesAreThoseOf history → NamesAreThoseOf (history ++ entry ∷ [])
   kept so_far = record {
-    tables = λ table.
-        ap (lookup (bytes_eq table)) (filter_map-append (λ (e : Entry). table_in e.act) history (entry ∷ []))
-        ∙ lookup-append (bytes_eq table) (known_at history).tables (cons_option (table_in entry.act) [])
-        ∙ ap (λ o. option_or o (lookup (bytes_eq table) (cons_option (table_in entry.act) []))) (so_far.tables table)
-        ∙ table_step table entry.act (schema_at history table) (new_table table)
-        ∙ sym (last_word-append (λ (e : Entry). created table e.act) history entry);
+    tables = λ table. named_after table table_in (created table) (so_far.tables table) (table_step table entry.act (schema_at history table) (new_table table));
     purposes = purposes_are (history ++ entry ∷ []);
     recipients = recipients_are (history ++ entry ∷ []);
-    items = λ item.
-        ap (lookup (bytes_eq item)) (filter_map-append (λ (e : Entry). item_in e.act) history (entry ∷ []))
-        ∙ lookup-append (bytes_eq item) (known_at history).items (cons_option (item_in entry.act) [])
-        ∙ ap (λ o. option_or o (lookup (bytes_eq item) (cons_option (item_in entry.act) []))) (so_far.items item)
-        ∙ item_step item entry.act (item_at history item) (new_item item)
-        ∙ sym (last_word-append (λ (e : Entry). item_created item e.act) history entry);
+    items = λ item. named_after item item_in (item_created item) (so_far.items item) (item_step item entry.act (item_at history item) (new_item item));
     count = tables_counted (history ++ entry ∷ []);
   }
 

@@ -163,21 +163,14 @@ fn audit_of(found: FoundAudit, head: AuditHead, shown: bool) -> Audit
       cond = found.cond;
     } }
 {
-    let FoundAudit { columns, cond } = found;
-    let AuditHead {
-        from,
-        to,
-        exempt,
-        tables,
-    } = head;
     Audit {
-        from,
-        to,
-        exempt,
+        from: head.from,
+        to: head.to,
+        exempt: head.exempt,
         shown,
-        columns,
-        tables,
-        cond,
+        columns: found.columns,
+        tables: head.tables,
+        cond: found.cond,
     }
 }
 

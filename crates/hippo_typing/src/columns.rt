@@ -6,7 +6,7 @@ ghost use Rattle.hippo_catalog.specs.Refusals.{Resolves, IsFirstOf};
 ghost use Rattle.hippo_catalog.specs.WrittenColumns.{may_stand_in, home_in, homes_refused, column_refused, column_of};
 ghost use Rattle.hippo_typing.specs.Found.{with_column};
 
-use crate::found::{FoundColumn, FoundColumns};
+use crate::found::{Found, FoundColumns};
 use hippo_catalog::{IndexedTable, StatementTables, column_faults};
 use hippo_model::{NameFault, RawColumn, Ref, Refs};
 use hippo_values::{Name, Sequence};
@@ -94,7 +94,7 @@ pub fn found_columns<'a>(
     let mut found = Sequence::new(alloc);
     for written in written {
         let column = found_column(alloc, tables, written)?;
-        found.push(FoundColumn { written, column })?;
+        found.push(Found { written, column })?;
     }
     Ok(found)
 }

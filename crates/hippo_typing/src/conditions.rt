@@ -1,5 +1,5 @@
 //! A condition with its columns found.
-ghost use Rattle.std.specs.Prelude.{◌≡◌, ◌∷◌, [], flat_map, map};
+ghost use Rattle.std.specs.Prelude.{◌≡◌, ◌∷◌, [], flat_map, map, if◌then◌else◌};
 ghost use Rattle.hippo_model.specs.declared.query.CondOf.TheVariants.{All, Any, Not, Compare, Between, Among, Missing};
 ghost use Rattle.hippo_model.specs.declared.query.Operand.TheVariants.{Column, Literal};
 ghost use Rattle.hippo_catalog.specs.Refusals.{Resolves};
@@ -126,8 +126,8 @@ pub fn found_condition(
     ensures { Resolves (operands_refused tables.now condition.now) (condition_of tables.now condition.now) result }
 {
     match condition {
-        CondOf::All(parts) => found_all(alloc, tables, parts),
-        CondOf::Any(parts) => found_any(alloc, tables, parts),
+        CondOf::All(parts) => found_junction(alloc, tables, true, parts),
+        CondOf::Any(parts) => found_junction(alloc, tables, false, parts),
         CondOf::Not(part) => found_not(alloc, tables, part),
         CondOf::Compare { op, left, right } => found_comparison(alloc, tables, *op, left, right),
         CondOf::Between { value, low, high } => found_between(alloc, tables, value, low, high),
@@ -152,28 +152,23 @@ fn found_parts(
     Ok(found)
 }
 
+// All of the parts, or any of them.
 #[cycle(found_condition)]
-fn found_all(
+fn found_junction(
     alloc: Global,
     tables: &StatementTables<'_>,
+    is_all: bool,
     parts: &Sequence<RawCond>,
 ) -> Result<CondOf<Operand>, NameFault>
     ensures { Resolves (flat_map (operands_refused tables.now) parts.now)
-        (All (map (condition_of tables.now) parts.now)) result }
+        (if is_all then All (map (condition_of tables.now) parts.now)
+        else Any (map (condition_of tables.now) parts.now)) result }
 {
-    Ok(CondOf::All(found_parts(alloc, tables, parts)?))
-}
-
-#[cycle(found_condition)]
-fn found_any(
-    alloc: Global,
-    tables: &StatementTables<'_>,
-    parts: &Sequence<RawCond>,
-) -> Result<CondOf<Operand>, NameFault>
-    ensures { Resolves (flat_map (operands_refused tables.now) parts.now)
-        (Any (map (condition_of tables.now) parts.now)) result }
-{
-    Ok(CondOf::Any(found_parts(alloc, tables, parts)?))
+    let parts = found_parts(alloc, tables, parts)?;
+    if is_all {
+        return Ok(CondOf::All(parts));
+    }
+    Ok(CondOf::Any(parts))
 }
 
 #[cycle(found_condition)]

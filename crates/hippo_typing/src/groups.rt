@@ -9,7 +9,7 @@ ghost use Rattle.hippo_typing.specs.Found.{with_out, plain_found, argument_found
 ghost use Rattle.hippo_typing.specs.Found.{groups_found_refused, out_found, shown_found};
 
 use crate::columns::found_column;
-use crate::found::{FoundColumn, FoundColumns, FoundOut, FoundOuts};
+use crate::found::{Found, FoundColumn, FoundColumns, FoundOut, FoundOuts};
 use hippo_catalog::{StatementTables, column_faults};
 use hippo_model::{NameFault, Out, Outs, RawColumn, RawOut, Ref, Refs};
 use hippo_values::{Memory, Sequence};
@@ -38,7 +38,10 @@ pub fn found_outs<'a>(
     let mut found = Sequence::new(alloc);
     for out in outs {
         let column = found_column(alloc, tables, column_in(out))?;
-        found.push(FoundOut { out, column })?;
+        found.push(Found {
+            written: out,
+            column,
+        })?;
     }
     Ok(found)
 }
@@ -106,8 +109,8 @@ fn check_among(
 fn push_plain<'a>(columns: &mut FoundColumns<'a>, found: &FoundOut<'a>) -> Result<(), Memory>
     ensures { OnOk result (columns.new ≡ columns.old ++ option_to_list (plain_found found.now)) }
 {
-    if let RawOut::Column(written) = found.out {
-        columns.push(FoundColumn {
+    if let RawOut::Column(written) = found.written {
+        columns.push(Found {
             written,
             column: found.column,
         })?;
@@ -142,7 +145,7 @@ pub fn check_groups(
 fn push_argument(columns: &mut Refs, found: &FoundOut<'_>) -> Result<(), Memory>
     ensures { OnOk result (columns.new ≡ columns.old ++ option_to_list (argument_found found.now)) }
 {
-    match found.out {
+    match found.written {
         RawOut::Column(_) => Ok(()),
         RawOut::Min(_) => columns.push(found.column),
         RawOut::Max(_) => columns.push(found.column),
@@ -185,7 +188,7 @@ pub fn grouped_items(
 fn out_found(found: &FoundOut<'_>, by: &FoundColumns<'_>, next: usize) -> Out
     ensures { result ≡ out_found by.now next found.now }
 {
-    match found.out {
+    match found.written {
         RawOut::Column(_) => Out::Column(place_among(&found.column, by)),
         RawOut::Min(_) => Out::Min(next),
         RawOut::Max(_) => Out::Max(next),
@@ -195,7 +198,7 @@ fn out_found(found: &FoundOut<'_>, by: &FoundColumns<'_>, next: usize) -> Out
 fn is_argument(found: &FoundOut<'_>) -> bool
     ensures { result ≡ is_some (argument_found found.now) }
 {
-    match found.out {
+    match found.written {
         RawOut::Column(_) => false,
         RawOut::Min(_) => true,
         RawOut::Max(_) => true,

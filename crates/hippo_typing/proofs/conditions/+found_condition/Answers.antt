@@ -9,11 +9,11 @@ use Rattle.hippo_typing.proofs.conditions.+found_condition.Goals as goal
 
 pub found_condition-returns-in-All : goal.found_condition-returns-in-All
 found_condition-returns-in-All t c =
-    rw (c.in-All.is, gathered-All (flat_map (operand_refused c.args.tables.now)) c.in-All.parts, changed_operands-All (operand_of c.args.tables.now) c.in-All.parts) c.found_all.ensures
+    rw (c.in-All.is, gathered-All (flat_map (operand_refused c.args.tables.now)) c.in-All.parts, changed_operands-All (operand_of c.args.tables.now) c.in-All.parts) c.found_junction.ensures
 
 pub found_condition-returns-in-Any : goal.found_condition-returns-in-Any
 found_condition-returns-in-Any t c =
-    rw (c.in-Any.is, gathered-Any (flat_map (operand_refused c.args.tables.now)) c.in-Any.parts, changed_operands-Any (operand_of c.args.tables.now) c.in-Any.parts) c.found_any.ensures
+    rw (c.in-Any.is, gathered-Any (flat_map (operand_refused c.args.tables.now)) c.in-Any.parts, changed_operands-Any (operand_of c.args.tables.now) c.in-Any.parts) c.found_junction-in-Any.ensures
 
 pub found_parts-returns-in_err-found_condition : goal.found_parts-returns-in_err-found_condition
 found_parts-returns-in_err-found_condition t c =
