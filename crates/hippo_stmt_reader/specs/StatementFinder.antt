@@ -194,16 +194,16 @@ leading_disclosure tokens = do
 -- behind ALLOW
 unfoldable pub allow_of : Kinds → Option Stmt
 allow_of tokens = do
-  disclosure ← leading_disclosure tokens
-  item ← leading_item disclosure.1
+  rule ← leading_disclosure tokens
+  item ← leading_item rule.1
   days ← leading_retention item.1
-  with_end (stmt.Allow disclosure.0.purpose disclosure.0.recipient disclosure.0.table disclosure.0.columns item.0 days.0) days.1
+  with_end (stmt.Allow rule.0.purpose rule.0.recipient rule.0.table rule.0.columns item.0 days.0) days.1
 
 -- behind REVOKE
 unfoldable pub revoke_of : Kinds → Option Stmt
 revoke_of tokens = do
-  disclosure ← leading_disclosure tokens
-  with_end (stmt.Revoke disclosure.0.purpose disclosure.0.recipient disclosure.0.table disclosure.0.columns) disclosure.1
+  rule ← leading_disclosure tokens
+  with_end (stmt.Revoke rule.0.purpose rule.0.recipient rule.0.table rule.0.columns) rule.1
 
 -- YES | NO
 abbrev pub leading_yes_or_no : Finds Bool
@@ -238,7 +238,8 @@ update_of tokens = do
   settings ← leading_list leading_assignment (after_symbol Comma) a
   b ← after_keyword KWhere settings.1
   keys ← leading_list leading_assignment (after_keyword KAnd) b
-  with_end (stmt.Update table.0 (columns_of settings.0) (values_of settings.0) (columns_of keys.0) (values_of keys.0)) keys.1
+  with_end (stmt.Update table.0 (columns_of settings.0) (values_of settings.0) (columns_of keys.0) (values_of keys.0))
+      keys.1
 
 -- behind DELETE
 unfoldable pub delete_of : Kinds → Option Stmt

@@ -161,8 +161,8 @@ fn found_junction(
     parts: &Sequence<RawCond>,
 ) -> Result<CondOf<Operand>, NameFault>
     ensures { Resolves (flat_map (operands_refused tables.now) parts.now)
-        (if is_all then All (map (condition_of tables.now) parts.now) else Any (map (condition_of tables.now) parts.now))
-        result }
+        (if is_all then All (map (condition_of tables.now) parts.now)
+        else Any (map (condition_of tables.now) parts.now)) result }
 {
     let parts = found_parts(alloc, tables, parts)?;
     if is_all {
