@@ -14,7 +14,8 @@ use Rattle.hippo_catalog.specs.Catalogs.{KnownNames, schemas_of}
 use Rattle.hippo_catalog.specs.Refusals.{refused, unknown_table, unknown_pair, repeated_names}
 use Rattle.hippo_catalog.specs.WrittenColumns.{column_refused, column_of}
 use Rattle.hippo_catalog.specs.Comparisons.{operands_refused, condition_of, kinds_refused, texts_refused}
-use Rattle.hippo_catalog.specs.StatementLimits.{from_limit, item_limit, pair_limit, too_many}
+use Rattle.hippo_values.specs.Limits.{from_limit, item_limit, pair_limit}
+use Rattle.hippo_catalog.specs.StatementLimits.{too_many}
 
 -- the moment that a text writes, if it writes one
 abbrev pub IsMomentIn : Txt → Option Moment → Type 0

@@ -2,7 +2,7 @@
 use Rattle.std.specs.Prelude.{Bool, false, not, ◌&&◌, ◌==◌, List, [], ◌++◌, map, filter_map, flat_map, length, nat_eq, nat_le, slice_get, Option, None, is_some, is_none, option_and_then, option_to_list}
 use Rattle.std.specs.List.{list_any, list_all, zip}
 use Rattle.std.specs.Option.{option_map_or}
-use Rattle.hippo_values.specs.Limits.{table_limit}
+use Rattle.hippo_values.specs.Limits.{table_limit, column_limit}
 use Rattle.hippo_values.specs.declared.names.Name.{Name}
 use Rattle.hippo_values.specs.declared.values.Value.{Value}
 use Rattle.hippo_model.specs.declared.name_fault.NameFault.{NameFault}
@@ -17,7 +17,7 @@ use Rattle.hippo_model.specs.Validity.{is_integer, has_subject}
 use Rattle.hippo_catalog.specs.Catalogs.{KnownNames, table_of, has_purpose, has_recipient, item_of}
 use Rattle.hippo_catalog.specs.Kinds.{may_have_kind, is_bad_text}
 use Rattle.hippo_catalog.specs.Refusals.{refused, unknown_table, unknown_pair, unknown_item, repeated_names}
-use Rattle.hippo_catalog.specs.StatementLimits.{column_limit, too_many}
+use Rattle.hippo_catalog.specs.StatementLimits.{too_many}
 use Rattle.hippo_catalog.specs.WrittenColumns.{place_of}
 
 -- the column of a table with this name

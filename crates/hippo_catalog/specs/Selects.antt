@@ -24,7 +24,8 @@ use Rattle.hippo_catalog.specs.Catalogs.{KnownNames, schemas_of}
 use Rattle.hippo_catalog.specs.Refusals.{refused, unknown_table, repeated_names}
 use Rattle.hippo_catalog.specs.WrittenColumns.{may_stand_in, column_refused, column_of}
 use Rattle.hippo_catalog.specs.Comparisons.{operands_refused, condition_of, kinds_refused, texts_refused}
-use Rattle.hippo_catalog.specs.StatementLimits.{from_limit, item_limit, too_many}
+use Rattle.hippo_values.specs.Limits.{from_limit, item_limit}
+use Rattle.hippo_catalog.specs.StatementLimits.{too_many}
 
 -- the members of a grouped select's list, and the columns of its GROUP BY
 abbrev pub outs_of : RawForm → List RawOut

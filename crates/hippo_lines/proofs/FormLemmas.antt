@@ -8,7 +8,7 @@ use Rattle.std.proofs.lemmas.List.{length-drop}
 use Rattle.hippo_values.specs.Texts.{Txt}
 use Rattle.hippo_values.specs.Names.{folded}
 use Rattle.hippo_lines.specs.declared.short_words.ShortWord.{ShortWord}
-use Rattle.hippo_lines.specs.Limits.{session_limit}
+use Rattle.hippo_values.specs.Limits.{session_limit}
 use Rattle.hippo_lines.specs.Words.{is_space, words_of, around_space, only}
 use Rattle.hippo_lines.specs.Numbers.{number_in}
 use Rattle.hippo_lines.specs.Forms.{Request, Form, says_nothing, sets_clock, asks, states, ◌>>=◌, short_word_of, request_by, form_in, form_with, session_form, at_of, is_silent, form_by, line_form}

@@ -7,7 +7,7 @@ use Rattle.hippo_values.specs.Texts.{Txt}
 use Rattle.hippo_values.specs.Names.{folded, name_of}
 use Rattle.hippo_lines.specs.declared.short_words.ShortWord.{ShortWord}
 use Rattle.hippo_lines.specs.declared.short_words.ShortWord.TheVariants.{Login, Logout, Fetch, Close, Step, Drop, Unwatch, Load}
-use Rattle.hippo_lines.specs.Limits.{session_limit, cursor_limit, job_limit, watch_limit, fetch_limit, step_limit}
+use Rattle.hippo_values.specs.Limits.{session_limit, cursor_limit, job_limit, watch_limit, fetch_limit, step_limit}
 use Rattle.hippo_lines.specs.Words.{words_of, is_space, around_space, trimmed, only, two, three}
 use Rattle.hippo_lines.specs.Numbers.{number_in}
 

@@ -1,4 +1,3 @@
-pub mod Limits
 pub mod Words
 pub mod Numbers
 pub mod Forms

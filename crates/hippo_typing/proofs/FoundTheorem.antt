@@ -26,7 +26,8 @@ use Rattle.hippo_catalog.specs.Comparisons.{condition_of, kinds_refused, texts_r
 use Rattle.hippo_catalog.specs.Catalogs.{KnownNames, schemas_of}
 use Rattle.hippo_catalog.specs.Refusals.{refused, unknown_table, repeated_names, IsFirstOf}
 use Rattle.hippo_catalog.proofs.Refused.{first_after, with_four}
-use Rattle.hippo_catalog.specs.StatementLimits.{from_limit, item_limit, too_many}
+use Rattle.hippo_values.specs.Limits.{from_limit, item_limit}
+use Rattle.hippo_catalog.specs.StatementLimits.{too_many}
 use Rattle.hippo_catalog.specs.WrittenColumns.{column_of}
 use Rattle.hippo_catalog.specs.Selects.{outs_of, by_of, plain_column, argument_in, same_reference, lone_column, groups_refused, shown_outs, form_of, listed_columns, columns_refused, select_parts_refused, select_refused, query_of}
 use Rattle.hippo_typing.specs.Found.{with_column, with_out, plain_found, argument_found, lone_found, groups_found_refused, shown_found}

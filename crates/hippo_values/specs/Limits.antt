@@ -1,5 +1,5 @@
--- How long the parts of the language may be, in bytes, how many days a rule may last, how many tables and columns there
--- may be, and how deep a statement may be nested.
+-- The limits of the language: how long its parts may be, in bytes, how many of them there may be, how deep a statement
+-- may be nested, and the largest numbers that a line may name.
 use Rattle.std.specs.Prelude.{ℕ}
 
 -- a text in a cell
@@ -29,3 +29,36 @@ column_limit = 64
 -- how far `(` may outnumber `)` in a front of a statement, and how often it may say NOT
 abbrev pub depth_limit : ℕ
 depth_limit = 64
+
+-- the tables of a FROM list
+abbrev pub from_limit : ℕ
+from_limit = 4
+
+-- the items of a select, the columns of its GROUP BY, and the columns of an audit
+abbrev pub item_limit : ℕ
+item_limit = 128
+
+-- the exempt pairs of an audit
+abbrev pub pair_limit : ℕ
+pair_limit = 64
+
+-- sessions are counted from 0, which is the console
+abbrev pub session_limit : ℕ
+session_limit = 64
+
+abbrev pub cursor_limit : ℕ
+cursor_limit = 4
+
+abbrev pub job_limit : ℕ
+job_limit = 8
+
+abbrev pub watch_limit : ℕ
+watch_limit = 8
+
+-- the rows that one line may fetch
+abbrev pub fetch_limit : ℕ
+fetch_limit = 100000
+
+-- the entries that one step of a job may look at
+abbrev pub step_limit : ℕ
+step_limit = 1000000

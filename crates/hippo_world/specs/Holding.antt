@@ -1,5 +1,5 @@
 -- What the code's world holds, as the record of definitions: audit jobs and watches are not built yet.
-use Rattle.hippo_lines.specs.Limits.{job_limit, watch_limit}
+use Rattle.hippo_values.specs.Limits.{job_limit, watch_limit}
 use Rattle.hippo_world.specs.declared.worlds.World.{World as HeldWorld}
 use Rattle.hippo_world.specs.Worlds.{World, none_held}
 

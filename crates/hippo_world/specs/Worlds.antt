@@ -8,7 +8,7 @@ use Rattle.hippo_model.specs.declared.audit.Flag.{Flag}
 use Rattle.hippo_model.specs.declared.audit.Pair.{Pair}
 use Rattle.hippo_model.specs.Terms.{ShownRow}
 use Rattle.hippo_report.specs.declared.format.Format.{Format}
-use Rattle.hippo_lines.specs.Limits.{session_limit, cursor_limit, job_limit, watch_limit}
+use Rattle.hippo_values.specs.Limits.{session_limit, cursor_limit, job_limit, watch_limit}
 use Rattle.hippo_world.specs.declared.cursors.Cursor.{Cursor}
 use Rattle.hippo_world.specs.declared.sessions.Session.{Session}
 
