@@ -1,5 +1,5 @@
--- A condition is true exactly where the parts of its outermost All are.
-use Rattle.std.proofs.Common.{◌≡◌, ℕ, ◌<◌, Bool, true, false, ◌&&◌, List, [], ◌∷◌, map, length, refl, sym, ap, subst, ◌∙◌, get_or, Some, zero, suc, arith}
+-- What equal cells have in common, and what the two sides of an equality are.
+use Rattle.std.proofs.Common.{◌≡◌, ℕ, ◌<◌, Bool, true, false, List, [], ◌∷◌, length, refl, sym, ap, subst, ◌∙◌, get_or, Some, zero, suc, arith}
 use Rattle.std.specs.List.{list_all}
 use Rattle.std.specs.Ordering.{is_eq, int_cmp, nat_cmp}
 use Rattle.std.specs.declared.cmp.Ordering.{Ordering}
@@ -9,65 +9,21 @@ use Rattle.std.specs.FinMap.{slice_cmp-IsAntisymmetric, int_cmp-IsAntisymmetric,
 use Rattle.std.proofs.lemmas.Bool.{and_parts, and_from, false≢true}
 use Rattle.hippo_values.specs.declared.values.Value.{Value}
 use Rattle.hippo_values.specs.declared.values.Value.TheVariants.{Int, Text, Day}
-use Rattle.hippo_values.specs.declared.truths.Truth.{Truth}
-use Rattle.hippo_values.specs.declared.truths.Truth.TheVariants.{False, Unknown, True}
 use Rattle.hippo_values.specs.declared.truths.CompareOp.TheVariants.{Eq}
-use Rattle.hippo_values.specs.Truths.{truth_and, truth_of, comparison}
-use Rattle.hippo_model.specs.declared.query.CondOf.{CondOf, CondOf-F, roll-CondOf, ind-CondOf, out-roll-CondOf}
-use Rattle.hippo_model.specs.declared.query.CondOf.TheOpen.{All, Any, Not, Compare, Between, Among, Missing}
+use Rattle.hippo_values.specs.Truths.{truth_of, comparison}
+use Rattle.hippo_model.specs.declared.query.CondOf.{CondOf}
+use Rattle.hippo_model.specs.declared.query.CondOf.TheOpen.{Compare}
 use Rattle.hippo_model.specs.declared.query.CondOf.TheVariants as conditions
-use Rattle.hippo_model.specs.declared.query.CondOf.TheVariants.{rolls-All}
 use Rattle.hippo_model.specs.declared.query.Expr.{Expr}
 use Rattle.hippo_model.specs.declared.query.Expr.TheVariants.{Keep, Null, Aged, Case, Literal}
 use Rattle.hippo_model.specs.declared.query.Ref.{Ref}
 use Rattle.hippo_model.specs.Terms.{Combination, Place}
-use Rattle.hippo_model.specs.Conditions.{least, truth, is_true, is_null, outer_parts}
+use Rattle.hippo_model.specs.Conditions.{is_true, is_null}
 use Rattle.hippo_model.specs.Masking.{Choices, raw_value, shown_if}
 use Rattle.hippo_model.specs.Forms.{value_in}
-use Rattle.hippo_model.proofs.Truths.{truth-All, truth-Compare}
+use Rattle.hippo_model.proofs.Truths.{truth-Compare}
 use Rattle.hippo_eval.specs.MaskedTruth.{masked_value}
 use Rattle.hippo_join.specs.Ties.{column_of, holds, AreEqual}
-
-module _ {O : Type 0} (value : O → Value) where
-  abbrev is_held : CondOf O → Bool
-  is_held part = is_true (truth value part)
-
-  true_both : (a b : Truth) → is_true (truth_and a b) ≡ (is_true a && is_true b)
-  true_both False b = refl
-  true_both Unknown False = refl
-  true_both Unknown Unknown = refl
-  true_both Unknown True = refl
-  true_both True b = refl
-
-  all_held : (parts : List (CondOf O)) → list_all is_held parts ≡ is_true (least (map (truth value) parts))
-  all_held [] = refl
-  all_held (part ∷ parts) = ap (λ b. is_held part && b) (all_held parts) ∙ sym (true_both (truth value part) (least (map (truth value) parts)))
-
-  and_true : (b : Bool) → (b && true) ≡ b
-  and_true true = refl
-  and_true false = refl
-
-  abbrev parts_in : CondOf-F O (CondOf O) → CondOf O → List (CondOf O)
-  parts_in layer condition = elim layer [ All parts ↦ parts | _ ↦ condition ∷ [] ]
-
-  abbrev IsSame : CondOf O → Type 0
-  IsSame condition = list_all is_held (outer_parts condition) ≡ is_held condition
-
-  by_layer : (layer : CondOf-F O (CondOf O)) → list_all is_held (parts_in layer (roll-CondOf O layer)) ≡ is_held (roll-CondOf O layer)
-  by_layer (All parts) = all_held parts ∙ sym (ap is_true (truth-All value parts)) ∙ sym (ap is_held (rolls-All parts))
-  by_layer (Any parts) = and_true (is_held (roll-CondOf O (Any parts)))
-  by_layer (Not part) = and_true (is_held (roll-CondOf O (Not part)))
-  by_layer (Compare op left right) = and_true (is_held (roll-CondOf O (Compare op left right)))
-  by_layer (Between operand low high) = and_true (is_held (roll-CondOf O (Between operand low high)))
-  by_layer (Among operand list) = and_true (is_held (roll-CondOf O (Among operand list)))
-  by_layer (Missing operand) = and_true (is_held (roll-CondOf O (Missing operand)))
-
-  opened : (layer : CondOf-F O (CondOf O)) → IsSame (roll-CondOf O layer)
-  opened layer = subst (λ (l : CondOf-F O (CondOf O)). list_all is_held (parts_in l (roll-CondOf O layer)) ≡ is_held (roll-CondOf O layer)) (sym (out-roll-CondOf O layer)) (by_layer layer)
-
-  -- the parts hold exactly where the condition is true
-  pub parts-hold : (condition : CondOf O) → IsSame condition
-  parts-hold = ind-CondOf O IsSame (λ layer parts is. opened layer)
 
 -- values that are found equal are the same, and not null
 equal_orders : (o : Ordering) → is_true (truth_of (is_eq o)) ≡ true → o ≡ Equal

@@ -20,7 +20,7 @@ use Rattle.hippo_join.specs.Known.{knows, knows_expr}
 use Rattle.hippo_join.specs.Lookups.{value_at}
 use Rattle.hippo_join.specs.Ties.{holds, AreEqual}
 use Rattle.hippo_join.proofs.KnownLemmas.{truth-known}
-use Rattle.hippo_join.proofs.PartLemmas.{parts-hold}
+use Rattle.hippo_model.proofs.HeldParts.{parts-hold}
 use Rattle.hippo_join.proofs.SlotLemmas.{cell-known, raw-at, Fits-at, length-in_range}
 
 -- a member of a list passes a test that all pass

@@ -36,7 +36,8 @@ use Rattle.hippo_model.specs.Audits.{common, virtual_tuples, has_tuple, query_ne
 use Rattle.hippo_model.specs.Hits.{own_conditions, value_in_row, is_hit}
 use Rattle.hippo_laws.specs.Hits.{HasNoHits}
 use Rattle.hippo_laws.proofs.NeededTuples.{needs_what_is_lost}
-use Rattle.hippo_laws.proofs.OwnConditions.{truth-own, parts_held}
+use Rattle.hippo_model.proofs.HeldParts.{parts-hold}
+use Rattle.hippo_laws.proofs.OwnConditions.{truth-own}
 
 module _ {A : Type 0} where
   with_one : (test : A → Bool) (counted : Bool) (first : A) (rest : List A) → (counted ≡ true → test first ≡ true) → list_all test rest ≡ true → list_all test (cond counted (first ∷ rest) rest) ≡ true
@@ -147,7 +148,7 @@ module _ (history : History) (audit : Audit) where
   found_where_true table combination passed =
       all_of_filter (λ part. list_all (is_of table) (condition_columns part)) (λ part. is_true (truth (operand_value combination) part)) (λ part. is_true (truth (value_of (get_or combination table [])) part))
       (λ part own held. sym (ap is_true (truth-own (is_of table) (operand_value combination) (value_of (get_or combination table [])) (reads_row combination table) part own)) ∙ held)
-      (outer_parts audit.cond) (parts_held (operand_value combination) audit.cond passed)
+      (outer_parts audit.cond) (parts-hold (operand_value combination) audit.cond ∙ passed)
 
   module _ (no_hits : HasNoHits history audit) where
     abbrev own : List (CondOf Operand)

@@ -1,23 +1,20 @@
--- A condition on one table's columns has the same truth over each reading of them; where a condition is true, so are its parts.
-use Rattle.std.proofs.Common.{◌≡◌, Bool, true, ◌&&◌, List, [], ◌∷◌, ◌++◌, map, refl, sym, ap, subst, ◌∙◌}
+-- A condition on one table's columns has the same truth over each reading of them.
+use Rattle.std.proofs.Common.{◌≡◌, Bool, true, List, [], ◌∷◌, ◌++◌, map, refl, sym, ap, subst, ◌∙◌}
 use Rattle.std.specs.Prelude.{flat_map}
 use Rattle.std.specs.List.{list_all}
-use Rattle.std.proofs.lemmas.Bool.{and_parts, and_from}
+use Rattle.std.proofs.lemmas.Bool.{and_parts}
 use Rattle.std.proofs.lemmas.List.Folds.{list_all-append}
 use Rattle.std.proofs.lemmas.List.Concat.{flat_map-cons}
 use Rattle.hippo_values.specs.declared.values.Value.{Value}
 use Rattle.hippo_values.specs.declared.truths.Truth.{Truth}
-use Rattle.hippo_values.specs.declared.truths.Truth.TheVariants.{False, Unknown, True}
 use Rattle.hippo_values.specs.declared.truths.CompareOp.TheVariants.{Eq, Le, Ge}
 use Rattle.hippo_values.specs.Truths.{truth_and, truth_or, truth_not, truth_of, comparison}
-use Rattle.hippo_model.specs.declared.query.CondOf.{CondOf, CondOf-F, fold-roll-CondOf, out-roll-CondOf, roll-CondOf, map-CondOf, ind-CondOf}
+use Rattle.hippo_model.specs.declared.query.CondOf.{CondOf, CondOf-F, fold-roll-CondOf, roll-CondOf, map-CondOf, ind-CondOf}
 use Rattle.hippo_model.specs.declared.query.CondOf.TheOpen.{All, Any, Not, Compare, Between, Among, Missing}
-use Rattle.hippo_model.specs.declared.query.CondOf.TheVariants.{rolls-All}
 use Rattle.hippo_model.specs.declared.query.Operand.{Operand}
 use Rattle.hippo_model.specs.declared.query.Ref.{Ref}
-use Rattle.hippo_model.specs.Conditions.{least, greatest, is_null, truth_step, truth, is_true, outer_parts}
+use Rattle.hippo_model.specs.Conditions.{least, greatest, is_null, truth_step, truth}
 use Rattle.hippo_model.specs.Columns.{columns_in, columns_step, condition_columns}
-use Rattle.hippo_model.proofs.Truths.{truth-All}
 
 -- two readings that agree on each operand whose columns all pass a test
 module _ (is_own : Ref → Bool) (read other : Operand → Value) (agree : (operand : Operand) → list_all is_own (columns_in operand) ≡ true → read operand ≡ other operand) where
@@ -90,40 +87,3 @@ module _ (is_own : Ref → Bool) (read other : Operand → Value) (agree : (oper
   -- give a condition whose columns all pass it the same truth
   pub truth-own : (condition : CondOf Operand) → Agrees condition
   truth-own = ind-CondOf Operand Agrees (λ layer parts is. subst (λ (plain : CondOf-F Operand (CondOf Operand)). Agrees (roll-CondOf Operand plain)) is (rolled_agrees parts))
-
--- where a condition is true, so is each of its outer parts
-module _ (value : Operand → Value) where
-  abbrev is_held : CondOf Operand → Bool
-  is_held part = is_true (truth value part)
-
-  true_both : (a b : Truth) → is_true (truth_and a b) ≡ (is_true a && is_true b)
-  true_both False b = refl
-  true_both Unknown False = refl
-  true_both Unknown Unknown = refl
-  true_both Unknown True = refl
-  true_both True b = refl
-
-  all_held : (parts : List (CondOf Operand)) → is_true (least (map (truth value) parts)) ≡ list_all is_held parts
-  all_held [] = refl
-  all_held (part ∷ parts) = true_both (truth value part) (least (map (truth value) parts)) ∙ ap (λ b. is_held part && b) (all_held parts)
-
-  abbrev parts_in : CondOf-F Operand (CondOf Operand) → CondOf Operand → List (CondOf Operand)
-  parts_in layer condition = elim layer [ All parts ↦ parts | _ ↦ condition ∷ [] ]
-
-  by_layer : (layer : CondOf-F Operand (CondOf Operand)) → is_held (roll-CondOf Operand layer) ≡ true → list_all is_held (parts_in layer (roll-CondOf Operand layer)) ≡ true
-  by_layer (All parts) held = sym (all_held parts) ∙ sym (ap is_true (truth-All value parts)) ∙ sym (ap is_held (rolls-All parts)) ∙ held
-  by_layer (Any parts) held = and_from (is_held (roll-CondOf Operand (Any parts))) true held refl
-  by_layer (Not part) held = and_from (is_held (roll-CondOf Operand (Not part))) true held refl
-  by_layer (Compare op left right) held = and_from (is_held (roll-CondOf Operand (Compare op left right))) true held refl
-  by_layer (Between operand low high) held = and_from (is_held (roll-CondOf Operand (Between operand low high))) true held refl
-  by_layer (Among operand list) held = and_from (is_held (roll-CondOf Operand (Among operand list))) true held refl
-  by_layer (Missing operand) held = and_from (is_held (roll-CondOf Operand (Missing operand))) true held refl
-
-  abbrev HasParts : CondOf Operand → Type 0
-  HasParts condition = is_held condition ≡ true → list_all is_held (outer_parts condition) ≡ true
-
-  opened : (layer : CondOf-F Operand (CondOf Operand)) → HasParts (roll-CondOf Operand layer)
-  opened layer held = subst (λ (l : CondOf-F Operand (CondOf Operand)). list_all is_held (parts_in l (roll-CondOf Operand layer)) ≡ true) (sym (out-roll-CondOf Operand layer)) (by_layer layer held)
-
-  pub parts_held : (condition : CondOf Operand) → HasParts condition
-  parts_held = ind-CondOf Operand HasParts (λ layer parts is. opened layer)

@@ -11,6 +11,7 @@ pub mod TableRows
 pub mod ChangedOperands
 pub mod CopiedConditions
 pub mod OuterParts
+pub mod HeldParts
 pub mod ChangesOfRows
 pub mod PiecesLemmas
 pub mod PieceSearch
