@@ -1,5 +1,5 @@
 -- What is done for a line: its reply, the entries that it adds, and the world after it.
-use Rattle.std.specs.Prelude.{◌≡◌, ◌⊎◌, ◌≤◌, ℕ, ◌+◌, ◌-◌, min, true, nat_lt, List, [], ◌∷◌, ◌++◌, flat_map, filter_map, length, take, drop, Option, Some, None, option_and_then, Ok, Err, if◌then◌else◌, codes, decimal}
+use Rattle.std.specs.Prelude.{◌≡◌, ◌⊎◌, ◌≤◌, ℕ, ◌+◌, ◌-◌, min, true, nat_lt, List, [], ◌∷◌, ◌++◌, flat_map, length, Option, Some, None, Ok, Err, if◌then◌else◌, codes, decimal}
 use Rattle.std.specs.List.{enumerate_from}
 use Rattle.std.specs.Option.{option_map_or}
 use Rattle.hippo_values.specs.Texts.{Txt}
@@ -7,12 +7,11 @@ use Rattle.hippo_model.specs.declared.audit.Audit.{Audit}
 use Rattle.hippo_model.specs.declared.audit.Flag.{Flag}
 use Rattle.hippo_model.specs.declared.audit.SharedRow.{SharedRow}
 use Rattle.hippo_model.specs.declared.entry.Act.{Act}
-use Rattle.hippo_model.specs.declared.entry.Act.TheVariants.{Asked}
 use Rattle.hippo_model.specs.declared.entry.Entry.{Entry}
 use Rattle.hippo_model.specs.Terms.{History, ShownRow}
 use Rattle.hippo_model.specs.Verdicts.{Context}
 use Rattle.hippo_model.specs.Answers.{answer}
-use Rattle.hippo_model.specs.Audits.{shared}
+use Rattle.hippo_model.specs.Audits.{shared, flags_between}
 use Rattle.hippo_model.specs.Denials.{Denial, denials}
 use Rattle.hippo_typing.specs.Meanings.{meaning}
 use Rattle.hippo_report.specs.declared.refusal.Refusal.TheVariants.{TooManyRows, Memory}
@@ -114,32 +113,13 @@ handed_out world number session at cursor count = record {
   world = with_session world number (Some (with_cursor session at (Some (moved_on cursor count))));
 }
 
--- an entry as a flag, where an audit flags it
-abbrev pub flag_by : Entry → Act → List SharedRow → Option Flag
-flag_by entry (Asked user purpose recipient text) tuple =
-    Some (record {
-      seq = entry.seq;
-      moment = entry.moment;
-      user = user;
-      pair = record { purpose = purpose; recipient = recipient };
-      shared = tuple;
-    })
-flag_by entry act tuple = None
-
-abbrev pub flag_of : History → Audit → Entry → Option Flag
-flag_of history audit entry = option_and_then (flag_by entry entry.act) (shared meaning history audit entry)
-
--- the flags of the entries above a number, up to another
-abbrev pub flags_between : History → Audit → ℕ → ℕ → List Flag
-flags_between history audit above upto = filter_map (flag_of history audit) (take (upto - above) (drop above history))
-
 abbrev pub flag_lines : World → List Flag → Txt
 flag_lines world flags = flat_map (flag_line world.format) flags
 
 -- all flags of the history, and how many there are
 abbrev pub audited : History → World → Audit → Effect
 audited history world audit =
-    only_reply world (listed 0 (flag_line world.format) (flags_between history audit 0 (length history)))
+    only_reply world (listed 0 (flag_line world.format) (flags_between meaning history audit 0 (length history)))
 
 -- the last number of a step
 abbrev pub step_end : Job → ℕ → ℕ
@@ -153,11 +133,11 @@ looked_upto job upto waiting = record job { place = upto; waiting = waiting }
 abbrev pub step_line : History → Job → ℕ → Txt
 step_line history job upto =
     if nat_lt upto job.length then number_line 0 (codes "part") upto
-    else number_line 0 (codes "end") (length (flags_between history job.audit 0 job.length))
+    else number_line 0 (codes "end") (length (flags_between meaning history job.audit 0 job.length))
 
 -- the flags that a step writes: those that wait, and those that it finds
 abbrev pub step_flags : History → Job → ℕ → List Flag
-step_flags history job upto = job.waiting ++ flags_between history job.audit job.place upto
+step_flags history job upto = job.waiting ++ flags_between meaning history job.audit job.place upto
 
 abbrev pub with_job : World → ℕ → Option Job → World
 with_job world number job = record world { jobs = with_at world.jobs number job }

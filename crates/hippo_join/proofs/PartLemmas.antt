@@ -12,7 +12,6 @@ use Rattle.hippo_values.specs.declared.values.Value.TheVariants.{Int, Text, Day}
 use Rattle.hippo_values.specs.declared.truths.CompareOp.TheVariants.{Eq}
 use Rattle.hippo_values.specs.Truths.{truth_of, comparison}
 use Rattle.hippo_model.specs.declared.query.CondOf.{CondOf}
-use Rattle.hippo_model.specs.declared.query.CondOf.TheOpen.{Compare}
 use Rattle.hippo_model.specs.declared.query.CondOf.TheVariants as conditions
 use Rattle.hippo_model.specs.declared.query.Expr.{Expr}
 use Rattle.hippo_model.specs.declared.query.Expr.TheVariants.{Keep, Null, Aged, Case, Literal}
