@@ -79,7 +79,7 @@ impl<'a, C: ChoiceView, G: Gatherer> Visitor for Finder<'a, C, G> {
     }
 }
 
-/// What is answered where these rows are found up to one beyond the limit, or are known to be too many.
+/// These rows as an answer, unless they are more than the limit.
 pub fn limited(rows: Answer, limit: usize) -> Result<Answer, EvalFault>
     ensures { (whole : List ShownRow) → (length rows ≤ limit → rows ≡ whole) → (limit < length rows → limit < length whole)
         → IsAnswered limit whole result }
@@ -91,8 +91,8 @@ pub fn limited(rows: Answer, limit: usize) -> Result<Answer, EvalFault>
     }
 }
 
-/// What is answered of the rows of a query with the policy written into it, over unmasked rows and patients' choices.
-/// TooManyRows exactly where that are more than the limit.
+/// What is answered of the rows that a query with the policy written into it makes, over unmasked rows and patients'
+/// choices. TooManyRows exactly where these are more than the limit.
 pub fn gather<C: ChoiceView, G: Gatherer>(
     alloc: Global,
     query: &Masked,
