@@ -1,11 +1,11 @@
 -- The different rows, one row more.
-use Rattle.std.proofs.Common.{◌≡◌, ◌+◌, ◌≤◌, length, append_assoc, arith, Bool, true, false, not, cond, ◌||◌, List, [], ◌∷◌, ◌++◌, refl, sym, ap, subst, ◌∙◌}
+use Rattle.std.proofs.Common.{◌≡◌, ◌+◌, append_assoc, Bool, true, false, not, cond, ◌||◌, List, [], ◌∷◌, ◌++◌, refl, sym, ap, ◌∙◌}
 use Rattle.std.specs.Prelude.{filter}
 use Rattle.std.specs.Ordering.{is_eq, ordering_then}
 use Rattle.std.specs.declared.cmp.Ordering.{Ordering}
 use Rattle.std.specs.declared.cmp.Ordering.TheVariants.{Less, Equal, Greater}
 use Rattle.std.proofs.lemmas.Bool.{and_parts, eqb-true}
-use Rattle.std.proofs.lemmas.List.{append-nil, length-append}
+use Rattle.std.proofs.lemmas.List.{append-nil}
 use Rattle.std.proofs.lemmas.List.Elements.{filter-append}
 use Rattle.std.proofs.lemmas.List.Folds.{list_any-append}
 use Rattle.hippo_values.specs.Order.{value_cmp}
@@ -60,14 +60,6 @@ same_row-exact (a ∷ as_) [] same = absurd cc
 same_row-exact (a ∷ rest) (b ∷ others) same =
     let both = and_parts (same_cell a b) (same_row rest others) same in
     λ i. same_cell-exact a b both.0 i ∷ same_row-exact rest others both.1 i
-
--- one row more is at most one different row more
-pub different-push-length : (rows : List ShownRow) (row : ShownRow) → length (different (rows ++ row ∷ [])) ≤ length (different rows) + 1
-different-push-length rows row = subst (λ (all : List ShownRow). length all ≤ length (different rows) + 1) (sym (different-push rows row)) (at_most (stands_in row rows))
-  where
-    at_most : (stands : Bool) → length (different rows ++ if_new stands row) ≤ length (different rows) + 1
-    at_most true = omega (arith, length-append (different rows) [])
-    at_most false = omega (arith, length-append (different rows) (row ∷ []))
 
 -- the different rows of a front come first
 pub different-append : (more rows : List ShownRow) → (rest : List ShownRow) × (different (rows ++ more) ≡ different rows ++ rest)

@@ -1,11 +1,11 @@
 -- What is kept of rows that were found, one row more.
-use Rattle.std.proofs.Common.{◌≡◌, ℕ, ◌+◌, ◌<◌, ◌≤◌, min, Bool, true, false, cond, ◌&&◌, ◌||◌, List, [], ◌∷◌, ◌++◌, take, length, refl, sym, ap, ◌∙◌, arith}
+use Rattle.std.proofs.Common.{◌≡◌, ◌+◌, Bool, true, false, cond, ◌&&◌, ◌||◌, List, [], ◌∷◌, ◌++◌, refl, sym, ap, ◌∙◌}
 use Rattle.std.specs.Ordering.{is_eq, ordering_then}
 use Rattle.std.specs.declared.cmp.Ordering.{Ordering}
 use Rattle.std.specs.declared.cmp.Ordering.TheVariants.{Less, Equal, Greater}
 use Rattle.std.specs.Cmp.Lexicographic.{slice_cmp}
 use Rattle.std.specs.BTreeSet as tree
-use Rattle.std.proofs.lemmas.List.{append-nil, take_all, take-append-le, length-take}
+use Rattle.std.proofs.lemmas.List.{append-nil}
 use Rattle.hippo_model.specs.declared.cells.Cell.{Cell}
 use Rattle.hippo_model.specs.Terms.{ShownRow}
 use Rattle.hippo_model.specs.Bags.{same_cell, same_row}
@@ -13,8 +13,8 @@ use Rattle.hippo_model.specs.Forms.{different}
 use Rattle.hippo_distinct.specs.declared.keys.CellKey.{CellKey}
 use Rattle.hippo_distinct.specs.declared.deduplication.DifferentRows.{DifferentRows}
 use Rattle.hippo_distinct.specs.RowKeys.{cell_key, row_key}
-use Rattle.hippo_distinct.specs.DistinctRows.{stands_in, KeyOrder, AreDifferent, AreWithin}
-use Rattle.hippo_distinct.proofs.DifferentLemmas.{if_new, different-push, different-push-length, different-append, stands-push, stands-push-known}
+use Rattle.hippo_distinct.specs.DistinctRows.{stands_in, KeyOrder, AreDifferent}
+use Rattle.hippo_distinct.proofs.DifferentLemmas.{if_new, different-push, stands-push, stands-push-known}
 
 then_equal : (first rest : Ordering) → is_eq (ordering_then first rest) ≡ (is_eq first && is_eq rest)
 then_equal Less rest = refl
@@ -57,28 +57,4 @@ module _ (cmp : CellKey → CellKey → Ordering) (agrees : (a b : Cell) → is_
       record {
         rows = pushed ∙ ap (λ (rows : List ShownRow). rows ++ row ∷ []) are.rows ∙ ap (λ (stands : Bool). different found ++ if_new stands row) (sym stands) ∙ sym (different-push found row);
         seen = λ other. inserted (row_key other) ∙ (λ i. cond (key_same row other i) true (are.seen other i)) ∙ one_more (same_row row other) (stands_in other found) ∙ sym (stands-push other row found);
-      }
-
-  -- nothing is cut off yet
-  pub short : (limit : ℕ) (found : List ShownRow) (kept : DifferentRows) → AreWithin order limit found kept → length kept.rows ≤ limit → AreDifferent order found kept
-  short limit found kept are few =
-      let cut : length kept.rows ≡ min (limit + 1) (length (different found)) = ap (length {A = ShownRow}) are.rows ∙ length-take (limit + 1) (different found) in
-      record { rows = are.rows ∙ take_all (limit + 1) (different found) (omega arith); seen = are.seen few }
-
-  -- one row more, where nothing was cut off
-  pub more : (limit : ℕ) (found : List ShownRow) (kept after : DifferentRows) (row : ShownRow) → AreDifferent order found kept → length kept.rows ≤ limit → AreDifferent order (found ++ row ∷ []) after → AreWithin order limit (found ++ row ∷ []) after
-  more limit found kept after row before few are =
-      let same : length kept.rows ≡ length (different found) = ap (length {A = ShownRow}) before.rows in
-      let fits : length (different (found ++ row ∷ [])) ≤ limit + 1 = omega (arith, different-push-length found row) in
-      record { rows = are.rows ∙ sym (take_all (limit + 1) (different (found ++ row ∷ [])) fits); seen = λ few. are.seen }
-
-  -- there is one beyond the limit, so whatever follows is cut off
-  pub enough : (limit : ℕ) (found later : List ShownRow) (kept : DifferentRows) → AreWithin order limit found kept → limit < length kept.rows → AreWithin order limit (found ++ later) kept
-  enough limit found later kept are many =
-      let cut : length kept.rows ≡ min (limit + 1) (length (different found)) = ap (length {A = ShownRow}) are.rows ∙ length-take (limit + 1) (different found) in
-      let long : limit + 1 ≤ length (different found) = omega arith in
-      let whole = different-append later found in
-      record {
-        rows = are.rows ∙ sym (take-append-le (limit + 1) (different found) whole.0 long) ∙ ap (take (limit + 1)) (sym whole.1);
-        seen = λ few. absurd (omega arith);
       }

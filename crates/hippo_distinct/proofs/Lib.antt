@@ -1,7 +1,6 @@
 pub mod DifferentLemmas
 pub mod NeededRows
 pub mod KeptLemmas
-pub mod FoundLemmas
 pub mod CellOrder
 pub mod BagLemmas
 pub mod BestValues

@@ -1,5 +1,5 @@
 -- The different rows of an answer, and the keys of the rows that were found.
-use Rattle.std.specs.Prelude.{◌≡◌, ℕ, ◌+◌, ◌≤◌, Bool, List, length, take}
+use Rattle.std.specs.Prelude.{◌≡◌, Bool, List}
 use Rattle.std.specs.List.{list_any}
 use Rattle.std.specs.BTreeSet as tree
 use Rattle.std.specs.declared.cmp.Ordering.{Ordering}
@@ -26,8 +26,3 @@ HasSeen order found kept = (row : ShownRow) → tree.contains order kept.seen (r
 pub record AreDifferent (order : KeyOrder) (found : List ShownRow) (kept : DifferentRows) : Type 0 where
   pub rows : kept.rows ≡ different found
   pub seen : HasSeen order found kept
-
--- they are kept up to one beyond the limit
-pub record AreWithin (order : KeyOrder) (limit : ℕ) (found : List ShownRow) (kept : DifferentRows) : Type 0 where
-  pub rows : kept.rows ≡ take (limit + 1) (different found)
-  pub seen : length kept.rows ≤ limit → HasSeen order found kept

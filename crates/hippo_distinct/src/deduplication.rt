@@ -1,5 +1,5 @@
 //! The different rows of a query's answer, as a walk over all combinations of rows finds them.
-ghost use Rattle.std.specs.Prelude.{◌≡◌, [], ◌∷◌, ◌++◌, List, OnOk};
+ghost use Rattle.std.specs.Prelude.{[], ◌∷◌, ◌++◌, List, OnOk};
 ghost use Rattle.hippo_model.specs.Terms.{ShownRow};
 ghost use Rattle.hippo_model.specs.Forms.{different};
 ghost use Rattle.hippo_model.specs.Masking.{masked_answer};
@@ -8,8 +8,8 @@ ghost use Rattle.hippo_eval.specs.Walks.{rows_of};
 ghost use Rattle.hippo_distinct.specs.DistinctRows.{AreDifferent};
 
 use crate::keys::{CellKey, RowKey, row_key};
-use hippo_eval::{ANSWER_LIMIT, EvalFault, Onward, Visitor, limited, passes, project, walk};
-use hippo_model::{Answer, CellRow, ChoiceView, Combo, Masked, Sets};
+use hippo_eval::{ANSWER_LIMIT, EvalFault, Gatherer, gather};
+use hippo_model::{Answer, CellRow, ChoiceView, Masked, Sets};
 use hippo_values::{Memory, Sequence};
 use std::alloc::Global;
 use std::collections::BTreeSet;
@@ -46,61 +46,35 @@ impl DifferentRows {
     }
 }
 
-// Keeps the different rows that are found, and one at most beyond the limit.
+// Gathers the different rows.
 #[derive(Drop)]
-struct Finder<'a, C> {
-    query: &'a Masked,
-    choices: &'a C,
-    limit: usize,
-}
+struct Different;
 
-impl<'a, C: ChoiceView> Visitor for Finder<'a, C> {
-    ghost use Rattle.hippo_eval.specs.Answering.{masked_rows};
-    ghost use Rattle.hippo_distinct.specs.DistinctRows.{AreWithin};
+impl Gatherer for Different {
+    ghost use Rattle.hippo_model.specs.Forms.{different};
+    ghost use Rattle.hippo_distinct.specs.DistinctRows.{AreDifferent};
 
-    type State = DifferentRows;
+    type Rows = DifferentRows;
 
-    ghost Keeps = { λ finder combinations kept. AreWithin ⟦<Sequence<CellKey> as Ord>⟧.cmp finder.limit
-        (masked_rows (C.choices finder.choices.now) finder.query.now combinations) kept };
+    ghost Holds = { λ gatherer found kept. AreDifferent ⟦<Sequence<CellKey> as Ord>⟧.cmp found kept };
 
-    fn visit(
-        &self,
-        alloc: Global,
-        state: &mut DifferentRows,
-        combo: &Combo<'_>,
-    ) -> Result<Onward, Memory> {
-        if state.rows.len() > self.limit {
-            return Ok(Onward::Enough);
-        }
-        if passes(self.query, combo, self.choices) {
-            state.add(alloc, project(alloc, self.query, combo, self.choices)?)?;
-        }
-        Ok(Onward::More)
+    ghost answer = { λ gatherer found. different found };
+
+    fn start(&self, alloc: Global) -> DifferentRows {
+        DifferentRows::new(alloc)
     }
-}
 
-fn distinct_within<C: ChoiceView>(
-    alloc: Global,
-    query: &Masked,
-    sets: &Sets<'_>,
-    choices: &C,
-    limit: usize,
-) -> Result<Answer, EvalFault>
-    ensures { let rows = masked_answer (C.choices choices.now) query.now (rows_of sets.now) in
-        IsAnswered limit (different rows) result }
-{
-    let finder = Finder {
-        query,
-        choices,
-        limit,
-    };
-    let mut kept = DifferentRows::new(alloc);
-    match walk(alloc, sets, &finder, &mut kept) {
-        Ok(()) => {
-            let DifferentRows { rows, .. } = kept;
-            limited(rows, limit)
-        }
-        Err(Memory) => Err(EvalFault::Memory),
+    fn len(&self, rows: &DifferentRows) -> usize {
+        rows.rows.len()
+    }
+
+    fn add(&self, alloc: Global, rows: &mut DifferentRows, row: CellRow) -> Result<(), Memory> {
+        rows.add(alloc, row)
+    }
+
+    fn finish(&self, rows: DifferentRows) -> Answer {
+        let DifferentRows { rows, .. } = rows;
+        rows
     }
 }
 
@@ -116,5 +90,5 @@ pub fn distinct<C: ChoiceView>(
     ensures { let rows = masked_answer (C.choices choices.now) query.now (rows_of sets.now) in
         IsAnswered ANSWER_LIMIT (different rows) result }
 {
-    distinct_within(alloc, query, sets, choices, ANSWER_LIMIT)
+    gather(alloc, query, sets, choices, &Different, ANSWER_LIMIT)
 }

@@ -2,3 +2,4 @@ pub mod TruthLemmas
 pub mod UnmaskedLemmas
 pub mod WalkLemmas
 pub mod KeptLemmas
+pub mod FoundLemmas

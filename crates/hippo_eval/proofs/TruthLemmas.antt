@@ -2,27 +2,17 @@
 use Rattle.std.proofs.Common.{◌≡◌, ℕ, ◌+◌, ◌<◌, List, map, drop, get_or, length, refl, sym, ap, ◌∙◌}
 use Rattle.std.proofs.lemmas.List.{at_drop_more}
 use Rattle.hippo_values.specs.declared.truths.Truth.{Truth}
-use Rattle.hippo_values.specs.declared.truths.Truth.TheVariants.{False, Unknown, True}
+use Rattle.hippo_values.specs.declared.truths.Truth.TheVariants.{False, Unknown}
 use Rattle.hippo_values.specs.Truths.{truth_and, truth_or}
 use Rattle.hippo_model.specs.Conditions.{least, greatest}
 
 truth_and-assoc : (a b c : Truth) → truth_and (truth_and a b) c ≡ truth_and a (truth_and b c)
-truth_and-assoc False b c = refl
-truth_and-assoc True b c = refl
-truth_and-assoc Unknown False c = refl
-truth_and-assoc Unknown True c = refl
 truth_and-assoc Unknown Unknown False = refl
-truth_and-assoc Unknown Unknown Unknown = refl
-truth_and-assoc Unknown Unknown True = refl
+truth_and-assoc a b c = refl
 
 truth_or-assoc : (a b c : Truth) → truth_or (truth_or a b) c ≡ truth_or a (truth_or b c)
-truth_or-assoc False b c = refl
-truth_or-assoc True b c = refl
-truth_or-assoc Unknown False c = refl
-truth_or-assoc Unknown True c = refl
 truth_or-assoc Unknown Unknown False = refl
-truth_or-assoc Unknown Unknown Unknown = refl
-truth_or-assoc Unknown Unknown True = refl
+truth_or-assoc a b c = refl
 
 module _ {X : Type 0} (f : X → Truth) (parts : List X) (i : ℕ) (part : X) (short : i < length parts) (is : part ≡ get_or parts i part) (so_far : Truth) where
   pub least_more : truth_and (truth_and so_far (f part)) (least (map f (drop (i + 1) parts))) ≡ truth_and so_far (least (map f (drop i parts)))

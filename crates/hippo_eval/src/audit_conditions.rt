@@ -29,8 +29,8 @@ impl Change<Operand, Expr> for Unmasked {
     }
 }
 
-/// A condition over columns and literals as one over expressions, for `test`: each column is kept, each literal stands for
-/// itself.
+/// A condition over columns and literals as one over expressions, for `test`: each column is kept, each literal stands
+/// for itself.
 pub fn unmasked_condition(
     alloc: Global,
     condition: &CondOf<Operand>,

@@ -46,19 +46,6 @@ fn compared_with<C: ChoiceView>(
     compared(op, left, &cell(right, combo, choices))
 }
 
-fn comparison<C: ChoiceView>(
-    op: CompareOp,
-    left: &Expr,
-    right: &Expr,
-    combo: &Combo<'_>,
-    choices: &C,
-) -> Truth
-    ensures { let value_of = masked_value (C.choices choices.now) combo.now in
-        result ≡ comparison op (value_of left.now) (value_of right.now) }
-{
-    compared_with(op, &cell(left, combo, choices), right, combo, choices)
-}
-
 fn is_between<C: ChoiceView>(
     value: &Expr,
     low: &Expr,
@@ -141,7 +128,9 @@ pub fn test<C: ChoiceView>(cond: &CondOf<Expr>, combo: &Combo<'_>, choices: &C) 
         CondOf::All(parts) => least(parts, combo, choices),
         CondOf::Any(parts) => greatest(parts, combo, choices),
         CondOf::Not(part) => truth_not(test(part.get(), combo, choices)),
-        CondOf::Compare { op, left, right } => comparison(*op, left, right, combo, choices),
+        CondOf::Compare { op, left, right } => {
+            compared_with(*op, &cell(left, &*combo, choices), right, combo, choices)
+        }
         CondOf::Between { value, low, high } => is_between(value, low, high, combo, choices),
         CondOf::Among { value, list } => is_among(value, list, combo, choices),
         CondOf::Missing { value } => is_missing(value, combo, choices),

@@ -5,12 +5,14 @@ mod answers;
 mod audit_conditions;
 mod cells;
 mod conditions;
+mod gathering;
 mod queries;
 mod walks;
 
-pub use answers::{ANSWER_LIMIT, EvalFault, evaluate, limited};
+pub use answers::{ANSWER_LIMIT, EvalFault, evaluate};
 pub use audit_conditions::unmasked_condition;
 pub use cells::{LentCell, cell};
 pub use conditions::test;
+pub use gathering::{Gatherer, gather, limited};
 pub use queries::{passes, project};
 pub use walks::{Onward, Visitor, walk};

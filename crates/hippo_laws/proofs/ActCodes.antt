@@ -95,19 +95,20 @@ question_within text f = is_within 65536 text (omega arith) (and_parts (nat_le 1
 pub a_question : IsReadOnce question_is_keepable text_bytes
 a_question = record { once = λ x y r s f g e. text_again x y r s (question_within x f) (question_within y g) e }
 
+-- what something is made of, and what stands behind it
+made : {A B : Type 0} {x y : A} {r s : List ℕ} (make : A → B) → (x ≡ y) × (r ≡ s) → (make x ≡ make y) × (r ≡ s)
+made make both = (ap make both.0, both.1)
+
 -- ---- values, columns, and what stands in one byte
 
 value_again : (x y : Value) (r s : List ℕ) → value_is_keepable x ≡ true → value_is_keepable y ≡ true → value_bytes x ++ r ≡ value_bytes y ++ s → (x ≡ y) × (r ≡ s)
 value_again Null Null r s f g e = (refl, cc)
 value_again (Int x) (Int y) r s f g e =
-    let behind : signed_bytes x ++ r ≡ signed_bytes y ++ s = cc in
-    let both = a_signed_number.once x y r s f g behind in (ap Int both.0, both.1)
+    let behind : signed_bytes x ++ r ≡ signed_bytes y ++ s = cc in made Int (a_signed_number.once x y r s f g behind)
 value_again (Text x) (Text y) r s f g e =
-    let behind : text_bytes x ++ r ≡ text_bytes y ++ s = cc in
-    let both = (a_text 4096 (omega arith)).once x y r s f g behind in (ap Text both.0, both.1)
+    let behind : text_bytes x ++ r ≡ text_bytes y ++ s = cc in made Text ((a_text 4096 (omega arith)).once x y r s f g behind)
 value_again (Day x) (Day y) r s f g e =
-    let behind : day_bytes x ++ r ≡ day_bytes y ++ s = cc in
-    let both = a_day.once x y r s f g behind in (ap Day both.0, both.1)
+    let behind : day_bytes x ++ r ≡ day_bytes y ++ s = cc in made Day (a_day.once x y r s f g behind)
 value_again x y r s f g e = absurd cc
 
 pub a_value : IsReadOnce value_is_keepable value_bytes
@@ -176,8 +177,7 @@ a_schema = record { once = schema_again }
 item_again : (x y : Option Name) (r s : List ℕ) → item_is_keepable x ≡ true → item_is_keepable y ≡ true → item_bytes x ++ r ≡ item_bytes y ++ s → (x ≡ y) × (r ≡ s)
 item_again None None r s f g e = (refl, cc)
 item_again (Some x) (Some y) r s f g e =
-    let behind : name_bytes x ++ r ≡ name_bytes y ++ s = cc in
-    let both = a_name.once x y r s f g behind in (ap Some both.0, both.1)
+    let behind : name_bytes x ++ r ≡ name_bytes y ++ s = cc in made Some (a_name.once x y r s f g behind)
 item_again x y r s f g e = absurd cc
 
 pub an_item : IsReadOnce item_is_keepable item_bytes
@@ -190,7 +190,7 @@ days_format (Some days) = 2
 
 days_again : (x y : Option ℕ) (r s : List ℕ) → days_are_keepable x ≡ true → days_are_keepable y ≡ true → days_format x ≡ days_format y → days_bytes x ++ r ≡ days_bytes y ++ s → (x ≡ y) × (r ≡ s)
 days_again None None r s f g formats e = (refl, e)
-days_again (Some x) (Some y) r s f g formats e = let both = four_bytes x y r s (ltb-true _ _ f) (ltb-true _ _ g) e in (ap Some both.0, both.1)
+days_again (Some x) (Some y) r s f g formats e = made Some (four_bytes x y r s (ltb-true _ _ f) (ltb-true _ _ g) e)
 days_again x y r s f g formats e = absurd cc
 
 format_of_rule : (p r t : Name) (c : List Place) (i : Option Name) (d : Option ℕ) → act_format (Allow p r t c i d) ≡ days_format d
@@ -211,10 +211,6 @@ an_agreement = record { once = λ x y r s f g e. let bytes : from_bool x ≡ fro
 
 three_names : IsReadOnce (both_fit (both_fit is_folded_name is_folded_name) is_folded_name) (one_then_other (one_then_other name_bytes name_bytes) name_bytes)
 three_names = pair (pair a_name a_name) a_name
-
--- what an act is made of, and what stands behind it
-made : {A : Type 0} {x y : A} {r s : List ℕ} (make : A → Act) → (x ≡ y) × (r ≡ s) → (make x ≡ make y) × (r ≡ s)
-made make both = (ap make both.0, both.1)
 
 act_again : (x y : Act) (r s : List ℕ) → act_is_keepable x ≡ true → act_is_keepable y ≡ true → act_format x ≡ act_format y → act_kind x ≡ act_kind y → act_bytes x ++ r ≡ act_bytes y ++ s → (x ≡ y) × (r ≡ s)
 act_again (Create x) (Create y) r s f g o k e = made Create (a_schema.once x y r s f g e)

@@ -23,7 +23,7 @@ use Rattle.hippo_model.specs.Hits.{hits}
 use Rattle.hippo_model.proofs.NamedColumns.{named_columns}
 use Rattle.hippo_model.proofs.Truths.{truths}
 use Rattle.hippo_model.proofs.OuterParts.{outer_parts_of}
-use Rattle.hippo_laws.proofs.ExampleHistories.{treatment, nurse, ann, patient, number_column, text_column, required, entry, clinic, column, equals, select, always, ask, asked}
+use Rattle.hippo_laws.proofs.ExampleHistories.{treatment, nurse, ann, clerk, patient, number_column, text_column, required, entry, clinic, column, equals, select, always, ask, asked}
 
 -- who saw a column of the patients on 2024-01-02
 abbrev pub audit : List ℕ → List Ref → CondOf Operand → Audit
@@ -134,9 +134,6 @@ after_the_period : shared (asks names) clinic seconds (asked_at 11 (pos 17041824
 after_the_period = refl
 
 -- the same names are asked for two recipients, of which one is exempt
-abbrev clerk : List ℕ
-clerk = codes "clerk"
-
 abbrev two_recipients : History
 two_recipients = clinic ++ entry 8 (Recipient clerk) ∷ entry 9 (Authorize ann treatment clerk) ∷ entry 10 (Allow treatment clerk patient (0 ∷ 1 ∷ []) None None) ∷ []
 

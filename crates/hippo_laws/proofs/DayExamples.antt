@@ -27,13 +27,7 @@ use Rattle.hippo_model.specs.Validity.{damage}
 use Rattle.hippo_model.proofs.NamedColumns.{named_columns}
 use Rattle.hippo_model.proofs.Truths.{truths}
 use Rattle.hippo_model.proofs.OuterParts.{outer_parts_of}
-use Rattle.hippo_laws.proofs.ExampleHistories.{treatment, nurse, ann, patient, patients, number_column, text_column, required, column, column_of, nursing, select, always, words_and_texts}
-
-abbrev billing : List ℕ
-billing = codes "billing"
-
-abbrev clerk : List ℕ
-clerk = codes "clerk"
+use Rattle.hippo_laws.proofs.ExampleHistories.{treatment, nurse, ann, billing, clerk, keyed, patient, patients, number_column, text_column, required, column, column_of, nursing, select, always, words_and_texts}
 
 abbrev carl : List ℕ
 carl = codes "carl"
@@ -42,12 +36,8 @@ abbrev visit : List ℕ
 visit = codes "visit"
 
 abbrev visits : Schema
-visits = record {
-  name = visit;
-  columns = required (number_column (codes "vno")) ∷ required (number_column (codes "pid")) ∷ text_column (codes "ward") ∷ record { name = codes "seen"; kind = Date; not_null = false } ∷ [];
-  key = 0 ∷ [];
-  subject = Some 1;
-}
+visits =
+    keyed visit (required (number_column (codes "vno")) ∷ required (number_column (codes "pid")) ∷ text_column (codes "ward") ∷ record { name = codes "seen"; kind = Date; not_null = false } ∷ []) 1
 
 -- 2024-03-04T07:00:00Z and 09:30:00Z
 abbrev early : ℕ → Act → Entry

@@ -39,6 +39,12 @@ nurse = codes "nurse"
 abbrev pub ann : List ℕ
 ann = codes "ann"
 
+abbrev pub billing : List ℕ
+billing = codes "billing"
+
+abbrev pub clerk : List ℕ
+clerk = codes "clerk"
+
 abbrev pub number_column : List ℕ → Column
 number_column name = record { name = name; kind = Integer; not_null = false }
 
@@ -48,16 +54,16 @@ text_column name = record { name = name; kind = TextColumn; not_null = false }
 abbrev pub required : Column → Column
 required column = record { name = column.name; kind = column.kind; not_null = true }
 
+-- a table whose key is its first column
+abbrev pub keyed : List ℕ → List Column → Place → Schema
+keyed name columns subject = record { name = name; columns = columns; key = 0 ∷ []; subject = Some subject }
+
 abbrev pub patient : List ℕ
 patient = codes "patient"
 
 abbrev pub patients : Schema
-patients = record {
-  name = patient;
-  columns = required (number_column (codes "pid")) ∷ text_column (codes "name") ∷ text_column (codes "phone") ∷ number_column (codes "zip") ∷ [];
-  key = 0 ∷ [];
-  subject = Some 0;
-}
+patients =
+    keyed patient (required (number_column (codes "pid")) ∷ text_column (codes "name") ∷ text_column (codes "phone") ∷ number_column (codes "zip") ∷ []) 0
 
 -- 2024-01-02T08:00:00Z
 abbrev pub morning : ℤ

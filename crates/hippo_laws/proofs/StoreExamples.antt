@@ -8,7 +8,7 @@ use mathlib.Core.Bool.{false≢true}
 use Rattle.std.proofs.lemmas.List.{append-nil}
 use Rattle.hippo_values.specs.declared.values.Value.TheVariants.{Null, Int, Text, Day}
 use Rattle.hippo_model.specs.declared.entry.Act.{Act}
-use Rattle.hippo_model.specs.declared.entry.Act.TheVariants.{Create, Insert, Update, Delete, Purpose, Recipient, Item, Authorize, Deauthorize, Allow, Revoke, Choice, Asked}
+use Rattle.hippo_model.specs.declared.entry.Act.TheVariants.{Create, Insert, Purpose, Allow}
 use Rattle.hippo_model.specs.declared.entry.Entry.{Entry}
 use Rattle.hippo_model.specs.declared.stored.StoredEntry.{StoredEntry}
 use Rattle.hippo_model.specs.Terms.{History}
@@ -84,18 +84,7 @@ agrees_with_itself kept = nat_le kept.kind 13 && bytes_eq (take 8 (drop 1 kept.b
 
 is_one_of_thirteen : (act : Act) → nat_le (act_kind act) 13 ≡ true
 is_one_of_thirteen (Create schema) = refl
-is_one_of_thirteen (Insert table row) = refl
-is_one_of_thirteen (Update table row) = refl
-is_one_of_thirteen (Delete table key) = refl
-is_one_of_thirteen (Purpose name) = refl
-is_one_of_thirteen (Recipient name) = refl
-is_one_of_thirteen (Item name kind) = refl
-is_one_of_thirteen (Authorize user purpose recipient) = refl
-is_one_of_thirteen (Deauthorize user purpose recipient) = refl
-is_one_of_thirteen (Allow purpose recipient table columns item days) = refl
-is_one_of_thirteen (Revoke purpose recipient table columns) = refl
-is_one_of_thirteen (Choice subject item agreed) = refl
-is_one_of_thirteen (Asked user purpose recipient text) = refl
+is_one_of_thirteen act = refl
 
 stored_agrees_with_itself : (entry : Entry) → agrees_with_itself (stored entry) ≡ true
 stored_agrees_with_itself entry = rw (is_one_of_thirteen entry.act) (nat_list_eq_equiv.refl (number_bytes entry.seq))

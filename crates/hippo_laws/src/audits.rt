@@ -26,8 +26,9 @@ pub fn audit_needs()
     ensures { AuditNeeds }
 {}
 
-/// A plain query and an audit expression both need a virtual tuple exactly where some combination of the query's view rows
-/// and some combination of the audit's unmasked rows have the tuple's keys, and each side's condition is true of its own.
+/// A plain query and an audit expression both need a virtual tuple exactly where some combination of the query's view
+/// rows and some combination of the audit's unmasked rows have the tuple's keys, and each side's condition is true of
+/// its own.
 pub fn both_needs()
     ensures { BothNeeds }
 {

@@ -125,6 +125,14 @@ module _ (schema : Schema) where
       elsewhere act is other so_far =
           subst (Known act) (sym (ap (λ (set : KeyedRows). set.rows) (kept_at-other_table schema history entry (ap (λ (act : Act). bytes_eq (table_changed act) schema.name) is ∙ other)))) so_far
 
+      -- a version of this table, or of another one
+      by_table : (act : Act) → entry.act ≡ act → Known act (table_rows schema history) → (bytes_eq (table_changed act) schema.name ≡ true → Known act (table_rows schema (history ++ entry ∷ []))) → Known act (table_rows schema (history ++ entry ∷ []))
+      by_table act is so_far here =
+          elim (bytes_eq (table_changed act) schema.name) as (λ named. bytes_eq (table_changed act) schema.name ≡ named → Known act (table_rows schema (history ++ entry ∷ []))) [
+            | true ↦ here
+            | false ↦ λ other. elsewhere act is other so_far
+          ] refl
+
       passes_here : (table : Name) (act : Act) → bytes_eq table schema.name ≡ true → option_map_or (λ made. version_fits made history act) (schema_at history table) false ≡ true
           → option_map_or (λ made. version_fits made history act) (schema_at history schema.name) false ≡ true
       passes_here table act same passes = subst (λ (name : Name). option_map_or (λ made. version_fits made history act) (schema_at history name) false ≡ true) ((bytes_eq-Decides table schema.name).0 same) passes
@@ -138,26 +146,17 @@ module _ (schema : Schema) where
       by_act : (act : Act) → entry.act ≡ act → is_acceptable meaning history act ≡ true → Known act (table_rows schema (history ++ entry ∷ []))
       by_act (Create made) is fit = unchanged (Create made) is refl (known-Create made (table_rows schema history) fit known (bytes_eq made.name schema.name))
       by_act (Insert table row) is passes =
-          elim (bytes_eq table schema.name) as (λ named. bytes_eq table schema.name ≡ named → Known (Insert table row) (table_rows schema (history ++ entry ∷ []))) [
-            | true ↦ λ same.
-                subst (Known (Insert table row)) (sym (table_rows-Insert schema history entry table row is same))
-                (known-put (Insert table row) (record { row = row; born = entry.moment }) (schema_at history schema.name) (table_rows schema history) (insert_fits table row) (passes_here table (Insert table row) same passes) known)
-            | false ↦ λ other. elsewhere (Insert table row) is other known
-          ] refl
+          by_table (Insert table row) is known (λ same.
+          subst (Known (Insert table row)) (sym (table_rows-Insert schema history entry table row is same))
+          (known-put (Insert table row) (record { row = row; born = entry.moment }) (schema_at history schema.name) (table_rows schema history) (insert_fits table row) (passes_here table (Insert table row) same passes) known))
       by_act (Update table row) is passes =
-          elim (bytes_eq table schema.name) as (λ named. bytes_eq table schema.name ≡ named → Known (Update table row) (table_rows schema (history ++ entry ∷ []))) [
-            | true ↦ λ same.
-                subst (Known (Update table row)) (sym (table_rows-Update schema history entry table row is same))
-                (known-put (Update table row) (record { row = row; born = born_at schema history (key_of schema.key row) }) (schema_at history schema.name) (table_rows schema history) (update_fits table row) (passes_here table (Update table row) same passes) known)
-            | false ↦ λ other. elsewhere (Update table row) is other known
-          ] refl
+          by_table (Update table row) is known (λ same.
+          subst (Known (Update table row)) (sym (table_rows-Update schema history entry table row is same))
+          (known-put (Update table row) (record { row = row; born = born_at schema history (key_of schema.key row) }) (schema_at history schema.name) (table_rows schema history) (update_fits table row) (passes_here table (Update table row) same passes) known))
       by_act (Delete table key) is passes =
-          elim (bytes_eq table schema.name) as (λ named. bytes_eq table schema.name ≡ named → Known (Delete table key) (table_rows schema (history ++ entry ∷ []))) [
-            | true ↦ λ same.
-                subst (Known (Delete table key)) (sym (table_rows-Delete schema history entry table key is same))
-                (known-take (Delete table key) key (schema_at history schema.name) (table_rows schema history) (passes_here table (Delete table key) same passes) known)
-            | false ↦ λ other. elsewhere (Delete table key) is other known
-          ] refl
+          by_table (Delete table key) is known (λ same.
+          subst (Known (Delete table key)) (sym (table_rows-Delete schema history entry table key is same))
+          (known-take (Delete table key) key (schema_at history schema.name) (table_rows schema history) (passes_here table (Delete table key) same passes) known))
       by_act act is passes = unchanged act is refl known
 
 abbrev AllKnown : History → Type 0
@@ -182,7 +181,7 @@ created_named table schema (Create made) =
     ] refl
 created_named table schema act = λ is. absurd cc
 
-schema_named : (history : History) (table : Name) (schema : Schema) → schema_at history table ≡ Some schema → schema.name ≡ table
+pub schema_named : (history : History) (table : Name) (schema : Schema) → schema_at history table ≡ Some schema → schema.name ≡ table
 schema_named [] table schema = λ is. absurd cc
 schema_named (entry ∷ later) table schema =
     elim (schema_at later table) as (λ found. schema_at later table ≡ found → option_or found (created table entry.act) ≡ Some schema → schema.name ≡ table) [

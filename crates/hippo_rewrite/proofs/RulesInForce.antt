@@ -53,6 +53,18 @@ module _ (here there : Place → Verdict) (size : ℕ) (same : (place : Place) �
       let e : here place ≡ there place = same place (ltb-true place size both.0) in
       λ i. is_shown (e i) && same_key key both.1 i
 
+-- what a query's tables and their schemas have, a table at a time
+pub table_by_table : (history : History) (Has : List Name → List Schema → Type 0) → Has [] []
+    → ((table : Name) (schema : Schema) (tables : List Name) (schemas : List Schema) → schema_at history table ≡ Some schema → Has tables schemas → Has (table ∷ tables) (schema ∷ schemas))
+    → (tables : List Name) (schemas : List Schema) → map (schema_at history) tables ≡ map Some schemas → Has tables schemas
+table_by_table history Has none more [] [] is = none
+table_by_table history Has none more [] (schema ∷ schemas) is = absurd cc
+table_by_table history Has none more (table ∷ tables) [] is = absurd cc
+table_by_table history Has none more (table ∷ tables) (schema ∷ schemas) is =
+    let first : schema_at history table ≡ Some schema = cc in
+    let rest : map (schema_at history) tables ≡ map Some schemas = cc in
+    more table schema tables schemas first (table_by_table history Has none more tables schemas rest)
+
 module _ (history : History) (context : Context) where
   -- a row as the rules in force mask it is its row of the view
   row_by-view_row : (schema : Schema) (kept : BornRow) → list_all (is_within schema) schema.key ≡ true → is_wide schema kept ≡ true
@@ -80,27 +92,19 @@ module _ (history : History) (context : Context) where
 
   module _ (meaning : Meaning) (valid : is_valid meaning history ≡ true) where
     rules_fit : (tables : List Name) (schemas : List Schema) → map (schema_at history) tables ≡ map Some schemas → rows_fit (rules_at history context schemas) (tables_at history schemas) ≡ true
-    rules_fit [] [] is = refl
-    rules_fit [] (schema ∷ schemas) is = absurd cc
-    rules_fit (table ∷ tables) [] is = absurd cc
-    rules_fit (table ∷ tables) (schema ∷ schemas) is =
-        let first : schema_at history table ≡ Some schema = cc in
-        let rest : map (schema_at history) tables ≡ map Some schemas = cc in
+    rules_fit =
+        table_by_table history (λ tables schemas. rows_fit (rules_at history context schemas) (tables_at history schemas) ≡ true) refl (λ table schema tables schemas first later.
         let fit = fits_schema meaning history valid table schema first in
-        and_from _ _ (row_fits-is_wide schema (table_rows schema history) ∙ fit.0) (rules_fit tables schemas rest)
+        and_from _ _ (row_fits-is_wide schema (table_rows schema history) ∙ fit.0) later)
 
     views_are : (tables : List Name) (schemas : List Schema) → map (schema_at history) tables ≡ map Some schemas
         → rows_by (choice_at history) (rules_at history context schemas) (tables_at history schemas) ≡ map (view_at history context) tables
-    views_are [] [] is = refl
-    views_are [] (schema ∷ schemas) is = absurd cc
-    views_are (table ∷ tables) [] is = absurd cc
-    views_are (table ∷ tables) (schema ∷ schemas) is =
-        let first : schema_at history table ≡ Some schema = cc in
-        let rest : map (schema_at history) tables ≡ map Some schemas = cc in
+    views_are =
+        table_by_table history (λ tables schemas. rows_by (choice_at history) (rules_at history context schemas) (tables_at history schemas) ≡ map (view_at history context) tables) refl (λ table schema tables schemas first later.
         let fit = fits_schema meaning history valid table schema first in
         let here : filter_map (row_by (choice_at history) (table_rules history context schema)) (table_rows schema history) ≡ view_at history context table =
         rows_by-view schema (table_rows schema history) fit.1 fit.0 ∙ sym (ap (λ (found : Option Schema). option_map_or (view history context) found []) first) in
-        λ i. here i ∷ views_are tables schemas rest i
+        λ i. here i ∷ later i)
 
 -- rows in a valid history fit the rules in force
 pub rows_fit-rules_at : (meaning : Meaning) (history : History) (context : Context) (query : Query) (schemas : List Schema) → HasTables meaning history query schemas

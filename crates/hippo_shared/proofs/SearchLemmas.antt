@@ -1,9 +1,12 @@
 -- The first places of the common tables that are left.
-use Rattle.std.proofs.Common.{◌≡◌, ℕ, zero, suc, ◌+◌, ◌<◌, ◌≤◌, false, List, [], ◌∷◌, map, length, get_or, refl, sym, ap, subst, ◌∙◌, Option, Some, None, unwrap_or, option_map, replicate, take, inl, inr, ◌⊎◌, arith}
+use Rattle.std.proofs.Common.{◌≡◌, ℕ, zero, suc, ◌+◌, ◌<◌, ◌≤◌, Bool, true, false, List, [], ◌∷◌, map, length, get_or, refl, sym, ap, subst, ◌∙◌, Option, Some, None, unwrap_or, option_map, replicate, take, inl, inr, ◌⊎◌, arith, Result, Ok, Vec, Global}
 use Rattle.std.specs.Prelude.{slice_get, slice_set, is_some}
 use Rattle.std.specs.List.{All, Contains}
 use Rattle.std.specs.List.Sorted.{IsPermutation, IsNonDecreasing}
+use Rattle.std.proofs.lemmas.Bool.{false≢true}
+use Rattle.std.proofs.lemmas.List.{length-set, set-set}
 use Rattle.std.proofs.lemmas.List.Sorted.{Contains-permutation}
+use Rattle.hippo_values.specs.declared.memory.Memory.{Memory}
 use Rattle.hippo_model.specs.declared.query.Expr.{Expr}
 use Rattle.hippo_model.specs.declared.query.Masked.{Masked}
 use Rattle.hippo_model.specs.Terms.{Place}
@@ -16,7 +19,10 @@ use Rattle.hippo_join.specs.Steps.{ReachesFrom, IsStep, AreSteps}
 use Rattle.hippo_join.proofs.ExistenceLemmas.{Fits-unset, below_or_at, get_or_default}
 use Rattle.hippo_join.proofs.SlotLemmas.{Fits-at}
 use Rattle.hippo_join.specs.declared.steps.Step.{Step}
-use Rattle.hippo_shared.specs.FirstPlaces.{AreOpen, AreWhole, ShareAt, AreFirst, IsFirst}
+use Rattle.hippo_shared.specs.declared.commons.CommonSteps.{CommonSteps}
+use Rattle.hippo_shared.specs.declared.searching.Search.{Search}
+use Rattle.hippo_shared.specs.FirstPlaces.{AreOpen, AreWhole, AreFirst, IsFirst}
+use Rattle.hippo_shared.specs.Searching.{Slots, query_tables, audit_tables, FindsFirst, HasOneOf, IsReady, IsStepOf, ReachesOf, Shared}
 use Rattle.hippo_shared.proofs.SideLemmas.{set-here, share-both, one-agrees}
 
 pub reaches-moved : (choices : Choices) (query : Masked) (sets : List KeyedRows) (slots : List (Option Place)) (table : Place) (some these sorted : List Place) → ReachesFrom choices query sets slots table some → these ≡ some → IsPermutation these sorted
@@ -42,112 +48,172 @@ reach-one choices query seen sets slots table some place free reaches one =
     let unchosen : is_chosen slots table ≡ false = ap (λ (o : Option (Option Place)). is_some (unwrap_or o None)) free in
     reaches one.places (Fits-unset slots one.places table place unchosen one.fits) one.counts place (Fits-at more one.places table place one.fits here)
 
-module _ (choices : Choices) (query : Masked) (seen : List Expr) (sets : List KeyedRows) (audit_choices : Choices) (audit : Masked) (audit_sets : List KeyedRows) where
-  abbrev QueryHas : List (Option Place) → Type 0
-  QueryHas slots = HasOne choices query seen sets slots
+-- none of a list's places up to one is the first of places by which both sides have a combination
+abbrev pub NoneSoFar : {C : Type 0} → (C → Choices) → Search C → List CommonSteps → Slots → Slots → List Place → ℕ → Type 0
+NoneSoFar choices sides left query audit places i =
+    (k : ℕ) → k < i → (others : List Place) → ¬ Shared choices sides left query audit (get_or places k 0 ∷ others)
 
-  abbrev AuditHas : List (Option Place) → Type 0
-  AuditHas slots = HasOne audit_choices audit [] audit_sets slots
+length-tables : (left : List CommonSteps) → length (query_tables left) ≡ length (audit_tables left)
+length-tables [] = refl
+length-tables (steps ∷ left) = ap suc (length-tables left)
+
+module _ {C : Type 0} (choices : C → Choices) (sides : Search C) where
+  -- ---- what a search counts on
+  pub ready-none : (common : List CommonSteps) (query audit : Slots) → IsReady choices sides common query audit → IsReady choices sides [] query audit
+  ready-none common query audit ready = record {
+    query_steps = ready.query_steps;
+    audit_steps = ready.audit_steps;
+    query_left = λ k d within. absurd (omega arith);
+    audit_left = λ k d within. absurd (omega arith);
+    query_long = ready.query_long;
+    audit_long = ready.audit_long;
+    query_open = tt;
+    audit_open = tt;
+  }
+
+  pub ready-next : (steps : CommonSteps) (rest : List CommonSteps) (query audit : Slots) (place : Place) → IsReady choices sides (steps ∷ rest) query audit
+      → IsReady choices sides rest (slice_set query steps.query.now.table (Some place)) (slice_set audit steps.audit.now.table (Some place))
+  ready-next steps rest query audit place ready = record {
+    query_steps = ready.query_steps;
+    audit_steps = ready.audit_steps;
+    query_left = λ k d within. ready.query_left (suc k) d (omega (arith, within));
+    audit_left = λ k d within. ready.audit_left (suc k) d (omega (arith, within));
+    query_long = length-set query steps.query.now.table (Some place) ∙ ready.query_long;
+    audit_long = length-set audit steps.audit.now.table (Some place) ∙ ready.audit_long;
+    query_open = ready.query_open.1 place;
+    audit_open = ready.audit_open.1 place;
+  }
+
+  pub ready-same : (left : List CommonSteps) (query query_now audit audit_now : Slots) → query_now ≡ query → audit_now ≡ audit → IsReady choices sides left query audit → IsReady choices sides left query_now audit_now
+  ready-same left query query_now audit audit_now same_query same_audit ready =
+      subst (λ (slots : Slots). IsReady choices sides left slots audit_now) (sym same_query) (subst (λ (slots : Slots). IsReady choices sides left query slots) (sym same_audit) ready)
 
   -- both sides have a combination with the rows that are chosen already
-  pub share-ones : (tables others : List Place) (slots other_slots : List (Option Place)) (given : List Place) → length tables ≡ length others → AreOpen tables slots → AreOpen others other_slots → ShareAt QueryHas AuditHas tables others slots other_slots given
-      → QueryHas slots × AuditHas other_slots
-  share-ones tables others slots other_slots given same free other_free share =
-      let both = share-both QueryHas AuditHas tables others slots other_slots given share in
-      ((one-agrees choices query seen sets tables given slots free both.0 both.1).0, (one-agrees audit_choices audit [] audit_sets others given other_slots other_free (both.0 ∙ same) both.2).0)
+  share-ones : (left : List CommonSteps) (query audit : Slots) (given : List Place) → AreOpen (query_tables left) query → AreOpen (audit_tables left) audit → Shared choices sides left query audit given
+      → HasOneOf choices sides.query.now sides.seen.now query × HasOneOf choices sides.audit.now [] audit
+  share-ones left query audit given query_open audit_open share =
+      let both = share-both (HasOneOf choices sides.query.now sides.seen.now) (HasOneOf choices sides.audit.now []) (query_tables left) (audit_tables left) query audit given share in (
+        (one-agrees (choices sides.query.now.choices.now) sides.query.now.query.now sides.seen.now sides.query.now.sets.now (query_tables left) given query query_open both.0 both.1).0,
+        (one-agrees (choices sides.audit.now.choices.now) sides.audit.now.query.now [] sides.audit.now.sets.now (audit_tables left) given audit audit_open (both.0 ∙ length-tables left) both.2).0,
+      )
 
-  -- where a step's places are tried one after the other
-  module _ (table other : Place) (tables others : List Place) (slots other_slots : List (Option Place)) (same : length tables ≡ length others) (free : AreOpen (table ∷ tables) slots) (other_free : AreOpen (other ∷ others) other_slots) (some these : List Place) (is : some ≡ these) (sorted : IsNonDecreasing these)
-      (reach : ReachesFrom choices query sets slots table these ⊎ ReachesFrom audit_choices audit audit_sets other_slots other these) where
+  pub none-may : (left : List CommonSteps) (query audit : Slots) → IsReady choices sides left query audit → (may : Bool)
+      → (HasOneOf choices sides.query.now sides.seen.now query → HasOneOf choices sides.audit.now [] audit → may ≡ true) → may ≡ false → IsFirst (Shared choices sides left query audit) None
+  none-may left query audit ready may told not given share =
+      let ones = share-ones left query audit given ready.query_open ready.audit_open share in
+      false≢true (sym not ∙ told ones.0 ones.1)
+
+  pub first-same : (left : List CommonSteps) (query audit : Slots) (here found : Option (Vec ℕ Global)) → here ≡ found
+      → IsFirst (Shared choices sides left query audit) (option_map (λ (places : Vec ℕ Global). places.items) found) → IsFirst (Shared choices sides left query audit) (option_map (λ (places : Vec ℕ Global). places.items) here)
+  first-same left query audit here found is first =
+      subst (λ (o : Option (Vec ℕ Global)). IsFirst (Shared choices sides left query audit) (option_map (λ (places : Vec ℕ Global). places.items) o)) (sym is) first
+
+  -- ---- a step's places are tried one after the other
+  module _ (common : List CommonSteps) (steps : CommonSteps) (rest : List CommonSteps) (split : common ≡ steps ∷ rest) (query audit : Slots) (ready : IsReady choices sides common query audit) where
+    pub split-ready : IsReady choices sides (steps ∷ rest) query audit
+    split-ready = subst (λ (left : List CommonSteps). IsReady choices sides left query audit) split ready
+
+    pub first-steps : IsStepOf choices sides.query.now steps.query.now × IsStepOf choices sides.audit.now steps.audit.now
+    first-steps = (split-ready.query_left 0 steps.query.now (omega arith), split-ready.audit_left 0 steps.audit.now (omega arith))
+
     abbrev Shares : List Place → Type 0
-    Shares given = ShareAt QueryHas AuditHas (table ∷ tables) (other ∷ others) slots other_slots given
+    Shares given = Shared choices sides (steps ∷ rest) query audit given
 
-    reached : (place : Place) (given : List Place) → Shares (place ∷ given) → Contains some place
-    reached place given share =
-        let ones = share-ones tables others (slice_set slots table (Some place)) (slice_set other_slots other (Some place)) given same (free.1 place) (other_free.1 place) share in
-        subst (λ (l : List Place). Contains l place) (sym is) (elim reach as (λ _. Contains these place) [
-          | inl own ↦ reach-one choices query seen sets slots table these place free.0 own ones.0
-          | inr own ↦ reach-one audit_choices audit [] audit_sets other_slots other these place other_free.0 own ones.1
-        ])
+    module _ (some these : List Place) (is : some ≡ these) (sorted : IsNonDecreasing these)
+        (reach : ReachesOf choices sides.query.now steps.query.now query these ⊎ ReachesOf choices sides.audit.now steps.audit.now audit these) where
+      reached : (place : Place) (given : List Place) → Shares (place ∷ given) → Contains some place
+      reached place given share =
+          let next = ready-next steps rest query audit place split-ready in
+          let ones = share-ones rest (slice_set query steps.query.now.table (Some place)) (slice_set audit steps.audit.now.table (Some place)) given next.query_open next.audit_open share in
+          subst (λ (l : List Place). Contains l place) (sym is) (elim reach as (λ _. Contains these place) [
+            | inl own ↦ reach-one (choices sides.query.now.choices.now) sides.query.now.query.now sides.seen.now sides.query.now.sets.now query steps.query.now.table these place split-ready.query_open.0 own ones.0
+            | inr own ↦ reach-one (choices sides.audit.now.choices.now) sides.audit.now.query.now [] sides.audit.now.sets.now audit steps.audit.now.table these place split-ready.audit_open.0 own ones.1
+          ])
 
-    rises : IsNonDecreasing some
-    rises = subst (λ (l : List Place). IsNonDecreasing l) (sym is) sorted
+      rises : IsNonDecreasing some
+      rises = subst (λ (l : List Place). IsNonDecreasing l) (sym is) sorted
 
-    named : (place k : ℕ) → k < length some → get_or some k place ≡ place → get_or some k 0 ≡ place
-    named place k within at = sym (get_or_default some k 0 place within) ∙ at
+      named : (place k : ℕ) → k < length some → get_or some k place ≡ place → get_or some k 0 ≡ place
+      named place k within at = sym (get_or_default some k 0 place within) ∙ at
 
-    -- the first place with which both sides have a combination
-    first-tried : (i : ℕ) → i < length some → ((k : ℕ) → k < i → (given : List Place) → ¬ Shares (get_or some k 0 ∷ given)) → (given : List Place)
-        → AreFirst (λ later. Shares (get_or some i 0 ∷ later)) given → AreFirst Shares (get_or some i 0 ∷ given)
-    first-tried i within so_far given first = (
-      first,
-      λ lower less later share.
-          let has = reached lower later share in
-          let at = named lower has.0 has.1 has.2 in
-          elim (below_or_from has.0 i) as (λ _. ⊥) [
-            | inl before ↦ so_far has.0 before later (subst (λ (place : Place). Shares (place ∷ later)) (sym at) share)
-            | inr behind ↦ let up : get_or some i 0 ≤ get_or some has.0 0 = rises i has.0 0 behind has.1 in absurd (omega (arith, up, at, less))
-          ],
-    )
-      where
-        below_or_from : (k n : ℕ) → (k < n) ⊎ (n ≤ k)
-        below_or_from k n = grind arith
+      -- the first place with which both sides have a combination
+      first-tried : (i : ℕ) → i < length some → NoneSoFar choices sides (steps ∷ rest) query audit some i → (given : List Place)
+          → AreFirst (λ later. Shares (get_or some i 0 ∷ later)) given → AreFirst Shares (get_or some i 0 ∷ given)
+      first-tried i within so_far given first = (
+        first,
+        λ lower less later share.
+            let has = reached lower later share in
+            let at = named lower has.0 has.1 has.2 in
+            elim (below_or_from has.0 i) as (λ _. ⊥) [
+              | inl before ↦ so_far has.0 before later (subst (λ (place : Place). Shares (place ∷ later)) (sym at) share)
+              | inr behind ↦ let up : get_or some i 0 ≤ get_or some has.0 0 = rises i has.0 0 behind has.1 in absurd (omega (arith, up, at, less))
+            ],
+      )
+        where
+          below_or_from : (k n : ℕ) → (k < n) ⊎ (n ≤ k)
+          below_or_from k n = grind arith
 
-    pub none-tried : (i : ℕ) → length some ≤ i → ((k : ℕ) → k < i → (given : List Place) → ¬ Shares (get_or some k 0 ∷ given)) → (given : List Place) → ¬ Shares given
-    none-tried i past so_far [] share = share
-    none-tried i past so_far (place ∷ given) share =
-        let has = reached place given share in
-        so_far has.0 (omega (arith, has.1)) given (subst (λ (p : Place). Shares (p ∷ given)) (sym (named place has.0 has.1 has.2)) share)
+      none-here : (i : ℕ) → length some ≤ i → NoneSoFar choices sides (steps ∷ rest) query audit some i → (given : List Place) → ¬ Shares given
+      none-here i past so_far [] share = share
+      none-here i past so_far (place ∷ given) share =
+          let has = reached place given share in
+          so_far has.0 (omega (arith, has.1)) given (subst (λ (p : Place). Shares (p ∷ given)) (sym (named place has.0 has.1 has.2)) share)
 
-    pub none-so-far : (i : ℕ) → ((given : List Place) → ¬ Shares (get_or some i 0 ∷ given)) → ((k : ℕ) → k < i → (given : List Place) → ¬ Shares (get_or some k 0 ∷ given)) → (k : ℕ) → k < i + 1 → (given : List Place) → ¬ Shares (get_or some k 0 ∷ given)
-    none-so-far i not_here so_far k lower given share = elim (below_or_at k i lower) as (λ _. ⊥) [
-      | inl earlier ↦ so_far k earlier given share
-      | inr here ↦ not_here given (subst (λ (j : ℕ). Shares (get_or some j 0 ∷ given)) here share)
-    ]
+      pub none-tried : (i : ℕ) → length some ≤ i → NoneSoFar choices sides (steps ∷ rest) query audit some i → IsFirst (Shared choices sides common query audit) None
+      none-tried i past so_far given = subst (λ (left : List CommonSteps). ¬ Shared choices sides left query audit given) (sym split) (none-here i past so_far given)
 
-    -- the same, of what a call answers over slots that are these
-    module _ (now other_now : List (Option Place)) (same_now : now ≡ slots) (same_other : other_now ≡ other_slots) {V : Type 0} (items : V → List Place) (found : Option V) (i : ℕ)
-        (told : IsFirst (ShareAt QueryHas AuditHas tables others (slice_set now table (Some (get_or some i 0))) (slice_set other_now other (Some (get_or some i 0)))) (option_map items found)) where
-      abbrev Later : List Place → Type 0
-      Later given = Shares (get_or some i 0 ∷ given)
+      -- the same, of what a call answers over slots that are these
+      module _ (query_now audit_now : Slots) (same_query : query_now ≡ query) (same_audit : audit_now ≡ audit) (found : Option (Vec ℕ Global)) (i : ℕ)
+          (told : IsFirst (Shared choices sides rest (slice_set query_now steps.query.now.table (Some (get_or some i 0))) (slice_set audit_now steps.audit.now.table (Some (get_or some i 0)))) (option_map (λ (places : Vec ℕ Global). places.items) found))
+          (so_far : NoneSoFar choices sides (steps ∷ rest) query audit some i) where
+        abbrev Later : List Place → Type 0
+        Later given = Shares (get_or some i 0 ∷ given)
 
-      told_here : IsFirst Later (option_map items found)
-      told_here =
-          subst (λ (s : List (Option Place)). IsFirst (ShareAt QueryHas AuditHas tables others (slice_set slots table (Some (get_or some i 0))) (slice_set s other (Some (get_or some i 0)))) (option_map items found)) same_other
-          (subst (λ (s : List (Option Place)). IsFirst (ShareAt QueryHas AuditHas tables others (slice_set s table (Some (get_or some i 0))) (slice_set other_now other (Some (get_or some i 0)))) (option_map items found)) same_now told)
+        abbrev items : Vec ℕ Global → List Place
+        items places = places.items
 
-      pub first-made : i < length some → ((k : ℕ) → k < i → (given : List Place) → ¬ Shares (get_or some k 0 ∷ given)) → (value : V) → found ≡ Some value → (made : List Place) → made ≡ get_or some i 0 ∷ items value → AreFirst Shares made
-      first-made within so_far value at made pushed =
-          let first : IsFirst Later (Some (items value)) = subst (λ (o : Option V). IsFirst Later (option_map items o)) at told_here in
-          subst (λ (m : List Place). AreFirst Shares m) (sym pushed) (first-tried i within so_far (items value) first)
+        told_here : IsFirst Later (option_map items found)
+        told_here =
+            subst (λ (slots : Slots). IsFirst (Shared choices sides rest (slice_set query steps.query.now.table (Some (get_or some i 0))) (slice_set slots steps.audit.now.table (Some (get_or some i 0)))) (option_map items found)) same_audit
+            (subst (λ (slots : Slots). IsFirst (Shared choices sides rest (slice_set slots steps.query.now.table (Some (get_or some i 0))) (slice_set audit_now steps.audit.now.table (Some (get_or some i 0)))) (option_map items found)) same_query told)
 
-      pub none-made : found ≡ None → (given : List Place) → ¬ Shares (get_or some i 0 ∷ given)
-      none-made at = let none : IsFirst Later None = subst (λ (o : Option V). IsFirst Later (option_map items o)) at told_here in none
+        pub first-made : (query_after audit_after : Slots) → query_after ≡ query_now → audit_after ≡ audit_now → i < length some → (value : Vec ℕ Global) → found ≡ Some value → (made : Vec ℕ Global) → items made ≡ get_or some i 0 ∷ items value
+            → FindsFirst choices sides common query audit query_after audit_after (Ok (Some made))
+        first-made query_after audit_after query_kept audit_kept within value at made pushed =
+            let first : IsFirst Later (Some (items value)) = subst (λ (o : Option (Vec ℕ Global)). IsFirst Later (option_map items o)) at told_here in
+            let here : AreFirst Shares (items made) = subst (λ (m : List Place). AreFirst Shares m) (sym pushed) (first-tried i within so_far (items value) first) in
+            record {
+              same_query = query_kept ∙ same_query;
+              same_audit = audit_kept ∙ same_audit;
+              first = subst (λ (left : List CommonSteps). AreFirst (Shared choices sides left query audit) (items made)) (sym split) here;
+            }
 
--- the common tables that are left, by the first and the others
-module _ {X : Type 0} (f g : X → Place) where
-  pub length-maps : (xs : List X) → length (map f xs) ≡ length (map g xs)
-  length-maps [] = refl
-  length-maps (x ∷ xs) = ap suc (length-maps xs)
+        pub none-more : found ≡ None → NoneSoFar choices sides (steps ∷ rest) query audit some (i + 1)
+        none-more at k lower given share =
+            let none : IsFirst Later None = subst (λ (o : Option (Vec ℕ Global)). IsFirst Later (option_map items o)) at told_here in
+            elim (below_or_at k i lower) as (λ _. ⊥) [
+              | inl earlier ↦ so_far k earlier given share
+              | inr here ↦ none given (subst (λ (j : ℕ). Shares (get_or some j 0 ∷ given)) here share)
+            ]
 
-  pub open-first : (xs : List X) (x : X) (rest : List X) (slots : List (Option Place)) → AreOpen (map f xs) slots → xs ≡ x ∷ rest → AreOpen (f x ∷ map f rest) slots
-  open-first xs x rest slots free is = let P : List X → Type 0 = λ l. AreOpen (map f l) slots in subst P is free
-
-  pub no-tables : (P : List Place → List Place → Type 0) (xs : List X) → length xs ≡ 0 → P [] [] → P (map f xs) (map g xs)
-  no-tables P [] none p = p
-  no-tables P (x ∷ xs) none p = absurd (omega arith)
-
-  pub by-first : (P : List Place → List Place → Type 0) (xs : List X) (x : X) (rest : List X) → xs ≡ x ∷ rest → P (f x ∷ map f rest) (g x ∷ map g rest) → P (map f xs) (map g xs)
-  by-first P xs x rest is p = let Q : List X → Type 0 = λ l. P (map f l) (map g l) in subst Q (sym is) p
+  -- what is found where no table is left
+  pub none-left : (common : List CommonSteps) (query audit query_after audit_after : Slots) (result : Result (Option (Vec ℕ Global)) Memory) → length common ≡ 0
+      → FindsFirst choices sides [] query audit query_after audit_after result → FindsFirst choices sides common query audit query_after audit_after result
+  none-left [] query audit query_after audit_after result none finds = finds
+  none-left (steps ∷ common) query audit query_after audit_after result none finds = absurd (omega arith)
 
 -- a slot that was open is open again
-pub open-again : (slots : List (Option Place)) (table : Place) → slice_get slots table ≡ Some None → slice_set slots table None ≡ slots
+open-again : (slots : List (Option Place)) (table : Place) → slice_get slots table ≡ Some None → slice_set slots table None ≡ slots
 open-again [] table at = refl
 open-again (slot ∷ slots) zero at = ap (λ (s : Option Place). s ∷ slots) (sym (some_is at))
   where
     some_is : {A : Type 0} {a b : A} → Some a ≡ Some b → a ≡ b
     some_is e = cc
 open-again (slot ∷ slots) (suc table) at = ap (λ (l : List (Option Place)). slot ∷ l) (open-again slots table at)
+
+-- a row that was chosen is not chosen any more
+pub reset : (slots now : Slots) (table place : Place) → slice_get slots table ≡ Some None → now ≡ slice_set slots table (Some place) → slice_set now table None ≡ slots
+reset slots now table place free is = ap (λ (s : Slots). slice_set s table None) is ∙ set-set slots table (Some place) None ∙ open-again slots table free
 
 -- ---- the beginning of the search
 pub whole-steps : (choices : Choices) (query : Masked) (sets : List KeyedRows) (order listed : List Place) (steps here : List Step) (n : ℕ) → AreSteps choices query sets order steps → here ≡ steps → order ≡ listed → ((table : Place) → table < n → Contains listed table) → n ≡ length sets

@@ -19,7 +19,8 @@ use Rattle.hippo_join.specs.Existence.{are_shown, HasOne}
 use Rattle.hippo_join.proofs.SlotLemmas.{Fits-open, length-in_range}
 use Rattle.hippo_shared.specs.Sharing.{common_tables, place_in, rows_named, HaveSameRows, has_tuple, query_has, audit_has, first_shared}
 use Rattle.hippo_shared.specs.Tuples.{tuple_at}
-use Rattle.hippo_shared.specs.FirstPlaces.{AreOpen, ShareAt, IsFirst}
+use Rattle.hippo_shared.specs.FirstPlaces.{ShareAt, IsFirst}
+use Rattle.hippo_shared.specs.Searching.{AreCommon}
 use Rattle.hippo_shared.proofs.CommonLemmas.{place-found, common-in-query, common-in-audit, common-distinct, common-open}
 use Rattle.hippo_shared.proofs.FirstLemmas.{find-map, find-first, find-none, first-holds}
 use Rattle.hippo_shared.proofs.SideLemmas.{one-of-product, any-of-product, with_rows, share-both, both-share, one-agrees, agrees-one, counts-parts, parts-counted, unmasked_query, passes-unmasked}
@@ -177,17 +178,21 @@ module _ (choices : Choices) (query : Masked) (audit : Audit) (seen : List Expr)
   shared-is found first =
       sym (ap (find shares) (tuples-by-places audit.tables audit_sets common in_audit) ∙ find-map shares shared_at (places_of common_sets) ∙ ap (option_map shared_at) (found_is found first))
 
-  pub open-query : (items : List Place) → items ≡ query_places → AreOpen items (replicate (length query_sets) None)
-  open-query items is = subst (λ (l : List Place). AreOpen l (replicate {A = Option Place} (length query_sets) None)) (sym is) (common-open query.tables common (length query_sets) apart in_query (sym long_query))
+  -- the places of the common tables, in what a search wants
+  pub common-served : (items others : List Place) → items ≡ query_places → others ≡ audit_places → AreCommon (length query_sets) (length audit_sets) items others
+  common-served items others is other_is =
+      let here : AreCommon (length query_sets) (length audit_sets) query_places audit_places = record {
+        query_open = common-open query.tables common (length query_sets) apart in_query (sym long_query);
+        audit_open = common-open audit.tables common (length audit_sets) apart in_audit (sym long_audit);
+        query_below = all_places query.tables (length query_sets) (sym long_query) common in_query;
+        audit_below = all_places audit.tables (length audit_sets) (sym long_audit) common in_audit;
+        same = length_map (place_in query.tables) common ∙ sym (length_map (place_in audit.tables) common);
+      } in
+      subst (λ (l : List Place). AreCommon (length query_sets) (length audit_sets) l others) (sym is)
+      (subst (λ (l : List Place). AreCommon (length query_sets) (length audit_sets) query_places l) (sym other_is) here)
 
-  pub open-audit : (items : List Place) → items ≡ audit_places → AreOpen items (replicate (length audit_sets) None)
-  open-audit items is = subst (λ (l : List Place). AreOpen l (replicate {A = Option Place} (length audit_sets) None)) (sym is) (common-open audit.tables common (length audit_sets) apart in_audit (sym long_audit))
-
-  pub below-query : (items : List Place) → items ≡ query_places → All (λ place. place < length query_sets) items
-  below-query items is = subst (λ (l : List Place). All (λ place. place < length query_sets) l) (sym is) (all_places query.tables (length query_sets) (sym long_query) common in_query)
-
-  pub below-audit : (items : List Place) → items ≡ audit_places → All (λ place. place < length audit_sets) items
-  below-audit items is = subst (λ (l : List Place). All (λ place. place < length audit_sets) l) (sym is) (all_places audit.tables (length audit_sets) (sym long_audit) common in_audit)
+  pub below-sets : (items : List Place) → items ≡ audit_places → All (λ place. place < length audit_sets) items
+  below-sets items is = subst (λ (l : List Place). All (λ place. place < length audit_sets) l) (sym is) (common-served query_places audit_places refl refl).audit_below
 
   pub below-names : (items : List Place) (names : List Name) → items ≡ audit_places → names ≡ audit.tables → All (λ place. place < length names) items
   below-names items names is same_names =

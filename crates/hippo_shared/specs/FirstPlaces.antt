@@ -24,7 +24,8 @@ ShareAt query_has audit_has [] (other ∷ others) query audit places = ⊥
 ShareAt query_has audit_has (table ∷ tables) [] query audit places = ⊥
 ShareAt query_has audit_has (table ∷ tables) (other ∷ others) query audit [] = ⊥
 ShareAt query_has audit_has (table ∷ tables) (other ∷ others) query audit (place ∷ places) =
-    ShareAt query_has audit_has tables others (slice_set query table (Some place)) (slice_set audit other (Some place)) places
+    ShareAt query_has audit_has tables others (slice_set query table (Some place)) (slice_set audit other (Some place))
+    places
 
 -- places with which something holds, and with none before them
 abbrev pub AreFirst : (List Place → Type 0) → List Place → Type 0

@@ -25,7 +25,7 @@ TuplesAreThoseOfHistory =
     → virtual_tuples audit.tables (sets_at history audit.tables) (common_tables query.tables audit.tables)
     ≡ tuples_at history (common query audit)
 
--- an audit needs a tuple of rows of its tables exactly where its condition is true of some combination that has the tuple
+-- an audit needs a tuple of rows of its tables exactly where its condition is true of some combination that has it
 abbrev pub AuditNeedsWhatItHas : Type 0
 AuditNeedsWhatItHas =
     (history : History) (audit : Audit) (tuple : List SharedRow)

@@ -1,4 +1,5 @@
 pub mod Sharing
 pub mod FirstPlaces
+pub mod Searching
 pub mod Tuples
 pub mod HistoryLaws

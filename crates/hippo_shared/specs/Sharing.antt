@@ -1,5 +1,5 @@
--- The first rows that a query and an audit share, over the rows of their tables (after the indispensable tuples of Agrawal
--- and others, Auditing Compliance with a Hippocratic Database, VLDB 2004).
+-- The first rows that a query and an audit share, over the rows of their tables (after the indispensable tuples of
+-- Agrawal and others, Auditing Compliance with a Hippocratic Database, VLDB 2004).
 use Rattle.std.specs.Prelude.{◌≡◌, Bool, ◌&&◌, List, [], map, filter, find, Option, slice_index_or, bytes_eq}
 use Rattle.std.specs.List.{All, list_any, list_all, position_or_len}
 use Rattle.hippo_values.specs.declared.names.Name.{Name}
@@ -50,9 +50,11 @@ key_at tables sets rows table =
 
 -- whether a combination's rows have exactly the keys of a virtual tuple
 abbrev pub has_tuple : List Name → List KeyedRows → List SharedRow → Combination → Bool
-has_tuple tables sets tuple rows = list_all (λ shared. same_cells (key_at tables sets rows shared.table) shared.key) tuple
+has_tuple tables sets tuple rows =
+    list_all (λ shared. same_cells (key_at tables sets rows shared.table) shared.key) tuple
 
--- whether some combination of a query's rows has the tuple and makes a row of its answer, with all shown that is to be seen
+-- whether some combination of a query's rows has the tuple and makes a row of its answer, with all shown that is to be
+-- seen
 abbrev pub query_has : Choices → Masked → List Expr → List KeyedRows → List SharedRow → Bool
 query_has choices query seen sets tuple =
     let counts : Combination → Bool = λ rows.
@@ -62,10 +64,12 @@ query_has choices query seen sets tuple =
 -- whether an audit's condition is true of some combination of unmasked rows that has the tuple
 abbrev pub audit_has : Audit → List KeyedRows → List SharedRow → Bool
 audit_has audit sets tuple =
-    list_any (λ rows. has_tuple audit.tables sets tuple rows && passes audit.cond (all_shown rows)) (product (rows_of sets))
+    list_any (λ rows. has_tuple audit.tables sets tuple rows && passes audit.cond (all_shown rows))
+    (product (rows_of sets))
 
 -- the first virtual tuple that a combination of each side has
-abbrev pub first_shared : Choices → Masked → Audit → List Expr → List KeyedRows → List KeyedRows → Option (List SharedRow)
+abbrev pub first_shared :
+    Choices → Masked → Audit → List Expr → List KeyedRows → List KeyedRows → Option (List SharedRow)
 first_shared choices query audit seen query_sets audit_sets =
     find (λ tuple. query_has choices query seen query_sets tuple && audit_has audit audit_sets tuple)
     (virtual_tuples audit.tables audit_sets (common_tables query.tables audit.tables))

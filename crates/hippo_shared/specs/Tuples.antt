@@ -16,4 +16,5 @@ row_shared names sets table place =
 abbrev pub tuple_at : List Name → List KeyedRows → List Place → List Place → List SharedRow
 tuple_at names sets [] places = []
 tuple_at names sets (table ∷ tables) [] = []
-tuple_at names sets (table ∷ tables) (place ∷ places) = row_shared names sets table place ∷ tuple_at names sets tables places
+tuple_at names sets (table ∷ tables) (place ∷ places) =
+    row_shared names sets table place ∷ tuple_at names sets tables places

@@ -42,8 +42,10 @@ pub(crate) fn common_places(
     query: &[Name],
     audit: &[Name],
 ) -> Result<CommonPlaces, Memory>
-    ensures query { IfOk result (λ common. common.query.items ≡ map (place_in query.now) (common_tables query.now audit.now)) }
-    ensures audit { IfOk result (λ common. common.audit.items ≡ map (place_in audit.now) (common_tables query.now audit.now)) }
+    ensures query { IfOk result (λ common.
+        common.query.items ≡ map (place_in query.now) (common_tables query.now audit.now)) }
+    ensures audit { IfOk result (λ common.
+        common.audit.items ≡ map (place_in audit.now) (common_tables query.now audit.now)) }
 {
     let mut query_places = Vec::new(alloc);
     let mut audit_places = Vec::new(alloc);
@@ -101,7 +103,8 @@ pub(crate) fn order_from<C: ChoiceView>(
 ) -> Result<Vec<usize>, Memory>
     requires { All (λ table. table < length side.now.sets.now) first.now }
     ensures below { IfOk result (λ order. All (λ table. table < length side.now.sets.now) order.items) }
-    ensures whole { IfOk result (λ order. (table : Place) → table < length side.now.sets.now → Contains order.items table) }
+    ensures whole { IfOk result (λ order.
+        (table : Place) → table < length side.now.sets.now → Contains order.items table) }
     ensures front { IfOk result (λ order. take (length first.now) order.items ≡ first.now) }
 {
     let sizes = sizes_of(alloc, side.sets)?;

@@ -1,11 +1,8 @@
 //! The first places of the common tables' rows with which both sides have a combination.
-ghost use Rattle.std.specs.Prelude.{◌≡◌, [], ◌∷◌, ◌<◌, ◌≤◌, None, Some, List, Option, OnOk, IfOk, length, map, option_map, replicate, slice_set, take, true, ◌⊎◌};
-ghost use Rattle.std.specs.List.{All, Contains};
+ghost use Rattle.std.specs.Prelude.{◌≡◌, [], ◌∷◌, Some, OnOk, IfOk, length, option_map, slice_set, true, ◌⊎◌};
 ghost use Rattle.std.specs.List.Sorted.{IsNonDecreasing, IsPermutation};
-ghost use Rattle.hippo_model.specs.Terms.{Place};
-ghost use Rattle.hippo_join.specs.Existence.{HasOne};
-ghost use Rattle.hippo_join.specs.Steps.{IsStep, ReachesFrom};
-ghost use Rattle.hippo_shared.specs.FirstPlaces.{AreOpen, AreWhole, ShareAt, IsFirst};
+ghost use Rattle.hippo_shared.specs.FirstPlaces.{IsFirst};
+ghost use Rattle.hippo_shared.specs.Searching.{AreCommon, FindsFirst, HasOneOf, IsReady, IsStepOf, ReachesOf, Shared, SharedPlaces};
 
 use crate::commons::{CommonPlaces, CommonSteps, common_steps, order_from};
 use hippo_join::{Side, Step, open_slots};
@@ -58,14 +55,12 @@ impl<'a, C: ChoiceView> Search<'a, C> {
         query: &[Option<usize>],
         audit: &[Option<usize>],
     ) -> Result<Vec<usize>, Memory>
-        requires query { IsStep (C.choices self.now.query.now.choices.now) self.now.query.now.query.now self.now.query.now.sets.now steps.now.query.now }
-        requires audit { IsStep (C.choices self.now.audit.now.choices.now) self.now.audit.now.query.now self.now.audit.now.sets.now steps.now.audit.now }
+        requires query { IsStepOf C.choices self.now.query.now steps.now.query.now }
+        requires audit { IsStepOf C.choices self.now.audit.now steps.now.audit.now }
         ensures order { IfOk result (λ places. IsNonDecreasing places.items) }
         ensures reach { IfOk result (λ places.
-            ReachesFrom (C.choices self.now.query.now.choices.now) self.now.query.now.query.now self.now.query.now.sets.now
-            query.now steps.now.query.now.table places.items
-            ⊎ ReachesFrom (C.choices self.now.audit.now.choices.now) self.now.audit.now.query.now self.now.audit.now.sets.now
-            audit.now steps.now.audit.now.table places.items) }
+            ReachesOf C.choices self.now.query.now steps.now.query.now query.now places.items
+            ⊎ ReachesOf C.choices self.now.audit.now steps.now.audit.now audit.now places.items) }
     {
         let places = self.query.places_of(steps.query, query);
         let others = self.audit.places_of(steps.audit, audit);
@@ -80,10 +75,8 @@ impl<'a, C: ChoiceView> Search<'a, C> {
         query: &[Option<usize>],
         audit: &[Option<usize>],
     ) -> Result<bool, Memory>
-        ensures { IfOk result (λ may.
-            HasOne (C.choices self.now.query.now.choices.now) self.now.query.now.query.now self.now.seen.now self.now.query.now.sets.now query.now
-            → HasOne (C.choices self.now.audit.now.choices.now) self.now.audit.now.query.now [] self.now.audit.now.sets.now audit.now
-            → may ≡ true) }
+        ensures { IfOk result (λ may. HasOneOf C.choices self.now.query.now self.now.seen.now query.now
+            → HasOneOf C.choices self.now.audit.now [] audit.now → may ≡ true) }
     {
         Ok(
             self.query.may_count(alloc, &steps.query.tests, query)?
@@ -98,23 +91,16 @@ impl<'a, C: ChoiceView> Search<'a, C> {
         query: &mut [Option<usize>],
         audit: &mut [Option<usize>],
     ) -> Result<Option<Vec<usize>>, Memory>
-        requires query_steps { AreWhole (C.choices self.now.query.now.choices.now) self.now.query.now.query.now self.now.query.now.sets.now self.now.query_steps.now }
-        requires audit_steps { AreWhole (C.choices self.now.audit.now.choices.now) self.now.audit.now.query.now self.now.audit.now.sets.now self.now.audit_steps.now }
-        requires query { length query.old ≡ length self.now.query.now.sets.now }
-        requires audit { length audit.old ≡ length self.now.audit.now.sets.now }
-        ensures query { OnOk result (query.new ≡ query.old) }
-        ensures audit { OnOk result (audit.new ≡ audit.old) }
-        ensures first { IfOk result (λ found. IsFirst (ShareAt
-            (HasOne (C.choices self.now.query.now.choices.now) self.now.query.now.query.now self.now.seen.now self.now.query.now.sets.now)
-            (HasOne (C.choices self.now.audit.now.choices.now) self.now.audit.now.query.now [] self.now.audit.now.sets.now)
-            [] [] query.old audit.old) (option_map (λ places. places.items) found)) }
+        requires { IsReady C.choices self.now [] query.old audit.old }
+        ensures { FindsFirst C.choices self.now [] query.old audit.old query.new audit.new result }
     {
         let shares = self.query.has(alloc, self.query_steps, self.seen, query)?
             && self.audit.has(alloc, self.audit_steps, &[], audit)?;
         Ok(if shares { Some(Vec::new(alloc)) } else { None })
     }
 
-    // The first places of the common tables that are left, behind a place of a step's table.
+    // The first places of the common tables that are left, behind a place of a step's table: none if the tests of two
+    // steps allow none.
     #[cycle(first)]
     fn first_behind(
         &self,
@@ -125,62 +111,23 @@ impl<'a, C: ChoiceView> Search<'a, C> {
         query: &mut [Option<usize>],
         audit: &mut [Option<usize>],
     ) -> Result<Option<Vec<usize>>, Memory>
-        requires query_steps { AreWhole (C.choices self.now.query.now.choices.now) self.now.query.now.query.now self.now.query.now.sets.now self.now.query_steps.now }
-        requires audit_steps { AreWhole (C.choices self.now.audit.now.choices.now) self.now.audit.now.query.now self.now.audit.now.sets.now self.now.audit_steps.now }
-        requires query_rest { All (IsStep (C.choices self.now.query.now.choices.now) self.now.query.now.query.now self.now.query.now.sets.now) (map (λ common. common.query.now) rest.now) }
-        requires audit_rest { All (IsStep (C.choices self.now.audit.now.choices.now) self.now.audit.now.query.now self.now.audit.now.sets.now) (map (λ common. common.audit.now) rest.now) }
-        requires query { length query.old ≡ length self.now.query.now.sets.now }
-        requires audit { length audit.old ≡ length self.now.audit.now.sets.now }
-        requires query_open { AreOpen (map (λ common. common.query.now.table) (steps.now ∷ rest.now)) query.old }
-        requires audit_open { AreOpen (map (λ common. common.audit.now.table) (steps.now ∷ rest.now)) audit.old }
+        requires { IsReady C.choices self.now (steps.now ∷ rest.now) query.old audit.old }
         ensures query { OnOk result (query.new ≡ query.old) }
         ensures audit { OnOk result (audit.new ≡ audit.old) }
-        ensures first { IfOk result (λ found. IsFirst (ShareAt
-            (HasOne (C.choices self.now.query.now.choices.now) self.now.query.now.query.now self.now.seen.now self.now.query.now.sets.now)
-            (HasOne (C.choices self.now.audit.now.choices.now) self.now.audit.now.query.now [] self.now.audit.now.sets.now)
-            (map (λ common. common.query.now.table) rest.now) (map (λ common. common.audit.now.table) rest.now)
-            (slice_set query.old steps.now.query.now.table (Some place)) (slice_set audit.old steps.now.audit.now.table (Some place)))
-            (option_map (λ places. places.items) found)) }
+        ensures first { IfOk result (λ found. IsFirst (Shared C.choices self.now rest.now
+            (slice_set query.old steps.now.query.now.table (Some place))
+            (slice_set audit.old steps.now.audit.now.table (Some place))) (option_map (λ places. places.items) found)) }
     {
         query[steps.query.table] = Some(place);
         audit[steps.audit.table] = Some(place);
-        let found = self.first_where(alloc, steps, rest, query, audit)?;
+        let found = if self.may_share(alloc, steps, query, audit)? {
+            self.first(alloc, rest, query, audit)?
+        } else {
+            None
+        };
         query[steps.query.table] = None;
         audit[steps.audit.table] = None;
         Ok(found)
-    }
-
-    // The first places of the common tables that are left, if the tests of two steps allow any.
-    #[cycle(first)]
-    fn first_where(
-        &self,
-        alloc: Global,
-        steps: &CommonSteps<'_>,
-        rest: &[CommonSteps<'_>],
-        query: &mut [Option<usize>],
-        audit: &mut [Option<usize>],
-    ) -> Result<Option<Vec<usize>>, Memory>
-        requires query_steps { AreWhole (C.choices self.now.query.now.choices.now) self.now.query.now.query.now self.now.query.now.sets.now self.now.query_steps.now }
-        requires audit_steps { AreWhole (C.choices self.now.audit.now.choices.now) self.now.audit.now.query.now self.now.audit.now.sets.now self.now.audit_steps.now }
-        requires query_rest { All (IsStep (C.choices self.now.query.now.choices.now) self.now.query.now.query.now self.now.query.now.sets.now) (map (λ common. common.query.now) rest.now) }
-        requires audit_rest { All (IsStep (C.choices self.now.audit.now.choices.now) self.now.audit.now.query.now self.now.audit.now.sets.now) (map (λ common. common.audit.now) rest.now) }
-        requires query { length query.old ≡ length self.now.query.now.sets.now }
-        requires audit { length audit.old ≡ length self.now.audit.now.sets.now }
-        requires query_open { AreOpen (map (λ common. common.query.now.table) rest.now) query.old }
-        requires audit_open { AreOpen (map (λ common. common.audit.now.table) rest.now) audit.old }
-        ensures query { OnOk result (query.new ≡ query.old) }
-        ensures audit { OnOk result (audit.new ≡ audit.old) }
-        ensures first { IfOk result (λ found. IsFirst (ShareAt
-            (HasOne (C.choices self.now.query.now.choices.now) self.now.query.now.query.now self.now.seen.now self.now.query.now.sets.now)
-            (HasOne (C.choices self.now.audit.now.choices.now) self.now.audit.now.query.now [] self.now.audit.now.sets.now)
-            (map (λ common. common.query.now.table) rest.now) (map (λ common. common.audit.now.table) rest.now) query.old audit.old)
-            (option_map (λ places. places.items) found)) }
-    {
-        if self.may_share(alloc, steps, query, audit)? {
-            self.first(alloc, rest, query, audit)
-        } else {
-            Ok(None)
-        }
     }
 
     // The first places of the common tables that are left, in the order of the tables; with the rows that are chosen.
@@ -192,21 +139,8 @@ impl<'a, C: ChoiceView> Search<'a, C> {
         query: &mut [Option<usize>],
         audit: &mut [Option<usize>],
     ) -> Result<Option<Vec<usize>>, Memory>
-        requires query_steps { AreWhole (C.choices self.now.query.now.choices.now) self.now.query.now.query.now self.now.query.now.sets.now self.now.query_steps.now }
-        requires audit_steps { AreWhole (C.choices self.now.audit.now.choices.now) self.now.audit.now.query.now self.now.audit.now.sets.now self.now.audit_steps.now }
-        requires query_common { All (IsStep (C.choices self.now.query.now.choices.now) self.now.query.now.query.now self.now.query.now.sets.now) (map (λ steps. steps.query.now) common.now) }
-        requires audit_common { All (IsStep (C.choices self.now.audit.now.choices.now) self.now.audit.now.query.now self.now.audit.now.sets.now) (map (λ steps. steps.audit.now) common.now) }
-        requires query { length query.old ≡ length self.now.query.now.sets.now }
-        requires audit { length audit.old ≡ length self.now.audit.now.sets.now }
-        requires query_open { AreOpen (map (λ steps. steps.query.now.table) common.now) query.old }
-        requires audit_open { AreOpen (map (λ steps. steps.audit.now.table) common.now) audit.old }
-        ensures query { OnOk result (query.new ≡ query.old) }
-        ensures audit { OnOk result (audit.new ≡ audit.old) }
-        ensures first { IfOk result (λ found. IsFirst (ShareAt
-            (HasOne (C.choices self.now.query.now.choices.now) self.now.query.now.query.now self.now.seen.now self.now.query.now.sets.now)
-            (HasOne (C.choices self.now.audit.now.choices.now) self.now.audit.now.query.now [] self.now.audit.now.sets.now)
-            (map (λ steps. steps.query.now.table) common.now) (map (λ steps. steps.audit.now.table) common.now) query.old audit.old)
-            (option_map (λ places. places.items) found)) }
+        requires { IsReady C.choices self.now common.now query.old audit.old }
+        ensures { FindsFirst C.choices self.now common.now query.old audit.old query.new audit.new result }
     {
         let Some((steps, rest)) = common.split_first() else {
             return self.first_of_none(alloc, query, audit);
@@ -229,17 +163,10 @@ pub(crate) fn first_places<C: ChoiceView>(
     seen: &[Expr],
     common: &CommonPlaces,
 ) -> Result<Option<Vec<usize>>, Memory>
-    requires query { AreOpen common.now.query.items (replicate (length query.now.sets.now) None) }
-    requires audit { AreOpen common.now.audit.items (replicate (length audit.now.sets.now) None) }
-    requires query_below { All (λ table. table < length query.now.sets.now) common.now.query.items }
-    requires audit_below { All (λ table. table < length audit.now.sets.now) common.now.audit.items }
-    requires same { length common.now.query.items ≡ length common.now.audit.items }
-    ensures { IfOk result (λ found. IsFirst (ShareAt
-        (HasOne (C.choices query.now.choices.now) query.now.query.now seen.now query.now.sets.now)
-        (HasOne (C.choices audit.now.choices.now) audit.now.query.now [] audit.now.sets.now)
-        common.now.query.items common.now.audit.items
-        (replicate (length query.now.sets.now) None) (replicate (length audit.now.sets.now) None))
-        (option_map (λ places. places.items) found)) }
+    requires { AreCommon (length query.now.sets.now) (length audit.now.sets.now)
+        common.now.query.items common.now.audit.items }
+    ensures { IfOk result (λ found. IsFirst (SharedPlaces C.choices query.now audit.now seen.now
+        common.now.query.items common.now.audit.items) (option_map (λ places. places.items) found)) }
 {
     let query_order = order_from(alloc, query, &common.query)?;
     let audit_order = order_from(alloc, audit, &common.audit)?;

@@ -16,7 +16,8 @@ use std::alloc::Global;
 
 // An audit's condition as that of a query without guards.
 fn unmasked_query(alloc: Global, audit: &Audit) -> Result<Masked, Memory>
-    ensures { IfOk result (λ query. query ≡ record { items = []; tables = []; guards = []; cond = unmasked_condition audit.now.cond }) }
+    ensures { IfOk result (λ query.
+        query ≡ record { items = []; tables = []; guards = []; cond = unmasked_condition audit.now.cond }) }
 {
     Ok(Masked {
         items: Sequence::new(alloc),
@@ -35,11 +36,12 @@ fn know_order(sets: &Sets<'_>)
     }
 }
 
-/// The first virtual tuple (a row of each table in both FROM lists, by its key; in the audit's order) that some combination
-/// of the query's rows has which makes a row of its answer and in which each expression of `seen` is a shown cell, and that
-/// some combination of the audit's rows has of which its condition is true; none exactly where there is none. Wants the rows
-/// of each side's tables, in the order of FROM, the same ones of a table that both have; and an audit that names no table
-/// twice. Takes time in proportion to the tables and to what matches on the way to the first tuple.
+/// The first virtual tuple (a row of each table in both FROM lists, by its key; in the audit's order) that some
+/// combination of the query's rows has which makes a row of its answer and in which each expression of `seen` is a
+/// shown cell, and that some combination of the audit's rows has of which its condition is true; none exactly where
+/// there is none. Wants the rows of each side's tables, in the order of FROM, the same ones of a table that both have;
+/// and an audit that names no table twice. Takes time in proportion to the tables and to what matches on the way to the
+/// first tuple.
 pub fn first_shared<C: ChoiceView>(
     alloc: Global,
     query: &Masked,

@@ -2,24 +2,15 @@
 use Rattle.std.proofs.Common.{ℕ, map, length, sym, ap, ◌∙◌, Vec, Global}
 use Rattle.hippo_shared.specs.Sharing.{common_tables, place_in}
 use Rattle.hippo_shared.specs.Tuples.{tuple_at}
-use Rattle.hippo_shared.proofs.SharedTheorem.{open-query, open-audit, below-query, below-audit, below-names, found-long, some-shared, none-shared}
+use Rattle.hippo_shared.proofs.SharedTheorem.{common-served, below-sets, below-names, found-long, some-shared, none-shared}
 use Rattle.hippo_shared.proofs.sharing.first_shared.Goals as goal
 
-pub first_places-requires-clause-query : goal.first_places-requires-clause-query
-first_places-requires-clause-query g c =
-    open-query (g.C.ChoiceView.choices c.args.choices.now) c.args.query.now c.args.audit.now c.args.seen.now c.args.query_sets.now c.args.audit_sets.now c.requires.query_sets c.requires.audit_sets c.requires.tables c.requires.rows c.know_order.ensures c.in_ok-common.common.query.items (c.in_ok-common.ensures.query ∙ (λ i. map (place_in (c.as_slice.ensures i)) (common_tables (c.as_slice.ensures i) (c.as_slice-2.ensures i))))
-
-pub first_places-requires-clause-audit : goal.first_places-requires-clause-audit
-first_places-requires-clause-audit g c =
-    open-audit (g.C.ChoiceView.choices c.args.choices.now) c.args.query.now c.args.audit.now c.args.seen.now c.args.query_sets.now c.args.audit_sets.now c.requires.query_sets c.requires.audit_sets c.requires.tables c.requires.rows c.know_order.ensures c.in_ok-common.common.audit.items (c.in_ok-common.ensures.audit ∙ (λ i. map (place_in (c.as_slice-2.ensures i)) (common_tables (c.as_slice.ensures i) (c.as_slice-2.ensures i))))
-
-pub first_places-requires-clause-query_below : goal.first_places-requires-clause-query_below
-first_places-requires-clause-query_below g c =
-    below-query (g.C.ChoiceView.choices c.args.choices.now) c.args.query.now c.args.audit.now c.args.seen.now c.args.query_sets.now c.args.audit_sets.now c.requires.query_sets c.requires.audit_sets c.requires.tables c.requires.rows c.know_order.ensures c.in_ok-common.common.query.items (c.in_ok-common.ensures.query ∙ (λ i. map (place_in (c.as_slice.ensures i)) (common_tables (c.as_slice.ensures i) (c.as_slice-2.ensures i))))
-
-pub first_places-requires-clause-audit_below : goal.first_places-requires-clause-audit_below
-first_places-requires-clause-audit_below g c =
-    below-audit (g.C.ChoiceView.choices c.args.choices.now) c.args.query.now c.args.audit.now c.args.seen.now c.args.query_sets.now c.args.audit_sets.now c.requires.query_sets c.requires.audit_sets c.requires.tables c.requires.rows c.know_order.ensures c.in_ok-common.common.audit.items (c.in_ok-common.ensures.audit ∙ (λ i. map (place_in (c.as_slice-2.ensures i)) (common_tables (c.as_slice.ensures i) (c.as_slice-2.ensures i))))
+pub first_places-requires : goal.first_places-requires
+first_places-requires g c =
+    common-served (g.C.ChoiceView.choices c.args.choices.now) c.args.query.now c.args.audit.now c.args.seen.now c.args.query_sets.now c.args.audit_sets.now c.requires.query_sets c.requires.audit_sets c.requires.tables c.requires.rows c.know_order.ensures
+    c.in_ok-common.common.query.items c.in_ok-common.common.audit.items
+    (c.in_ok-common.ensures.query ∙ (λ i. map (place_in (c.as_slice.ensures i)) (common_tables (c.as_slice.ensures i) (c.as_slice-2.ensures i))))
+    (c.in_ok-common.ensures.audit ∙ (λ i. map (place_in (c.as_slice-2.ensures i)) (common_tables (c.as_slice.ensures i) (c.as_slice-2.ensures i))))
 
 pub tuple_at-requires-clause-names : goal.tuple_at-requires-clause-names
 tuple_at-requires-clause-names g c =
@@ -27,7 +18,7 @@ tuple_at-requires-clause-names g c =
 
 pub tuple_at-requires-clause-sets : goal.tuple_at-requires-clause-sets
 tuple_at-requires-clause-sets g c =
-    below-audit (g.C.ChoiceView.choices c.args.choices.now) c.args.query.now c.args.audit.now c.args.seen.now c.args.query_sets.now c.args.audit_sets.now c.requires.query_sets c.requires.audit_sets c.requires.tables c.requires.rows c.know_order.ensures c.deref.result.now (c.deref.ensures.value ∙ (c.in_ok-common.ensures.audit ∙ (λ i. map (place_in (c.as_slice-2.ensures i)) (common_tables (c.as_slice.ensures i) (c.as_slice-2.ensures i)))))
+    below-sets (g.C.ChoiceView.choices c.args.choices.now) c.args.query.now c.args.audit.now c.args.seen.now c.args.query_sets.now c.args.audit_sets.now c.requires.query_sets c.requires.audit_sets c.requires.tables c.requires.rows c.know_order.ensures c.deref.result.now (c.deref.ensures.value ∙ (c.in_ok-common.ensures.audit ∙ (λ i. map (place_in (c.as_slice-2.ensures i)) (common_tables (c.as_slice.ensures i) (c.as_slice-2.ensures i)))))
 
 pub tuple_at-requires-clause-places : goal.tuple_at-requires-clause-places
 tuple_at-requires-clause-places g c =

@@ -1,0 +1,82 @@
+-- The search for the first places of the common tables' rows: what it counts on, and what it finds.
+use Rattle.std.specs.Prelude.{◌≡◌, ℕ, ◌<◌, List, [], map, length, replicate, Option, None, Result, OnOk, IfOk, option_map}
+use Rattle.std.specs.List.{All}
+use Rattle.std.specs.Global.{Vec}
+use Rattle.hippo_values.specs.declared.memory.Memory.{Memory}
+use Rattle.hippo_model.specs.declared.query.Expr.{Expr}
+use Rattle.hippo_model.specs.Terms.{Place}
+use Rattle.hippo_model.specs.Masking.{Choices}
+use Rattle.hippo_join.specs.declared.sides.Side.{Side}
+use Rattle.hippo_join.specs.declared.steps.Step.{Step}
+use Rattle.hippo_join.specs.Existence.{HasOne}
+use Rattle.hippo_join.specs.Steps.{IsStep, ReachesFrom}
+use Rattle.hippo_shared.specs.declared.commons.CommonSteps.{CommonSteps}
+use Rattle.hippo_shared.specs.declared.searching.Search.{Search}
+use Rattle.hippo_shared.specs.FirstPlaces.{AreOpen, AreWhole, ShareAt, IsFirst}
+
+-- the row that is chosen of each of a side's tables
+abbrev pub Slots : Type 0
+Slots = List (Option Place)
+
+abbrev pub query_tables : List CommonSteps → List Place
+query_tables common = map (λ steps. steps.query.now.table) common
+
+abbrev pub audit_tables : List CommonSteps → List Place
+audit_tables common = map (λ steps. steps.audit.now.table) common
+
+abbrev pub IsStepOf : {C : Type 0} → (C → Choices) → Side C → Step → Type 0
+IsStepOf choices side step = IsStep (choices side.choices.now) side.query.now side.sets.now step
+
+-- steps of all of a side's tables
+abbrev pub AreWholeOf : {C : Type 0} → (C → Choices) → Side C → List Step → Type 0
+AreWholeOf choices side steps = AreWhole (choices side.choices.now) side.query.now side.sets.now steps
+
+-- a side has a combination with the rows that are chosen, in which all is shown that is to be seen
+abbrev pub HasOneOf : {C : Type 0} → (C → Choices) → Side C → List Expr → Slots → Type 0
+HasOneOf choices side seen slots = HasOne (choices side.choices.now) side.query.now seen side.sets.now slots
+
+-- some places have each place of a step's table in a combination that counts for a side
+abbrev pub ReachesOf : {C : Type 0} → (C → Choices) → Side C → Step → Slots → List Place → Type 0
+ReachesOf choices side step slots places =
+    ReachesFrom (choices side.choices.now) side.query.now side.sets.now slots step.table places
+
+-- with these places of the common tables that are left, both sides have a combination
+abbrev pub Shared : {C : Type 0} → (C → Choices) → Search C → List CommonSteps → Slots → Slots → List Place → Type 0
+Shared choices sides left query audit =
+    ShareAt (HasOneOf choices sides.query.now sides.seen.now) (HasOneOf choices sides.audit.now [])
+    (query_tables left) (audit_tables left) query audit
+
+-- each side has steps of all its tables, and the common tables that are left are open
+pub record IsReady {C : Type 0} (choices : C → Choices) (sides : Search C) (left : List CommonSteps)
+    (query audit : Slots) : Type 0 where
+  pub query_steps : AreWholeOf choices sides.query.now sides.query_steps.now
+  pub audit_steps : AreWholeOf choices sides.audit.now sides.audit_steps.now
+  pub query_left : All (IsStepOf choices sides.query.now) (map (λ steps. steps.query.now) left)
+  pub audit_left : All (IsStepOf choices sides.audit.now) (map (λ steps. steps.audit.now) left)
+  pub query_long : length query ≡ length sides.query.now.sets.now
+  pub audit_long : length audit ≡ length sides.audit.now.sets.now
+  pub query_open : AreOpen (query_tables left) query
+  pub audit_open : AreOpen (audit_tables left) audit
+
+-- the first places of the common tables that are left are found, and the slots are as they were
+pub record FindsFirst {C : Type 0} (choices : C → Choices) (sides : Search C) (left : List CommonSteps)
+    (query audit query_after audit_after : Slots) (result : Result (Option (Vec ℕ)) Memory) : Type 0 where
+  pub same_query : OnOk result (query_after ≡ query)
+  pub same_audit : OnOk result (audit_after ≡ audit)
+  pub first : IfOk result (λ found.
+      IsFirst (Shared choices sides left query audit) (option_map (λ places. places.items) found))
+
+-- with these places of some tables of each side, where no row is chosen, both sides have a combination
+abbrev pub SharedPlaces : {C : Type 0} → (C → Choices) → Side C → Side C → List Expr → List Place → List Place
+    → List Place → Type 0
+SharedPlaces choices query audit seen tables others =
+    ShareAt (HasOneOf choices query seen) (HasOneOf choices audit []) tables others
+    (replicate (length query.sets.now) None) (replicate (length audit.sets.now) None)
+
+-- the places of the common tables among those of each side: open, and as many on both sides
+pub record AreCommon (query_count audit_count : ℕ) (query audit : List Place) : Type 0 where
+  pub query_open : AreOpen query (replicate query_count None)
+  pub audit_open : AreOpen audit (replicate audit_count None)
+  pub query_below : All (λ table. table < query_count) query
+  pub audit_below : All (λ table. table < audit_count) audit
+  pub same : length query ≡ length audit
