@@ -12,10 +12,9 @@ use Rattle.hippo_values.specs.declared.names.Name.{Name}
 use Rattle.hippo_values.specs.declared.values.Value.{Value}
 use Rattle.hippo_values.specs.declared.values.Value.TheVariants.{Null, Int, Text, Day}
 use Rattle.hippo_values.specs.declared.truths.Truth.{Truth}
-use Rattle.hippo_values.specs.declared.truths.Truth.TheVariants.{False, Unknown, True}
 use Rattle.hippo_values.specs.declared.truths.CompareOp.TheVariants.{Eq}
 use Rattle.hippo_values.specs.Order.{value_cmp, same_cells}
-use Rattle.hippo_values.specs.Truths.{truth_and, truth_of, comparison}
+use Rattle.hippo_values.specs.Truths.{truth_of, comparison}
 use Rattle.hippo_model.specs.declared.audit.SharedRow.{SharedRow}
 use Rattle.hippo_model.specs.declared.cells.Cell.TheVariants.{Denied}
 use Rattle.hippo_model.specs.declared.query.CondOf.{CondOf}
@@ -28,13 +27,15 @@ use Rattle.hippo_model.specs.Terms.{History, Combination, ShownRow, Place}
 use Rattle.hippo_model.specs.Histories.{schema_at}
 use Rattle.hippo_model.specs.Rows.{cell_at, key_of}
 use Rattle.hippo_model.specs.RowSets.{KeyedRows, key_in}
-use Rattle.hippo_model.specs.Conditions.{least, is_null, is_true, truth}
+use Rattle.hippo_model.specs.Conditions.{is_null, is_true, truth}
 use Rattle.hippo_model.specs.Forms.{value_in}
 use Rattle.hippo_model.specs.Answers.{operand_value}
 use Rattle.hippo_model.specs.Audits.{key_at as key_at_history, has_tuple as has_tuple_at}
 use Rattle.hippo_model.specs.Masking.{raw_value}
-use Rattle.hippo_model.proofs.Truths.{truth-All, truth-Any, truth-Compare, truth-Missing}
+use Rattle.hippo_model.proofs.OuterParts.{outer_parts-All}
+use Rattle.hippo_model.proofs.Truths.{truth-Any, truth-Compare, truth-Missing}
 use Rattle.hippo_join.specs.Places.{blank}
+use Rattle.hippo_join.proofs.PartLemmas.{parts-hold}
 use Rattle.hippo_shared.specs.Sharing.{place_in, key_at, has_tuple}
 use Rattle.hippo_shared.specs.HistoryLaws.{sets_at}
 use Rattle.hippo_shared.proofs.HistoryLemmas.{rows_by, set_is}
@@ -95,21 +96,8 @@ module _ (value : Operand → Value) (literal : (v : Value) → value (Literal v
   tests_are place (column ∷ key) (v ∷ values) =
       (λ i. test_is (at place column) v i && tests_are place key values i) ∙ sym (both_equal (value_cmp (value (Column (at place column))) v) _)
 
-  both_true : (a b : Truth) → is_true (truth_and a b) ≡ (is_true a && is_true b)
-  both_true True True = refl
-  both_true True Unknown = refl
-  both_true True False = refl
-  both_true Unknown True = refl
-  both_true Unknown Unknown = refl
-  both_true Unknown False = refl
-  both_true False b = refl
-
-  least_true : (parts : List (CondOf Operand)) → is_true (least (map (truth value) parts)) ≡ list_all Holds parts
-  least_true [] = refl
-  least_true (part ∷ parts) = both_true (truth value part) (least (map (truth value) parts)) ∙ ap (λ b. Holds part && b) (least_true parts)
-
   pub all_true : (parts : List (CondOf Operand)) → Holds (All parts) ≡ list_all Holds parts
-  all_true parts = ap is_true (truth-All value parts) ∙ least_true parts
+  all_true parts = sym (parts-hold value (All parts)) ∙ ap (list_all Holds) (outer_parts-All parts)
 
   pub all_flat : {X : Type 0} (f : X → List (CondOf Operand)) (xs : List X) → list_all Holds (flat_map f xs) ≡ list_all (λ x. list_all Holds (f x)) xs
   all_flat f [] = refl

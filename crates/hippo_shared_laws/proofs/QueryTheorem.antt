@@ -35,6 +35,7 @@ use Rattle.hippo_laws.specs.Needs.{has_true, PlainQueryNeeds}
 use Rattle.hippo_laws.proofs.TruthWithChange.{agrees}
 use Rattle.hippo_policy.specs.Gates.{gate_in, table_rules}
 use Rattle.hippo_rewrite.specs.Rewriting.{expr_by, column_expr, masked_operand, key_guard, table_guards, guards_from, rewritten}
+use Rattle.hippo_rewrite.proofs.RulesInForce.{table_by_table}
 use Rattle.hippo_rewrite.specs.RewritingLaws.{rules_at, tables_at, HasTables, RewritingAnswers}
 use Rattle.hippo_eval.specs.Walks.{rows_of}
 use Rattle.hippo_shared.specs.Sharing.{place_in, has_tuple, query_has}
@@ -100,13 +101,9 @@ module _ (history : History) where
       let rest : map (schema_at history) tables ≡ map Some schemas = cc in schema_found tables schemas place rest (omega arith)
 
   rows_are : (tables : List Name) (schemas : List Schema) → map (schema_at history) tables ≡ map Some schemas → tables_at history schemas ≡ rows_of (sets_at history tables)
-  rows_are [] [] are = refl
-  rows_are [] (schema ∷ schemas) are = absurd cc
-  rows_are (table ∷ tables) [] are = absurd cc
-  rows_are (table ∷ tables) (schema ∷ schemas) are =
-      let first : schema_at history table ≡ Some schema = cc in
-      let rest : map (schema_at history) tables ≡ map Some schemas = cc in
-      λ i. (ap (λ (o : Option Schema). (rows_by history o).rows) (sym first)) i ∷ rows_are tables schemas rest i
+  rows_are =
+      table_by_table history (λ tables schemas. tables_at history schemas ≡ rows_of (sets_at history tables)) refl (λ table schema tables schemas first later.
+      λ i. (ap (λ (o : Option Schema). (rows_by history o).rows) (sym first)) i ∷ later i)
 
 -- ---- whether there is an answer's row
 one_by : {X Y : Type 0} (f : X → Y) (test : X → Bool) (xs : List X) → list_any (λ y. true) (map f (filter test xs)) ≡ list_any test xs

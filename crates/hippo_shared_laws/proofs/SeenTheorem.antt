@@ -1,10 +1,9 @@
 -- Whether what stands for an audited column is shown, in a combination that has a virtual tuple.
-use Rattle.std.proofs.Common.{◌≡◌, ℕ, zero, suc, ◌<◌, Bool, true, false, ◌||◌, cond, List, [], ◌∷◌, ◌++◌, map, length, get_or, refl, sym, ap, subst, ◌∙◌, Option, Some, None, arith}
+use Rattle.std.proofs.Common.{◌≡◌, ℕ, zero, suc, ◌<◌, Bool, true, false, ◌||◌, cond, List, [], ◌∷◌, ◌++◌, map, length, get_or, refl, sym, ap, subst, ◌∙◌, Option, Some, arith}
 use Rattle.std.specs.Prelude.{find, slice_get, bytes_eq, option_and_then, IfSome}
 use Rattle.std.specs.List.{AllByRecursion, flat_map, list_all, list_any}
-use Rattle.std.specs.Option.{option_map_or, option_or}
+use Rattle.std.specs.Option.{option_map_or}
 use Rattle.std.specs.Ordering.{is_eq}
-use Rattle.std.specs.Bool.{then_some}
 use Rattle.std.specs.Cmp.{eq_by_cmp_equiv}
 use Rattle.std.proofs.lemmas.Bool.{and_parts, false≢true}
 use Rattle.std.proofs.lemmas.Option.{slice_get-get_or}
@@ -13,14 +12,12 @@ use Rattle.hippo_values.specs.declared.values.Value.{Value}
 use Rattle.hippo_values.specs.Order.{same_cells}
 use Rattle.hippo_model.specs.declared.audit.SharedRow.{SharedRow}
 use Rattle.hippo_model.specs.declared.born_row.BornRow.{BornRow}
-use Rattle.hippo_model.specs.declared.entry.Act.{Act}
-use Rattle.hippo_model.specs.declared.entry.Act.TheVariants.{Create}
 use Rattle.hippo_model.specs.declared.policy.Verdict.{Verdict}
 use Rattle.hippo_model.specs.declared.policy.Verdict.TheVariants.{Shown, Denied}
 use Rattle.hippo_model.specs.declared.query.Ref.{Ref}
 use Rattle.hippo_model.specs.declared.schema.Schema.{Schema}
 use Rattle.hippo_model.specs.Terms.{History, Combination, Key, Place}
-use Rattle.hippo_model.specs.Histories.{schema_at, created}
+use Rattle.hippo_model.specs.Histories.{schema_at}
 use Rattle.hippo_model.specs.Rows.{born_row_at}
 use Rattle.hippo_model.specs.RowSets.{KeyedRows, IsAscending, kept_at, key_in}
 use Rattle.hippo_model.specs.Rules.{choice_at}
@@ -33,6 +30,7 @@ use Rattle.hippo_model.proofs.Orders.{cells_total, same_exact}
 use Rattle.hippo_model.proofs.RowsAfter.{IsAscending-table_rows, row_with-table_rows}
 use Rattle.hippo_rewrite.specs.Rewriting.{masked_column}
 use Rattle.hippo_rewrite.specs.RewritingLaws.{rules_at, ColumnsShowVerdicts}
+use Rattle.hippo_rewrite.proofs.FittingRows.{schema_named}
 use Rattle.hippo_join.specs.Places.{blank, row_at, chosen, in_range}
 use Rattle.hippo_join.proofs.SlotLemmas.{row-at, length-in_range}
 use Rattle.hippo_join.proofs.PruneLemmas.{below-rows}
@@ -119,23 +117,6 @@ find_key key (row ∷ rows) (suc place) ascends within =
     ap (λ b. cond b (Some row) (find (λ kept. same_cells (key_in key kept) (key_in key (row_at rows place))) rows)) (ap is_eq (below_at key (key_in key row) rows place ascends.0 (omega arith)))
     ∙ find_key key rows place ascends.1 (omega arith)
 
--- a schema has the name by which it is found
-then_some_parts : {A : Type 0} (test : Bool) (x y : A) → then_some test x ≡ Some y → (test ≡ true) × (x ≡ y)
-then_some_parts true x y e = (refl, cc)
-then_some_parts false x y e = absurd cc
-
-created_named : (name : Name) (act : Act) (schema : Schema) → created name act ≡ Some schema → bytes_eq schema.name name ≡ true
-created_named name (Create made) schema is = let parts = then_some_parts (bytes_eq made.name name) made schema is in subst (λ (s : Schema). bytes_eq s.name name ≡ true) parts.1 parts.0
-created_named name act schema is = absurd cc
-
-schema_named : (history : History) (name : Name) (schema : Schema) → schema_at history name ≡ Some schema → bytes_eq schema.name name ≡ true
-schema_named [] name schema found = absurd cc
-schema_named (entry ∷ later) name schema found =
-    elim (schema_at later name) as (λ word. schema_at later name ≡ word → option_or word (created name entry.act) ≡ Some schema → bytes_eq schema.name name ≡ true) [
-      | None ↦ λ e made. created_named name entry.act schema made
-      | Some other ↦ λ e made. schema_named later name schema (e ∙ made)
-    ] refl found
-
 shown_by : (verdict : Verdict) (value : Value) → is_shown_cell (cell_by verdict value) ≡ is_shown verdict
 shown_by Shown value = refl
 shown_by (Denied rule) value = refl
@@ -174,7 +155,7 @@ seen-column shows history context tables audits schemas tuple places column are 
     ∙ ap (λ (key : Key). find (λ k. same_cells (key_in schema.0.key k) key) set.rows) (sym keys ∙ own)
     ∙ find_key schema.0.key set.rows p (IsAscending-table_rows schema.0 history) below in
     let named : find (λ (shared : SharedRow). bytes_eq shared.table schema.0.name) tuple ≡ Some row.0 =
-    ap (λ (n : Name). find (λ (shared : SharedRow). bytes_eq shared.table n) tuple) (same_name schema.0.name table (schema_named history table schema.0 made)) ∙ row.1 in
+    ap (λ (n : Name). find (λ (shared : SharedRow). bytes_eq shared.table n) tuple) (schema_named history table schema.0 made) ∙ row.1 in
     let sees : Schema → BornRow → Bool = λ s k. is_shown (verdict history context s k column.column) in
     let seen : is_seen history context audits tuple column ≡ is_shown (verdict history context schema.0 kept column.column) =
     ap (λ (o : Option Schema). option_map_or (λ s. option_map_or (sees s) (row_named history tuple s) false) o false) made

@@ -20,7 +20,7 @@ use Rattle.hippo_rewrite.specs.RewritingLaws.{rules_at, HasTables}
 use Rattle.hippo_shared.specs.Sharing.{place_in, query_has, first_shared}
 use Rattle.hippo_shared.specs.HistoryLaws.{sets_at}
 
--- a plain query needs a tuple of rows of its tables exactly where the query that is rewritten by the rules in force has it
+-- a plain query needs a tuple of rows of its tables exactly where the query rewritten by the rules in force has it
 abbrev pub QueryNeedsWhatItHas : Type 0
 QueryNeedsWhatItHas =
     (meaning : Meaning) (history : History) (context : Context) (query : Query) (schemas : List Schema)
@@ -35,7 +35,8 @@ abbrev pub column_in : List Name → List Name → Ref → Ref
 column_in query audit column =
     record { table = place_in query (slice_index_or audit column.table []); column = column.column }
 
--- what is to be seen of a query's rows: where an audit asks for cells that were shown, what stands for each audited column
+-- what is to be seen of a query's rows: where an audit asks for cells that were shown, what stands for each audited
+-- column
 abbrev pub to_be_seen : List TableRules → Query → Audit → List Expr
 to_be_seen rules query audit =
     if audit.shown then map (λ column. masked_column rules (column_in query.tables audit.tables column)) audit.columns
@@ -48,8 +49,8 @@ IsCommon history query audit column =
     (column.table < length audit.tables) × (list_any (bytes_eq table) query.tables ≡ true)
     × IfSome (schema_at history table) (λ schema. column.column < length schema.columns)
 
--- what a plain query and an audit share first over the rows of a valid history, the query rewritten by the rules in force,
--- is the first virtual tuple that serves
+-- what a plain query and an audit share first over the rows of a valid history, the query rewritten by the rules in
+-- force, is the first virtual tuple that serves
 abbrev pub SharedServesFirst : Type 0
 SharedServesFirst =
     (meaning : Meaning) (history : History) (context : Context) (query : Query) (schemas : List Schema)
