@@ -35,7 +35,7 @@ use Rattle.hippo_model.specs.Masking.{raw_value}
 use Rattle.hippo_model.proofs.OuterParts.{outer_parts-All}
 use Rattle.hippo_model.proofs.Truths.{truth-Any, truth-Compare, truth-Missing}
 use Rattle.hippo_join.specs.Places.{blank}
-use Rattle.hippo_join.proofs.PartLemmas.{parts-hold}
+use Rattle.hippo_model.proofs.HeldParts.{parts-hold}
 use Rattle.hippo_shared.specs.Sharing.{place_in, key_at, has_tuple}
 use Rattle.hippo_shared.specs.HistoryLaws.{sets_at}
 use Rattle.hippo_shared.proofs.HistoryLemmas.{rows_by, set_is}
