@@ -8,8 +8,8 @@ use Rattle.hippo_model.specs.declared.query.Masked.{Masked}
 use Rattle.hippo_model.specs.Terms.{Place}
 use Rattle.hippo_model.specs.RowSets.{KeyedRows}
 use Rattle.hippo_model.specs.Masking.{Choices}
-use Rattle.hippo_join.specs.declared.stops.Stop.{Stop}
-use Rattle.hippo_join.specs.declared.stops.Stop.TheVariants.{TooManyRows, Memory}
+use Rattle.hippo_eval.specs.declared.answers.EvalFault.{EvalFault}
+use Rattle.hippo_eval.specs.declared.answers.EvalFault.TheVariants.{TooManyRows, Memory}
 use Rattle.hippo_join.specs.declared.steps.Step.{Step}
 use Rattle.hippo_join.specs.Places.{Fits, stands}
 use Rattle.hippo_join.specs.Known.{is_chosen}
@@ -37,7 +37,7 @@ pub record Grows (choices : Choices) (query : Masked) (sets : List KeyedRows) (b
 
 -- all combinations that have the rows that are chosen and count were found; or more than the limit
 abbrev pub IsFound :
-    Choices → Masked → List KeyedRows → List (Option Place) → ℕ → List (List Place) → Result (Unit {0}) Stop → Type 0
+    Choices → Masked → List KeyedRows → List (Option Place) → ℕ → List (List Place) → Result (Unit {0}) EvalFault → Type 0
 IsFound choices query sets slots limit found (Ok done) =
     (places : List Place) → Fits slots places → stands choices query sets places ≡ true → has_places places found ≡ true
 IsFound choices query sets slots limit found (Err TooManyRows) = limit < length found
@@ -48,7 +48,7 @@ HasOneMore places before after =
     (other : List Place) → has_places other after ≡ (is_eq (slice_cmp nat_cmp other places) || has_places other before)
 
 -- one combination more was found; or memory was short, and nothing changed
-abbrev pub IsAdded : List Place → ℕ → List (List Place) → List (List Place) → Result (Unit {0}) Stop → Type 0
+abbrev pub IsAdded : List Place → ℕ → List (List Place) → List (List Place) → Result (Unit {0}) EvalFault → Type 0
 IsAdded places limit before after (Ok done) = HasOneMore places before after
 IsAdded places limit before after (Err TooManyRows) = HasOneMore places before after × (limit < length after)
 IsAdded places limit before after (Err Memory) = after ≡ before
