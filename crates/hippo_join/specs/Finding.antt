@@ -25,19 +25,23 @@ IsRising some = IsStrictlySortedBy (slice_cmp nat_cmp) some
 -- each table's row is chosen, or is to be chosen by a step
 abbrev pub Covers : List Step → List (Option Place) → Type 0
 Covers steps slots =
-    (table : Place) → table < length slots → (is_chosen slots table ≡ true) ⊎ Contains (map (λ step. step.table) steps) table
+    (table : Place) → table < length slots
+    → (is_chosen slots table ≡ true) ⊎ Contains (map (λ step. step.table) steps) table
 
 abbrev pub AllCount : Choices → Masked → List KeyedRows → List (List Place) → Type 0
-AllCount choices query sets some = (places : List Place) → has_places places some ≡ true → stands choices query sets places ≡ true
+AllCount choices query sets some =
+    (places : List Place) → has_places places some ≡ true → stands choices query sets places ≡ true
 
 -- what stays while more is found: nothing is lost, and only what counts is added
-pub record Grows (choices : Choices) (query : Masked) (sets : List KeyedRows) (before after : List (List Place)) : Type 0 where
+pub record Grows
+    (choices : Choices) (query : Masked) (sets : List KeyedRows) (before after : List (List Place)) : Type 0 where
   pub keeps : (places : List Place) → has_places places before ≡ true → has_places places after ≡ true
   pub sound : AllCount choices query sets before → AllCount choices query sets after
 
 -- all combinations that have the rows that are chosen and count were found; or more than the limit
 abbrev pub IsFound :
-    Choices → Masked → List KeyedRows → List (Option Place) → ℕ → List (List Place) → Result (Unit {0}) EvalFault → Type 0
+    Choices → Masked → List KeyedRows → List (Option Place) → ℕ → List (List Place) → Result (Unit {0}) EvalFault
+    → Type 0
 IsFound choices query sets slots limit found (Ok done) =
     (places : List Place) → Fits slots places → stands choices query sets places ≡ true → has_places places found ≡ true
 IsFound choices query sets slots limit found (Err TooManyRows) = limit < length found

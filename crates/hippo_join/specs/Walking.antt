@@ -21,12 +21,16 @@ abbrev pub IsWalkable : Choices → Masked → List KeyedRows → Step → Type 
 IsWalkable choices query sets step = step.by_key ≡ false → IsStep choices query sets step
 
 -- the steps of tables in an order, of which none looks its places up where all are to be listed
-pub record AreWalkable (choices : Choices) (query : Masked) (sets : List KeyedRows) (lists : Bool) (order : List Place) (steps : List Step) : Type 0 where
+pub record AreWalkable
+    (choices : Choices) (query : Masked) (sets : List KeyedRows)
+    (lists : Bool) (order : List Place) (steps : List Step) : Type 0 where
   pub each : All (λ step. IsWalkable choices query sets step × (lists ≡ true → step.by_key ≡ false)) steps
   pub tables : map (λ step. step.table) steps ≡ order
 
 -- the steps of a walk, with the rows that are chosen before
-pub record CanWalk (choices : Choices) (query : Masked) (sets : List KeyedRows) (steps : List Step) (slots : List (Option Place)) : Type 0 where
+pub record CanWalk
+    (choices : Choices) (query : Masked) (sets : List KeyedRows)
+    (steps : List Step) (slots : List (Option Place)) : Type 0 where
   pub long : length slots ≡ length sets
   pub walkable : All (IsWalkable choices query sets) steps
   pub covers : Covers steps slots

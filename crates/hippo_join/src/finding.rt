@@ -32,7 +32,8 @@ fn insert(found: &mut BTreeSet<Places>, places: Places) -> Result<(), Memory>
 }
 
 pub(crate) fn check_limit(found: &BTreeSet<Places>) -> Result<(), EvalFault>
-    ensures { MatchResult result (λ _. length found.now.keys ≤ ANSWER_LIMIT) (λ fault. (fault ≡ TooManyRows) × (ANSWER_LIMIT < length found.now.keys)) }
+    ensures { MatchResult result (λ _. length found.now.keys ≤ ANSWER_LIMIT)
+        (λ fault. (fault ≡ TooManyRows) × (ANSWER_LIMIT < length found.now.keys)) }
 {
     if found.len() > ANSWER_LIMIT {
         Err(EvalFault::TooManyRows)

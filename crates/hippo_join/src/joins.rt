@@ -72,7 +72,8 @@ impl<'a, C: ChoiceView> Side<'a, C> {
 
     // The row of the answer that a combination makes.
     fn answer_row(&self, alloc: Global, places: &[usize]) -> Result<CellRow, Memory>
-        ensures { IfOk result (λ row. row ≡ masked_items (C.choices self.now.choices.now) self.now.query.now (chosen self.now.sets.now places.now)) }
+        ensures { IfOk result (λ row. row ≡ masked_items (C.choices self.now.choices.now) self.now.query.now
+            (chosen self.now.sets.now places.now)) }
     {
         let slots = slots_of(alloc, places)?;
         let rows = self.rows(alloc, &slots)?;
@@ -80,7 +81,8 @@ impl<'a, C: ChoiceView> Side<'a, C> {
     }
 
     fn answer_rows(&self, alloc: Global, found: &[Places]) -> Result<Answer, Memory>
-        ensures { IfOk result (λ answer. answer ≡ map (λ places. masked_items (C.choices self.now.choices.now) self.now.query.now (chosen self.now.sets.now places)) found.now) }
+        ensures { IfOk result (λ answer. answer ≡ map (λ places. masked_items
+            (C.choices self.now.choices.now) self.now.query.now (chosen self.now.sets.now places)) found.now) }
     {
         let mut answer = Vec::with_capacity(alloc, found.len())?;
         for places in found {
@@ -91,7 +93,8 @@ impl<'a, C: ChoiceView> Side<'a, C> {
 
     fn answer_listed(&self, alloc: Global, found: BTreeSet<Places>) -> Result<Answer, EvalFault>
         ensures { MatchResult result
-            (λ answer. answer ≡ map (λ places. masked_items (C.choices self.now.choices.now) self.now.query.now (chosen self.now.sets.now places)) found.keys)
+            (λ answer. answer ≡ map (λ places. masked_items (C.choices self.now.choices.now) self.now.query.now
+            (chosen self.now.sets.now places)) found.keys)
             (λ fault. fault ≡ OfMemory) }
     {
         let found = in_order(alloc, found)?;
@@ -103,7 +106,8 @@ impl<'a, C: ChoiceView> Side<'a, C> {
         requires order { IsRising found.keys }
         requires exact { (places : List Place) → has_places places found.keys ≡ stands
             (C.choices self.now.choices.now) self.now.query.now self.now.sets.now places }
-        ensures { IsAnswered ANSWER_LIMIT (masked_answer (C.choices self.now.choices.now) self.now.query.now (rows_of self.now.sets.now)) result }
+        ensures { IsAnswered ANSWER_LIMIT (masked_answer
+            (C.choices self.now.choices.now) self.now.query.now (rows_of self.now.sets.now)) result }
     {
         match check_limit(&found) {
             Ok(()) => self.answer_listed(alloc, found),
@@ -115,7 +119,8 @@ impl<'a, C: ChoiceView> Side<'a, C> {
     fn answer(&self, alloc: Global, order: &[usize]) -> Result<Answer, EvalFault>
         requires below { All (λ table. table < length self.now.sets.now) order.now }
         requires whole { (table : Place) → table < length self.now.sets.now → Contains order.now table }
-        ensures { IsAnswered ANSWER_LIMIT (masked_answer (C.choices self.now.choices.now) self.now.query.now (rows_of self.now.sets.now)) result }
+        ensures { IsAnswered ANSWER_LIMIT (masked_answer
+            (C.choices self.now.choices.now) self.now.query.now (rows_of self.now.sets.now)) result }
     {
         let mut found = BTreeSet::new(alloc);
         match self.find_all(alloc, order, &mut found) {

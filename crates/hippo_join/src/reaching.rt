@@ -241,24 +241,6 @@ impl<'a, C: ChoiceView> Side<'a, C> {
         }
     }
 
-    // The parts of the condition that can be tested once a row more is chosen, and not with that row alone, where those
-    // parts are tested already.
-    fn tests_after(
-        &self,
-        alloc: Global,
-        before: &[Option<usize>],
-        after: &[Option<usize>],
-        alone: &[Option<usize>],
-    ) -> Result<Vec<usize>, Memory> {
-        let mut tests = Vec::new(alloc);
-        for (place, part) in outer_parts(&self.query.cond).iter().enumerate() {
-            if knows(part, after) && !knows(part, before) && !knows(part, alone) {
-                tests.push(place)?;
-            }
-        }
-        Ok(tests)
-    }
-
     // The parts of the condition that are tested where a table's row is chosen, by its key or not: none where it is the
     // last, since the whole condition is tested then. Where places are listed, the parts on the table alone are tested
     // before.
@@ -271,14 +253,20 @@ impl<'a, C: ChoiceView> Side<'a, C> {
     ) -> Result<Vec<usize>, Memory>
         requires { table < length slots.now }
     {
+        let mut tests = Vec::new(alloc);
         let mut after = Vec::from_slice(alloc, slots)?;
         after[table] = Some(0);
         if after.iter().all(|slot| slot.is_some()) {
-            return Ok(Vec::new(alloc));
+            return Ok(tests);
         }
         let mut alone = open_slots(alloc, slots.len())?;
         alone[table] = if by_key { None } else { Some(0) };
-        self.tests_after(alloc, slots, &after, &alone)
+        for (place, part) in outer_parts(&self.query.cond).iter().enumerate() {
+            if knows(part, &after) && !knows(part, slots) && !knows(part, &alone) {
+                tests.push(place)?;
+            }
+        }
+        Ok(tests)
     }
 
     // The steps of a join, in an order of tables: all with their places, or only those whose keys are not said.
