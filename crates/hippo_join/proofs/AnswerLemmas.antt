@@ -6,11 +6,11 @@ use Rattle.hippo_model.specs.Terms.{Place, ShownRow}
 use Rattle.hippo_model.specs.RowSets.{KeyedRows}
 use Rattle.hippo_model.specs.Masking.{Choices, masked_items, masked_answer}
 use Rattle.hippo_eval.specs.Walks.{rows_of}
-use Rattle.hippo_join.specs.declared.stops.Stop.{Stop}
-use Rattle.hippo_join.specs.declared.stops.Stop.TheVariants.{TooManyRows, Memory}
+use Rattle.hippo_eval.specs.declared.answers.EvalFault.{EvalFault}
+use Rattle.hippo_eval.specs.declared.answers.EvalFault.TheVariants.{TooManyRows, Memory}
 use Rattle.hippo_join.specs.Places.{chosen, stands}
 use Rattle.hippo_join.specs.Finding.{AllCount, IsRising, has_places}
-use Rattle.hippo_join.specs.Joining.{IsJoined}
+use Rattle.hippo_eval.specs.Answering.{IsAnswered}
 use Rattle.hippo_join.proofs.FoundLemmas.{answer-found, length-found}
 
 module _ (choices : Choices) (query : Masked) (sets : List KeyedRows) (found : List (List Place)) (rising : IsRising found) where
@@ -21,17 +21,17 @@ module _ (choices : Choices) (query : Masked) (sets : List KeyedRows) (found : L
   length_map f [] = refl
   length_map f (x ∷ xs) = ap suc (length_map f xs)
 
-  pub joined-many : (limit : ℕ) (stop : Stop) → AllCount choices query sets found → (stop ≡ TooManyRows → limit < length found) → IsJoined limit whole (Err stop)
+  pub joined-many : (limit : ℕ) (fault : EvalFault) → AllCount choices query sets found → (fault ≡ TooManyRows → limit < length found) → IsAnswered limit whole (Err fault)
   joined-many limit TooManyRows sound many = let more : limit < length found = many refl in omega (arith, length-found choices query sets found rising sound)
   joined-many limit Memory sound many = tt
 
-  pub joined-answer : (limit : ℕ) (answer : List ShownRow) → ((places : List Place) → has_places places found ≡ stands choices query sets places) → length found ≤ limit → answer ≡ map (λ places. masked_items choices query (chosen sets places)) found → IsJoined limit whole (Ok answer)
+  pub joined-answer : (limit : ℕ) (answer : List ShownRow) → ((places : List Place) → has_places places found ≡ stands choices query sets places) → length found ≤ limit → answer ≡ map (λ places. masked_items choices query (chosen sets places)) found → IsAnswered limit whole (Ok answer)
   joined-answer limit answer exact within is =
       let same = answer-found choices query sets found rising exact in
       (is ∙ same, omega (arith, sym (ap length same) ∙ length_map (λ places. masked_items choices query (chosen sets places)) found))
 
-  pub joined-listed : (limit : ℕ) (result : Result (List ShownRow) Stop) → ((places : List Place) → has_places places found ≡ stands choices query sets places) → length found ≤ limit
-      → MatchResult result (λ answer. answer ≡ map (λ places. masked_items choices query (chosen sets places)) found) (λ stop. stop ≡ Memory) → IsJoined limit whole result
+  pub joined-listed : (limit : ℕ) (result : Result (List ShownRow) EvalFault) → ((places : List Place) → has_places places found ≡ stands choices query sets places) → length found ≤ limit
+      → MatchResult result (λ answer. answer ≡ map (λ places. masked_items choices query (chosen sets places)) found) (λ fault. fault ≡ Memory) → IsAnswered limit whole result
   joined-listed limit (Ok answer) exact within is = joined-answer limit answer exact within is
   joined-listed limit (Err TooManyRows) exact within is = absurd cc
   joined-listed limit (Err Memory) exact within is = tt

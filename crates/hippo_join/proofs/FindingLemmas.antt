@@ -20,12 +20,13 @@ use Rattle.hippo_model.specs.declared.query.Masked.{Masked}
 use Rattle.hippo_model.specs.Terms.{Combination, Place}
 use Rattle.hippo_model.specs.RowSets.{KeyedRows}
 use Rattle.hippo_model.specs.Masking.{Choices, is_guarded, masked_passes}
-use Rattle.hippo_join.specs.declared.stops.Stop.{Stop}
-use Rattle.hippo_join.specs.declared.stops.Stop.TheVariants.{TooManyRows, Memory}
+use Rattle.hippo_eval.specs.declared.answers.EvalFault.{EvalFault}
+use Rattle.hippo_eval.specs.declared.answers.EvalFault.TheVariants.{TooManyRows, Memory}
 use Rattle.hippo_join.specs.declared.steps.Step.{Step}
 use Rattle.hippo_join.specs.Places.{Fits, chosen, in_range, stays, stands}
-use Rattle.hippo_join.specs.Known.{is_chosen}
-use Rattle.hippo_join.specs.Steps.{ReachesFrom, IsStep, AreSteps}
+use Rattle.hippo_join.specs.Known.{is_chosen, is_open}
+use Rattle.hippo_join.specs.Steps.{ReachesFrom, AreSteps}
+use Rattle.hippo_join.specs.Walking.{IsWalkable, AreWalkable, CanWalk}
 use Rattle.hippo_join.specs.Finding.{has_places, Covers, AllCount, Grows, IsFound, HasOneMore, IsAdded}
 use Rattle.hippo_join.proofs.SlotLemmas.{Fits-open, Fits-set, Fits-whole}
 use Rattle.hippo_join.proofs.PruneLemmas.{long-enough}
@@ -105,12 +106,12 @@ module _ (choices : Choices) (query : Masked) (sets : List KeyedRows) where
   grows_same before after same = subst (λ (l : List (List Place)). Grows choices query sets before l) (sym same) (Grows-refl before)
 
   -- one combination more, that counts
-  pub grows-added : (places : List Place) (limit : ℕ) (before after : List (List Place)) (result : Result (Unit {0}) Stop) → stands choices query sets places ≡ true → IsAdded places limit before after result → Grows choices query sets before after
+  pub grows-added : (places : List Place) (limit : ℕ) (before after : List (List Place)) (result : Result (Unit {0}) EvalFault) → stands choices query sets places ≡ true → IsAdded places limit before after result → Grows choices query sets before after
   grows-added places limit before after (Ok done) counts added = grows_by places before after counts added
   grows-added places limit before after (Err TooManyRows) counts added = grows_by places before after counts added.0
   grows-added places limit before after (Err Memory) counts added = grows_same before after added
 
-  pub found-added : (slots : List (Option Place)) (places : List Place) (limit : ℕ) (before after : List (List Place)) (result : Result (Unit {0}) Stop) → slots ≡ map Some places → IsAdded places limit before after result → IsFound choices query sets slots limit after result
+  pub found-added : (slots : List (Option Place)) (places : List Place) (limit : ℕ) (before after : List (List Place)) (result : Result (Unit {0}) EvalFault) → slots ≡ map Some places → IsAdded places limit before after result → IsFound choices query sets slots limit after result
   found-added slots places limit before after (Ok done) whole added = λ other fits counts.
       let one : places ≡ other = Fits-whole slots other places whole fits in
       subst (λ (c : List Place). has_places c after ≡ true) one (added places ∙ or_left (is_eq (slice_cmp nat_cmp places places)) (has_places places before) ((eq_by_cmp_equiv nat_list_cmp_total).refl places))
@@ -155,12 +156,30 @@ still_chosen (slot ∷ slots) zero (suc table) place known = known
 still_chosen (slot ∷ slots) (suc at) zero place known = known
 still_chosen (slot ∷ slots) (suc at) (suc table) place known = still_chosen slots at table place known
 
--- a step whose row is chosen already, and one whose row is chosen now
-pub covers-again : (step : Step) (steps : List Step) (slots : List (Option Place)) → Covers (step ∷ steps) slots → is_chosen slots step.table ≡ true → Covers steps slots
-covers-again step steps slots covers known table within = elim (covers table within) as (λ _. (is_chosen slots table ≡ true) ⊎ Contains (map (λ s. s.table) steps) table) [
+-- a table whose row is still to be chosen
+pub open-within : (slots : List (Option Place)) (table : Place) → is_open slots table ≡ true → table < length slots
+open-within [] table still = absurd (false≢true still)
+open-within (slot ∷ slots) zero still = omega arith
+open-within (slot ∷ slots) (suc table) still = let later = open-within slots table still in omega (arith, later)
+
+pub open-unchosen : (slots : List (Option Place)) (table : Place) → is_open slots table ≡ true → is_chosen slots table ≡ false
+open-unchosen [] table still = refl
+open-unchosen (None ∷ slots) zero still = refl
+open-unchosen (Some place ∷ slots) zero still = absurd (false≢true still)
+open-unchosen (slot ∷ slots) (suc table) still = open-unchosen slots table still
+
+closed_chosen : (slots : List (Option Place)) (table : Place) → is_open slots table ≡ false → table < length slots → is_chosen slots table ≡ true
+closed_chosen [] table closed within = absurd (omega arith)
+closed_chosen (None ∷ slots) zero closed within = absurd (false≢true (sym closed))
+closed_chosen (Some place ∷ slots) zero closed within = refl
+closed_chosen (slot ∷ slots) (suc table) closed within = closed_chosen slots table closed (omega arith)
+
+-- a step whose row is not to be chosen any more, and one whose row is chosen now
+pub covers-closed : (step : Step) (steps : List Step) (slots : List (Option Place)) → Covers (step ∷ steps) slots → is_open slots step.table ≡ false → Covers steps slots
+covers-closed step steps slots covers closed table within = elim (covers table within) as (λ _. (is_chosen slots table ≡ true) ⊎ Contains (map (λ s. s.table) steps) table) [
   | inl before ↦ inl before
   | inr left ↦ elim (first_or_later step.table (map (λ s. s.table) steps) table left) as (λ _. (is_chosen slots table ≡ true) ⊎ Contains (map (λ s. s.table) steps) table) [
-    | inl here ↦ inl (subst (λ (t : Place). is_chosen slots t ≡ true) here known)
+    | inl here ↦ inl (closed_chosen slots table (subst (λ (t : Place). is_open slots t ≡ false) here closed) within)
     | inr later ↦ inr later
   ]
 ]
@@ -233,15 +252,6 @@ all-rest P xs x rest all is = let each : All P (x ∷ rest) = subst (λ l. All P
 pub covers-first : (steps : List Step) (step : Step) (rest : List Step) (slots : List (Option Place)) → Covers steps slots → steps ≡ step ∷ rest → Covers (step ∷ rest) slots
 covers-first steps step rest slots covers is = let P : List Step → Type 0 = λ l. Covers l slots in subst P is covers
 
-pub covers-past : (step : Step) (rest : List Step) (slots : List (Option Place)) → Covers (step ∷ rest) slots → length slots ≤ step.table → Covers rest slots
-covers-past step rest slots covers past table within = elim (covers table within) as (λ _. (is_chosen slots table ≡ true) ⊎ Contains (map (λ s. s.table) rest) table) [
-  | inl before ↦ inl before
-  | inr left ↦ elim (first_or_later step.table (map (λ s. s.table) rest) table left) as (λ _. (is_chosen slots table ≡ true) ⊎ Contains (map (λ s. s.table) rest) table) [
-    | inl here ↦ absurd (omega arith)
-    | inr later ↦ inr later
-  ]
-]
-
 map_push : {A B : Type 0} (f : A → B) (xs : List A) (x : A) → map f (xs ++ x ∷ []) ≡ map f xs ++ f x ∷ []
 map_push f [] x = refl
 map_push f (y ∷ xs) x = ap (λ l. f y ∷ l) (map_push f xs x)
@@ -252,25 +262,57 @@ same_tests false true there back = back refl
 same_tests false false there back = refl
 
 module _ (choices : Choices) (query : Masked) (sets : List KeyedRows) where
+  covers-all : (order : List Place) (steps : List Step) (slots : List (Option Place)) → map (λ step. step.table) steps ≡ order → length slots ≡ length sets → ((table : Place) → table < length sets → Contains order table) → Covers steps slots
+  covers-all order steps slots tables long whole table within = inr (subst (λ (l : List Place). Contains l table) (sym tables) (whole table (omega (arith, long))))
+
   -- one step more
-  pub steps-more : (order : List Place) (i : ℕ) (steps more : List Step) (step : Step) → AreSteps choices query sets (take i order) steps → IsStep choices query sets step → step.table ≡ get_or order i 0 → i < length order → more ≡ steps ++ step ∷ [] → AreSteps choices query sets (take (i + 1) order) more
-  steps-more order i steps more step so_far is_step at within pushed = record {
-    each = subst (λ l. All (IsStep choices query sets) l) (sym pushed) (All-push (IsStep choices query sets) steps step so_far.each is_step);
-    tables =
-        ap (λ (l : List Step). map (λ s. s.table) l) pushed ∙ map_push (λ (s : Step). s.table) steps step ∙ (λ j. so_far.tables j ++ at j ∷ []) ∙ sym (take_more order i 0 within);
+  pub steps-more : (lists : Bool) (order : List Place) (i : ℕ) (steps more : List Step) (step : Step) → AreWalkable choices query sets lists (take i order) steps → IsWalkable choices query sets step → (lists ≡ true → step.by_key ≡ false)
+      → step.table ≡ get_or order i 0 → i < length order → more ≡ steps ++ step ∷ [] → AreWalkable choices query sets lists (take (i + 1) order) more
+  steps-more lists order i steps more step so_far walkable listed at within pushed =
+      let P : Step → Type 0 = λ s. IsWalkable choices query sets s × (lists ≡ true → s.by_key ≡ false) in
+      record {
+        each = subst (λ l. All P l) (sym pushed) (All-push P steps step so_far.each (walkable, listed));
+        tables =
+            ap (λ (l : List Step). map (λ s. s.table) l) pushed ∙ map_push (λ (s : Step). s.table) steps step ∙ (λ j. so_far.tables j ++ at j ∷ []) ∙ sym (take_more order i 0 within);
+      }
+
+  -- where all are listed
+  pub all-listed : (order : List Place) (steps : List Step) → AreWalkable choices query sets true order steps → AreSteps choices query sets order steps
+  all-listed order steps are = record {
+    each = λ k d within. let one = are.each k d within in one.0 (one.1 refl);
+    tables = are.tables;
   }
 
-  -- at the beginning the steps cover all tables
-  pub covers-all : (order : List Place) (steps here : List Step) (slots : List (Option Place)) → AreSteps choices query sets order steps → here ≡ steps → length slots ≡ length sets → ((table : Place) → table < length sets → Contains order table) → Covers here slots
-  covers-all order steps here slots are same long whole table within =
-      let tables : map (λ (s : Step). s.table) here ≡ order = ap (λ (l : List Step). map (λ s. s.table) l) same ∙ are.tables in
-      inr (subst (λ (l : List Place). Contains l table) (sym tables) (whole table (omega arith)))
+  -- at the beginning of a walk
+  pub walk-all : (order : List Place) (steps here : List Step) (slots : List (Option Place)) → AreWalkable choices query sets false order steps → here ≡ steps → length slots ≡ length sets → ((table : Place) → table < length sets → Contains order table) → CanWalk choices query sets here slots
+  walk-all order steps here slots are same long whole = record {
+    long = long;
+    walkable = subst (λ l. All (IsWalkable choices query sets) l) (sym same) (λ k d within. (are.each k d within).0);
+    covers = covers-all order here slots (ap (λ (l : List Step). map (λ s. s.table) l) same ∙ are.tables) long whole;
+  }
+
+  -- behind the first step
+  pub walk-first : (steps : List Step) (step : Step) (rest : List Step) (slots now : List (Option Place)) → CanWalk choices query sets steps slots → steps ≡ step ∷ rest → now ≡ slots → CanWalk choices query sets (step ∷ rest) now
+  walk-first steps step rest slots now can first same =
+      subst (λ (s : List (Option Place)). CanWalk choices query sets (step ∷ rest) s) (sym same) (subst (λ (l : List Step). CanWalk choices query sets l slots) first can)
+
+  pub walk-closed : (steps : List Step) (step : Step) (rest : List Step) (slots : List (Option Place)) → CanWalk choices query sets steps slots → steps ≡ step ∷ rest → is_open slots step.table ≡ false → CanWalk choices query sets rest slots
+  walk-closed steps step rest slots can first closed =
+      let whole = walk-first steps step rest slots slots can first refl in
+      record { long = whole.long; walkable = all-rest (IsWalkable choices query sets) steps step rest can.walkable first; covers = covers-closed step rest slots whole.covers closed }
+
+  pub walk-chosen : (step : Step) (rest : List Step) (slots : List (Option Place)) (place : Place) → CanWalk choices query sets (step ∷ rest) slots → step.table < length slots → CanWalk choices query sets rest (slice_set slots step.table (Some place))
+  walk-chosen step rest slots place can within = record {
+    long = let long = can.long in simp length-set long;
+    walkable = all-rest (IsWalkable choices query sets) (step ∷ rest) step rest can.walkable refl;
+    covers = covers-more step rest slots place can.covers within;
+  }
 
   pub none-count : (some : List (List Place)) → some ≡ [] → AllCount choices query sets some
   none-count some none places has = absurd (false≢true (sym (ap (has_places places) none) ∙ has))
 
   -- at the end exactly what counts was found
-  pub found-exact : (slots : List (Option Place)) (limit : ℕ) (found : List (List Place)) (result : Result (Unit {0}) Stop) → slots ≡ replicate (length sets) None → AllCount choices query sets found → IsFound choices query sets slots limit found result
+  pub found-exact : (slots : List (Option Place)) (limit : ℕ) (found : List (List Place)) (result : Result (Unit {0}) EvalFault) → slots ≡ replicate (length sets) None → AllCount choices query sets found → IsFound choices query sets slots limit found result
       → OnOk result ((places : List Place) → has_places places found ≡ stands choices query sets places)
   found-exact slots limit found (Ok done) unchosen sound all = λ places.
       same_tests (has_places places found) (stands choices query sets places) (sound places) (λ counts.

@@ -1,12 +1,12 @@
 -- Rows that are found by their key.
-use Rattle.std.proofs.Common.{◌≡◌, ℕ, zero, suc, ◌+◌, ◌<◌, ◌≤◌, true, false, List, [], ◌∷◌, map, length, refl, sym, ap, subst, ◌∙◌, Option, Some, None, unwrap_or, arith, get_or}
+use Rattle.std.proofs.Common.{◌≡◌, ℕ, zero, suc, ◌+◌, ◌-◌, ◌<◌, ◌≤◌, true, false, List, [], ◌∷◌, map, length, refl, sym, ap, subst, ◌∙◌, Option, Some, None, unwrap_or, arith, get_or}
 use Rattle.std.specs.Prelude.{slice_get, replicate, option_map, IfSome}
 use Rattle.std.specs.Option.{option_copied, option_map_or}
-use Rattle.std.specs.List.{list_all}
+use Rattle.std.specs.List.{Contains, list_all, range_with_len}
 use Rattle.std.specs.declared.cmp.Ordering.TheVariants.{Equal}
 use Rattle.std.proofs.lemmas.Bool.{and_parts}
 use Rattle.std.proofs.lemmas.Cmp.{tied_itself}
-use Rattle.std.proofs.lemmas.Option.{unwrap_or-slice_get}
+use Rattle.std.proofs.lemmas.List.FromFn.{get_or-range_with_len, length-range_with_len}
 use Rattle.hippo_values.specs.declared.values.Value.{Value}
 use Rattle.hippo_values.specs.declared.values.Value.TheVariants.{Null as NullValue}
 use Rattle.hippo_values.specs.declared.truths.CompareOp.TheVariants.{Eq}
@@ -102,6 +102,13 @@ module _ (choices : Choices) (sets : List KeyedRows) (slots : List (Option Place
       of_told : (told : Option Key) → IfSome told (λ key. IsKeyTold choices sets slots (outer_parts query.cond) table columns key) → IfSome told (λ key. key_of set.key (row_at set.rows place).row ≡ key)
       of_told None is = tt
       of_told (Some key) is = key-of-told query table set columns key at_set same is places fits counts place at
+
+-- each place of a span is among its places
+pub in-span : (start end place : ℕ) → start ≤ place → place < end → Contains (range_with_len start (end - start)) place
+in-span start end place low high =
+    let within : place - start < end - start = omega arith in
+    let here : start + (place - start) ≡ place = omega arith in
+    (place - start, simp length-range_with_len within, get_or-range_with_len start (end - start) (place - start) place within ∙ here)
 
 -- where no row is chosen
 module _ (choices : Choices) (query : Masked) (sets : List KeyedRows) where

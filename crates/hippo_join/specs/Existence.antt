@@ -14,7 +14,9 @@ abbrev pub are_shown : Choices → List Expr → Combination → Bool
 are_shown choices seen rows = list_all (λ expr. is_shown_cell (masked_cell choices rows expr)) seen
 
 -- a combination that has the rows that are chosen and counts, in which all that is to be seen is shown
-pub record HasOne (choices : Choices) (query : Masked) (seen : List Expr) (sets : List KeyedRows) (slots : List (Option Place)) : Type 0 where
+pub record HasOne
+    (choices : Choices) (query : Masked) (seen : List Expr) (sets : List KeyedRows)
+    (slots : List (Option Place)) : Type 0 where
   pub places : List Place
   pub fits : Fits slots places
   pub counts : stands choices query sets places ≡ true

@@ -8,8 +8,8 @@ use Rattle.hippo_model.specs.declared.query.Masked.{Masked}
 use Rattle.hippo_model.specs.Terms.{Place}
 use Rattle.hippo_model.specs.RowSets.{KeyedRows}
 use Rattle.hippo_model.specs.Masking.{Choices}
-use Rattle.hippo_join.specs.declared.stops.Stop.{Stop}
-use Rattle.hippo_join.specs.declared.stops.Stop.TheVariants.{TooManyRows, Memory}
+use Rattle.hippo_eval.specs.declared.answers.EvalFault.{EvalFault}
+use Rattle.hippo_eval.specs.declared.answers.EvalFault.TheVariants.{TooManyRows, Memory}
 use Rattle.hippo_join.specs.declared.steps.Step.{Step}
 use Rattle.hippo_join.specs.Places.{Fits, stands}
 use Rattle.hippo_join.specs.Known.{is_chosen}
@@ -25,19 +25,23 @@ IsRising some = IsStrictlySortedBy (slice_cmp nat_cmp) some
 -- each table's row is chosen, or is to be chosen by a step
 abbrev pub Covers : List Step → List (Option Place) → Type 0
 Covers steps slots =
-    (table : Place) → table < length slots → (is_chosen slots table ≡ true) ⊎ Contains (map (λ step. step.table) steps) table
+    (table : Place) → table < length slots
+    → (is_chosen slots table ≡ true) ⊎ Contains (map (λ step. step.table) steps) table
 
 abbrev pub AllCount : Choices → Masked → List KeyedRows → List (List Place) → Type 0
-AllCount choices query sets some = (places : List Place) → has_places places some ≡ true → stands choices query sets places ≡ true
+AllCount choices query sets some =
+    (places : List Place) → has_places places some ≡ true → stands choices query sets places ≡ true
 
 -- what stays while more is found: nothing is lost, and only what counts is added
-pub record Grows (choices : Choices) (query : Masked) (sets : List KeyedRows) (before after : List (List Place)) : Type 0 where
+pub record Grows
+    (choices : Choices) (query : Masked) (sets : List KeyedRows) (before after : List (List Place)) : Type 0 where
   pub keeps : (places : List Place) → has_places places before ≡ true → has_places places after ≡ true
   pub sound : AllCount choices query sets before → AllCount choices query sets after
 
 -- all combinations that have the rows that are chosen and count were found; or more than the limit
 abbrev pub IsFound :
-    Choices → Masked → List KeyedRows → List (Option Place) → ℕ → List (List Place) → Result (Unit {0}) Stop → Type 0
+    Choices → Masked → List KeyedRows → List (Option Place) → ℕ → List (List Place) → Result (Unit {0}) EvalFault
+    → Type 0
 IsFound choices query sets slots limit found (Ok done) =
     (places : List Place) → Fits slots places → stands choices query sets places ≡ true → has_places places found ≡ true
 IsFound choices query sets slots limit found (Err TooManyRows) = limit < length found
@@ -48,7 +52,7 @@ HasOneMore places before after =
     (other : List Place) → has_places other after ≡ (is_eq (slice_cmp nat_cmp other places) || has_places other before)
 
 -- one combination more was found; or memory was short, and nothing changed
-abbrev pub IsAdded : List Place → ℕ → List (List Place) → List (List Place) → Result (Unit {0}) Stop → Type 0
+abbrev pub IsAdded : List Place → ℕ → List (List Place) → List (List Place) → Result (Unit {0}) EvalFault → Type 0
 IsAdded places limit before after (Ok done) = HasOneMore places before after
 IsAdded places limit before after (Err TooManyRows) = HasOneMore places before after × (limit < length after)
 IsAdded places limit before after (Err Memory) = after ≡ before

@@ -1,5 +1,6 @@
 -- Which conditions can be tested once the rows of some tables are chosen.
-use Rattle.std.specs.Prelude.{Bool, true, ◌&&◌, List, Option, is_some}
+use Rattle.std.specs.Prelude.{Bool, true, false, ◌&&◌, List, Option, is_some, is_none, slice_get}
+use Rattle.std.specs.Option.{option_map_or}
 use Rattle.std.specs.List.{list_all}
 use Rattle.hippo_model.specs.declared.query.CondOf.{CondOf, CondOf-F, fold-CondOf}
 use Rattle.hippo_model.specs.declared.query.CondOf.TheOpen.{All, Any, Not, Compare, Between, Among, Missing}
@@ -11,6 +12,10 @@ use Rattle.hippo_join.specs.Places.{slot_at}
 -- whether a table's row is chosen
 abbrev pub is_chosen : List (Option Place) → Place → Bool
 is_chosen slots table = is_some (slot_at slots table)
+
+-- whether a table's row is still to be chosen
+abbrev pub is_open : List (Option Place) → Place → Bool
+is_open slots table = option_map_or is_none (slice_get slots table) false
 
 -- whether an expression's columns are in rows that are chosen
 abbrev pub knows_expr : List (Option Place) → Expr → Bool

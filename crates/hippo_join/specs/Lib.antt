@@ -5,6 +5,6 @@ pub mod Ties
 pub mod Keys
 pub mod Steps
 pub mod Finding
+pub mod Walking
 pub mod Existence
 pub mod Plans
-pub mod Joining

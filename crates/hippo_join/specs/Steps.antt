@@ -32,6 +32,7 @@ pub record IsStep (choices : Choices) (query : Masked) (sets : List KeyedRows) (
       → IsByColumn set tie.column step.places.items)
 
 -- the steps of tables in an order
-pub record AreSteps (choices : Choices) (query : Masked) (sets : List KeyedRows) (order : List Place) (steps : List Step) : Type 0 where
+pub record AreSteps
+    (choices : Choices) (query : Masked) (sets : List KeyedRows) (order : List Place) (steps : List Step) : Type 0 where
   pub each : All (IsStep choices query sets) steps
   pub tables : map (λ step. step.table) steps ≡ order

@@ -5,10 +5,11 @@ ghost use Rattle.hippo_model.specs.Masking.{masked_cell, is_shown_cell};
 ghost use Rattle.hippo_join.specs.Places.{rows_at, stands};
 ghost use Rattle.hippo_join.specs.Finding.{Covers};
 ghost use Rattle.hippo_join.specs.Steps.{IsStep};
+ghost use Rattle.hippo_join.specs.Walking.{CanWalk};
 ghost use Rattle.hippo_join.specs.Existence.{are_shown, HasOne, Decides};
 
 use crate::finding::chosen_places;
-use crate::known::is_chosen;
+use crate::known::is_open;
 use crate::sides::Side;
 use crate::steps::Step;
 use hippo_eval::cell;
@@ -54,7 +55,8 @@ impl<'a, C: ChoiceView> Side<'a, C> {
     ) -> Result<bool, Memory>
         requires long { length slots.now ≡ length self.now.sets.now }
         requires whole { Covers [] slots.now }
-        ensures { Decides (HasOne (C.choices self.now.choices.now) self.now.query.now seen.now self.now.sets.now slots.now) result }
+        ensures { Decides (HasOne (C.choices self.now.choices.now) self.now.query.now seen.now self.now.sets.now
+            slots.now) result }
     {
         let places = chosen_places(alloc, slots)?;
         let rows = self.rows(alloc, slots)?;
@@ -72,10 +74,9 @@ impl<'a, C: ChoiceView> Side<'a, C> {
         seen: &[Expr],
         slots: &mut [Option<usize>],
     ) -> Result<bool, Memory>
-        requires long { length slots.old ≡ length self.now.sets.now }
         requires table { step.now.table < length slots.old }
-        requires steps { All (IsStep (C.choices self.now.choices.now) self.now.query.now self.now.sets.now) rest.now }
-        requires covers { Covers (step.now ∷ rest.now) slots.old }
+        requires walk { CanWalk (C.choices self.now.choices.now) self.now.query.now self.now.sets.now
+            (step.now ∷ rest.now) slots.old }
         ensures slots { OnOk result (slots.new ≡ slice_set slots.old step.now.table None) }
         ensures one { Decides (HasOne (C.choices self.now.choices.now) self.now.query.now seen.now self.now.sets.now
             (slice_set slots.old step.now.table (Some place))) result }
@@ -96,22 +97,49 @@ impl<'a, C: ChoiceView> Side<'a, C> {
         seen: &[Expr],
         slots: &mut [Option<usize>],
     ) -> Result<bool, Memory>
-        requires long { length slots.old ≡ length self.now.sets.now }
-        requires steps { All (IsStep (C.choices self.now.choices.now) self.now.query.now self.now.sets.now) rest.now }
-        requires covers { Covers rest.now slots.old }
+        requires { CanWalk (C.choices self.now.choices.now) self.now.query.now self.now.sets.now rest.now slots.old }
         ensures slots { OnOk result (slots.new ≡ slots.old) }
-        ensures one { Decides (HasOne (C.choices self.now.choices.now) self.now.query.now seen.now self.now.sets.now slots.old) result }
+        ensures one { Decides (HasOne (C.choices self.now.choices.now) self.now.query.now seen.now self.now.sets.now
+            slots.old) result }
     {
         if self.may_count(alloc, tests, slots)? {
-            self.has(alloc, rest, seen, slots)
+            self.has_from(alloc, rest, seen, slots)
         } else {
             Ok(false)
         }
     }
 
-    /// Whether some combination counts that has the rows that are chosen, and shows each cell that is to be seen. Wants steps
-    /// for all tables whose row is not chosen; leaves the slots as they are, but where memory is short.
+    // Whether some combination counts that has the rows that are chosen, and shows each cell that is to be seen.
     #[cycle(has)]
+    fn has_from(
+        &self,
+        alloc: Global,
+        steps: &[Step],
+        seen: &[Expr],
+        slots: &mut [Option<usize>],
+    ) -> Result<bool, Memory>
+        requires { CanWalk (C.choices self.now.choices.now) self.now.query.now self.now.sets.now steps.now slots.old }
+        ensures slots { OnOk result (slots.new ≡ slots.old) }
+        ensures one { Decides (HasOne (C.choices self.now.choices.now) self.now.query.now seen.now self.now.sets.now
+            slots.old) result }
+    {
+        let Some((step, rest)) = steps.split_first() else {
+            return self.has_chosen(alloc, seen, slots);
+        };
+        if !is_open(slots, step.table) {
+            return self.has_from(alloc, rest, seen, slots);
+        }
+        let following = self.following(alloc, step, slots)?;
+        for index in 0..following.len() {
+            if self.has_with(alloc, step, rest, following.place(index), seen, slots)? {
+                return Ok(true);
+            }
+        }
+        Ok(false)
+    }
+
+    /// Whether some combination counts that has the rows that are chosen, and shows each cell that is to be seen. Wants
+    /// steps for all tables whose row is not chosen; leaves the slots as they are, but where memory is short.
     pub fn has(
         &self,
         alloc: Global,
@@ -123,22 +151,9 @@ impl<'a, C: ChoiceView> Side<'a, C> {
         requires steps { All (IsStep (C.choices self.now.choices.now) self.now.query.now self.now.sets.now) steps.now }
         requires covers { Covers steps.now slots.old }
         ensures slots { OnOk result (slots.new ≡ slots.old) }
-        ensures one { Decides (HasOne (C.choices self.now.choices.now) self.now.query.now seen.now self.now.sets.now slots.old) result }
+        ensures one { Decides (HasOne (C.choices self.now.choices.now) self.now.query.now seen.now self.now.sets.now
+            slots.old) result }
     {
-        let Some((step, rest)) = steps.split_first() else {
-            return self.has_chosen(alloc, seen, slots);
-        };
-        if step.table >= slots.len() {
-            return self.has(alloc, rest, seen, slots);
-        }
-        if is_chosen(slots, step.table) {
-            return self.has(alloc, rest, seen, slots);
-        }
-        for place in self.places_of(step, slots) {
-            if self.has_with(alloc, step, rest, *place, seen, slots)? {
-                return Ok(true);
-            }
-        }
-        Ok(false)
+        self.has_from(alloc, steps, seen, slots)
     }
 }

@@ -3,15 +3,13 @@ ghost use Rattle.std.specs.Prelude.{◌≡◌, [], ◌∷◌, None, slice_set, �
 ghost use Rattle.hippo_model.specs.Terms.{Place};
 ghost use Rattle.hippo_join.specs.Places.{in_range, rows_at, stands};
 ghost use Rattle.hippo_join.specs.Finding.{Covers, Grows, IsFound, HasOneMore, IsAdded};
-ghost use Rattle.hippo_join.specs.Steps.{IsStep};
-ghost use Rattle.std.specs.List.{All};
-ghost use Rattle.hippo_join.specs.declared.stops.Stop.TheVariants.{TooManyRows};
+ghost use Rattle.hippo_join.specs.Walking.{CanWalk};
+ghost use Rattle.hippo_eval.specs.declared.answers.EvalFault.TheVariants.{TooManyRows};
 
-use crate::known::is_chosen;
+use crate::known::is_open;
 use crate::sides::Side;
 use crate::steps::Step;
-use crate::stops::Stop;
-use hippo_eval::{ANSWER_LIMIT, passes};
+use hippo_eval::{ANSWER_LIMIT, EvalFault, passes};
 use hippo_model::{ChoiceView, Combo, Places};
 use hippo_values::{Memory, Sequence};
 use std::alloc::Global;
@@ -33,23 +31,24 @@ fn insert(found: &mut BTreeSet<Places>, places: Places) -> Result<(), Memory>
     Ok(())
 }
 
-pub(crate) fn check_limit(found: &BTreeSet<Places>) -> Result<(), Stop>
-    ensures { MatchResult result (λ _. length found.now.keys ≤ ANSWER_LIMIT) (λ fault. (fault ≡ TooManyRows) × (ANSWER_LIMIT < length found.now.keys)) }
+pub(crate) fn check_limit(found: &BTreeSet<Places>) -> Result<(), EvalFault>
+    ensures { MatchResult result (λ _. length found.now.keys ≤ ANSWER_LIMIT)
+        (λ fault. (fault ≡ TooManyRows) × (ANSWER_LIMIT < length found.now.keys)) }
 {
     if found.len() > ANSWER_LIMIT {
-        Err(Stop::TooManyRows)
+        Err(EvalFault::TooManyRows)
     } else {
         Ok(())
     }
 }
 
 // Adds the places of a combination to those that are found.
-fn add(found: &mut BTreeSet<Places>, places: Places) -> Result<(), Stop>
+fn add(found: &mut BTreeSet<Places>, places: Places) -> Result<(), EvalFault>
     ensures { IsAdded places ANSWER_LIMIT found.old.keys found.new.keys result }
 {
     match insert(found, places) {
         Ok(()) => check_limit(found),
-        Err(Memory) => Err(Stop::Memory),
+        Err(Memory) => Err(EvalFault::Memory),
     }
 }
 
@@ -81,11 +80,13 @@ impl<'a, C: ChoiceView> Side<'a, C> {
         alloc: Global,
         slots: &[Option<usize>],
         found: &mut BTreeSet<Places>,
-    ) -> Result<(), Stop>
+    ) -> Result<(), EvalFault>
         requires long { length slots.now ≡ length self.now.sets.now }
         requires whole { Covers [] slots.now }
-        ensures grows { Grows (C.choices self.now.choices.now) self.now.query.now self.now.sets.now found.old.keys found.new.keys }
-        ensures found { IsFound (C.choices self.now.choices.now) self.now.query.now self.now.sets.now slots.now ANSWER_LIMIT found.new.keys result }
+        ensures grows { Grows (C.choices self.now.choices.now) self.now.query.now self.now.sets.now
+            found.old.keys found.new.keys }
+        ensures found { IsFound (C.choices self.now.choices.now) self.now.query.now self.now.sets.now
+            slots.now ANSWER_LIMIT found.new.keys result }
     {
         let places = chosen_places(alloc, slots)?;
         let rows = self.rows(alloc, slots)?;
@@ -96,7 +97,8 @@ impl<'a, C: ChoiceView> Side<'a, C> {
         }
     }
 
-    // Finds all combinations that count and have the rows that are chosen, where a place of a step's table is chosen too.
+    // Finds all combinations that count and have the rows that are chosen, where a place of a step's table is chosen
+    // too.
     #[cycle(find)]
     fn find_with(
         &self,
@@ -106,13 +108,13 @@ impl<'a, C: ChoiceView> Side<'a, C> {
         place: usize,
         slots: &mut [Option<usize>],
         found: &mut BTreeSet<Places>,
-    ) -> Result<(), Stop>
-        requires long { length slots.old ≡ length self.now.sets.now }
+    ) -> Result<(), EvalFault>
         requires table { step.now.table < length slots.old }
-        requires steps { All (IsStep (C.choices self.now.choices.now) self.now.query.now self.now.sets.now) rest.now }
-        requires covers { Covers (step.now ∷ rest.now) slots.old }
+        requires walk { CanWalk (C.choices self.now.choices.now) self.now.query.now self.now.sets.now
+            (step.now ∷ rest.now) slots.old }
         ensures slots { OnOk result (slots.new ≡ slice_set slots.old step.now.table None) }
-        ensures grows { Grows (C.choices self.now.choices.now) self.now.query.now self.now.sets.now found.old.keys found.new.keys }
+        ensures grows { Grows (C.choices self.now.choices.now) self.now.query.now self.now.sets.now
+            found.old.keys found.new.keys }
         ensures found { IsFound (C.choices self.now.choices.now) self.now.query.now self.now.sets.now
             (slice_set slots.old step.now.table (Some place)) ANSWER_LIMIT found.new.keys result }
     {
@@ -131,13 +133,13 @@ impl<'a, C: ChoiceView> Side<'a, C> {
         rest: &[Step],
         slots: &mut [Option<usize>],
         found: &mut BTreeSet<Places>,
-    ) -> Result<(), Stop>
-        requires long { length slots.old ≡ length self.now.sets.now }
-        requires steps { All (IsStep (C.choices self.now.choices.now) self.now.query.now self.now.sets.now) rest.now }
-        requires covers { Covers rest.now slots.old }
+    ) -> Result<(), EvalFault>
+        requires { CanWalk (C.choices self.now.choices.now) self.now.query.now self.now.sets.now rest.now slots.old }
         ensures slots { OnOk result (slots.new ≡ slots.old) }
-        ensures grows { Grows (C.choices self.now.choices.now) self.now.query.now self.now.sets.now found.old.keys found.new.keys }
-        ensures found { IsFound (C.choices self.now.choices.now) self.now.query.now self.now.sets.now slots.old ANSWER_LIMIT found.new.keys result }
+        ensures grows { Grows (C.choices self.now.choices.now) self.now.query.now self.now.sets.now
+            found.old.keys found.new.keys }
+        ensures found { IsFound (C.choices self.now.choices.now) self.now.query.now self.now.sets.now
+            slots.old ANSWER_LIMIT found.new.keys result }
     {
         if self.may_count(alloc, tests, slots)? {
             self.find(alloc, rest, slots, found)
@@ -154,25 +156,23 @@ impl<'a, C: ChoiceView> Side<'a, C> {
         steps: &[Step],
         slots: &mut [Option<usize>],
         found: &mut BTreeSet<Places>,
-    ) -> Result<(), Stop>
-        requires long { length slots.old ≡ length self.now.sets.now }
-        requires steps { All (IsStep (C.choices self.now.choices.now) self.now.query.now self.now.sets.now) steps.now }
-        requires covers { Covers steps.now slots.old }
+    ) -> Result<(), EvalFault>
+        requires { CanWalk (C.choices self.now.choices.now) self.now.query.now self.now.sets.now steps.now slots.old }
         ensures slots { OnOk result (slots.new ≡ slots.old) }
-        ensures grows { Grows (C.choices self.now.choices.now) self.now.query.now self.now.sets.now found.old.keys found.new.keys }
-        ensures found { IsFound (C.choices self.now.choices.now) self.now.query.now self.now.sets.now slots.old ANSWER_LIMIT found.new.keys result }
+        ensures grows { Grows (C.choices self.now.choices.now) self.now.query.now self.now.sets.now
+            found.old.keys found.new.keys }
+        ensures found { IsFound (C.choices self.now.choices.now) self.now.query.now self.now.sets.now
+            slots.old ANSWER_LIMIT found.new.keys result }
     {
         let Some((step, rest)) = steps.split_first() else {
             return self.add_chosen(alloc, slots, found);
         };
-        if step.table >= slots.len() {
+        if !is_open(slots, step.table) {
             return self.find(alloc, rest, slots, found);
         }
-        if is_chosen(slots, step.table) {
-            return self.find(alloc, rest, slots, found);
-        }
-        for place in self.places_of(step, slots) {
-            self.find_with(alloc, step, rest, *place, slots, found)?;
+        let following = self.following(alloc, step, slots)?;
+        for index in 0..following.len() {
+            self.find_with(alloc, step, rest, following.place(index), slots, found)?;
         }
         Ok(())
     }

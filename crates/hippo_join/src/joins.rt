@@ -5,16 +5,14 @@ ghost use Rattle.hippo_model.specs.Terms.{Place};
 ghost use Rattle.hippo_model.specs.Masking.{masked_items, masked_answer};
 ghost use Rattle.hippo_eval.specs.Answering.{IsAnswered};
 ghost use Rattle.hippo_eval.specs.Walks.{rows_of};
-ghost use Rattle.hippo_join.specs.declared.stops.Stop.TheVariants.{TooManyRows, Memory as OfMemory};
+ghost use Rattle.hippo_eval.specs.declared.answers.EvalFault.TheVariants.{TooManyRows, Memory as OfMemory};
 ghost use Rattle.hippo_join.specs.Places.{blank, chosen, stands};
 ghost use Rattle.hippo_join.specs.Finding.{AllCount, IsRising, has_places};
-ghost use Rattle.hippo_join.specs.Joining.{IsJoined};
 ghost use Rattle.hippo_join.specs.Plans.{IsPlanOf};
 
 use crate::finding::check_limit;
 use crate::reaching::open_slots;
 use crate::sides::Side;
-use crate::stops::Stop;
 use hippo_eval::{ANSWER_LIMIT, EvalFault, project};
 use hippo_model::{Answer, BornRow, CellRow, ChoiceView, Masked, Places, Plan, Sets};
 use hippo_values::{Memory, Moment, Sequence};
@@ -54,17 +52,18 @@ impl<'a, C: ChoiceView> Side<'a, C> {
         alloc: Global,
         order: &[usize],
         found: &mut BTreeSet<Places>,
-    ) -> Result<(), Stop>
+    ) -> Result<(), EvalFault>
         requires below { All (λ table. table < length self.now.sets.now) order.now }
         requires whole { (table : Place) → table < length self.now.sets.now → Contains order.now table }
         requires none { found.old.keys ≡ [] }
         ensures order { IsRising found.new.keys }
         ensures sound { AllCount (C.choices self.now.choices.now) self.now.query.now self.now.sets.now found.new.keys }
-        ensures found { OnOk result ((places : List Place) → has_places places found.new.keys ≡ stands (C.choices self.now.choices.now) self.now.query.now self.now.sets.now places) }
+        ensures found { OnOk result ((places : List Place) → has_places places found.new.keys ≡ stands
+            (C.choices self.now.choices.now) self.now.query.now self.now.sets.now places) }
         ensures many { result ≡ Err TooManyRows → ANSWER_LIMIT < length found.new.keys }
     {
         let _count = found.len();
-        let steps = self.steps(alloc, order)?;
+        let steps = self.steps_in(alloc, order, false)?;
         let mut slots = open_slots(alloc, self.sets.len())?;
         let result = self.find(alloc, &steps, &mut slots, found);
         let _count = found.len();
@@ -73,7 +72,8 @@ impl<'a, C: ChoiceView> Side<'a, C> {
 
     // The row of the answer that a combination makes.
     fn answer_row(&self, alloc: Global, places: &[usize]) -> Result<CellRow, Memory>
-        ensures { IfOk result (λ row. row ≡ masked_items (C.choices self.now.choices.now) self.now.query.now (chosen self.now.sets.now places.now)) }
+        ensures { IfOk result (λ row. row ≡ masked_items (C.choices self.now.choices.now) self.now.query.now
+            (chosen self.now.sets.now places.now)) }
     {
         let slots = slots_of(alloc, places)?;
         let rows = self.rows(alloc, &slots)?;
@@ -81,7 +81,8 @@ impl<'a, C: ChoiceView> Side<'a, C> {
     }
 
     fn answer_rows(&self, alloc: Global, found: &[Places]) -> Result<Answer, Memory>
-        ensures { IfOk result (λ answer. answer ≡ map (λ places. masked_items (C.choices self.now.choices.now) self.now.query.now (chosen self.now.sets.now places)) found.now) }
+        ensures { IfOk result (λ answer. answer ≡ map (λ places. masked_items
+            (C.choices self.now.choices.now) self.now.query.now (chosen self.now.sets.now places)) found.now) }
     {
         let mut answer = Vec::with_capacity(alloc, found.len())?;
         for places in found {
@@ -90,51 +91,61 @@ impl<'a, C: ChoiceView> Side<'a, C> {
         Ok(Sequence::from_vec(answer))
     }
 
-    fn answer_listed(&self, alloc: Global, found: BTreeSet<Places>) -> Result<Answer, Stop>
+    fn answer_listed(&self, alloc: Global, found: BTreeSet<Places>) -> Result<Answer, EvalFault>
         ensures { MatchResult result
-            (λ answer. answer ≡ map (λ places. masked_items (C.choices self.now.choices.now) self.now.query.now (chosen self.now.sets.now places)) found.keys)
-            (λ stop. stop ≡ OfMemory) }
+            (λ answer. answer ≡ map (λ places. masked_items (C.choices self.now.choices.now) self.now.query.now
+            (chosen self.now.sets.now places)) found.keys)
+            (λ fault. fault ≡ OfMemory) }
     {
         let found = in_order(alloc, found)?;
         Ok(self.answer_rows(alloc, &found)?)
     }
 
     // The answer, where all combinations that count are found.
-    fn answer_found(&self, alloc: Global, found: BTreeSet<Places>) -> Result<Answer, Stop>
+    fn answer_found(&self, alloc: Global, found: BTreeSet<Places>) -> Result<Answer, EvalFault>
         requires order { IsRising found.keys }
-        requires exact { (places : List Place) → has_places places found.keys ≡ stands (C.choices self.now.choices.now) self.now.query.now self.now.sets.now places }
-        ensures { IsJoined ANSWER_LIMIT (masked_answer (C.choices self.now.choices.now) self.now.query.now (rows_of self.now.sets.now)) result }
+        requires exact { (places : List Place) → has_places places found.keys ≡ stands
+            (C.choices self.now.choices.now) self.now.query.now self.now.sets.now places }
+        ensures { IsAnswered ANSWER_LIMIT (masked_answer
+            (C.choices self.now.choices.now) self.now.query.now (rows_of self.now.sets.now)) result }
     {
         match check_limit(&found) {
             Ok(()) => self.answer_listed(alloc, found),
-            Err(stop) => Err(stop),
+            Err(fault) => Err(fault),
         }
     }
 
     // The answer, by joins of the tables in an order.
-    fn answer(&self, alloc: Global, order: &[usize]) -> Result<Answer, Stop>
+    fn answer(&self, alloc: Global, order: &[usize]) -> Result<Answer, EvalFault>
         requires below { All (λ table. table < length self.now.sets.now) order.now }
         requires whole { (table : Place) → table < length self.now.sets.now → Contains order.now table }
-        ensures { IsJoined ANSWER_LIMIT (masked_answer (C.choices self.now.choices.now) self.now.query.now (rows_of self.now.sets.now)) result }
+        ensures { IsAnswered ANSWER_LIMIT (masked_answer
+            (C.choices self.now.choices.now) self.now.query.now (rows_of self.now.sets.now)) result }
     {
         let mut found = BTreeSet::new(alloc);
         match self.find_all(alloc, order, &mut found) {
             Ok(()) => self.answer_found(alloc, found),
-            Err(stop) => Err(stop),
+            Err(fault) => Err(fault),
         }
     }
 }
 
-fn run_within<C: ChoiceView>(
+/// The answer of a query with the policy written into it, by joins of its tables in a plan's order: the same as that of
+/// `evaluate`, whatever the plan. Wants a plan of the query, and the rows of each of its tables. TooManyRows exactly
+/// where the answer has more than 100,000 rows. Where the query's outermost AND says the key of a table's row, by
+/// literals or by columns of tables before it, that row is looked up; where it has another equality of columns of two
+/// tables, only rows whose values are equal are looked at. So the time is in proportion to the tables whose rows are
+/// not looked up and to what matches; memory is in proportion to these tables and the answer.
+pub fn run<C: ChoiceView>(
     alloc: Global,
     plan: &Plan,
     query: &Masked,
     sets: &Sets<'_>,
     choices: &C,
-) -> Result<Answer, Stop>
+) -> Result<Answer, EvalFault>
     requires sets { length sets.now ≡ length query.now.tables }
     requires plan { IsPlanOf query.now plan.now }
-    ensures { IsJoined ANSWER_LIMIT (masked_answer (C.choices choices.now) query.now (rows_of sets.now)) result }
+    ensures { IsAnswered ANSWER_LIMIT (masked_answer (C.choices choices.now) query.now (rows_of sets.now)) result }
 {
     let blank = blank_row(alloc)?;
     let side = Side {
@@ -151,27 +162,4 @@ fn run_within<C: ChoiceView>(
         blank: _,
     } = side;
     answer
-}
-
-/// The answer of a query with the policy written into it, by joins of its tables in a plan's order: the same as that of
-/// `evaluate`, whatever the plan. Wants a plan of the query, and the rows of each of its tables. TooManyRows exactly where
-/// the answer has more than 100,000 rows. Where the query's outermost AND has an equality of columns of two tables, only
-/// rows whose values are equal are looked at, so that the time is in proportion to the tables and what matches; memory is
-/// in proportion to the tables and the answer.
-pub fn run<C: ChoiceView>(
-    alloc: Global,
-    plan: &Plan,
-    query: &Masked,
-    sets: &Sets<'_>,
-    choices: &C,
-) -> Result<Answer, EvalFault>
-    requires sets { length sets.now ≡ length query.now.tables }
-    requires plan { IsPlanOf query.now plan.now }
-    ensures { IsAnswered ANSWER_LIMIT (masked_answer (C.choices choices.now) query.now (rows_of sets.now)) result }
-{
-    match run_within(alloc, plan, query, sets, choices) {
-        Ok(answer) => Ok(answer),
-        Err(Stop::TooManyRows) => Err(EvalFault::TooManyRows),
-        Err(Stop::Memory) => Err(EvalFault::Memory),
-    }
 }

@@ -137,7 +137,7 @@ impl<'a, C: ChoiceView> Side<'a, C> {
     }
 
     // The value of a column, if the condition says it: that of a literal, or of a row that is chosen.
-    fn told_value(&self, column: Ref, slots: &[Option<usize>]) -> Option<&'a Value>
+    pub(crate) fn told_value(&self, column: Ref, slots: &[Option<usize>]) -> Option<&'a Value>
         ensures { IfSome result (λ value. IsToldBy (C.choices self.now.choices.now) self.now.sets.now slots.now
             (outer_parts self.now.query.now.cond) column value.now) }
     {

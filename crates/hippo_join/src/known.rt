@@ -2,7 +2,7 @@
 ghost use Rattle.std.specs.Prelude.{◌≡◌};
 ghost use Rattle.std.specs.List.{list_all};
 ghost use Rattle.hippo_join.specs.Places.{slot_at};
-ghost use Rattle.hippo_join.specs.Known.{is_chosen, knows_expr, knows};
+ghost use Rattle.hippo_join.specs.Known.{is_chosen, is_open, knows_expr, knows};
 
 use hippo_model::{CondOf, Expr};
 
@@ -21,6 +21,16 @@ pub(crate) fn is_chosen(slots: &[Option<usize>], table: usize) -> bool
     ensures { result ≡ is_chosen slots.now table }
 {
     slot_at(slots, table).is_some()
+}
+
+// Whether a table's row is still to be chosen.
+pub(crate) fn is_open(slots: &[Option<usize>], table: usize) -> bool
+    ensures { result ≡ is_open slots.now table }
+{
+    match slots.get(table) {
+        Some(slot) => slot.is_none(),
+        None => false,
+    }
 }
 
 // Whether an expression's columns are in rows that are chosen.

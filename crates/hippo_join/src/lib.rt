@@ -3,6 +3,7 @@
 
 mod existence;
 mod finding;
+mod following;
 mod joins;
 mod keys;
 mod known;
@@ -11,7 +12,6 @@ mod orders;
 mod reaching;
 mod sides;
 mod steps;
-mod stops;
 mod ties;
 
 pub use joins::{blank_row, run};

@@ -33,7 +33,8 @@ fn is_null(value: &Value) -> bool
 
 // The same, without those that are null.
 pub(crate) fn known_value<'a>(set: &'a RowSet, column: usize, place: usize) -> Option<&'a Value>
-    ensures { MatchOption result (is_null (value_at set.now column place) ≡ true) (λ value. value.now ≡ value_at set.now column place) }
+    ensures { MatchOption result (is_null (value_at set.now column place) ≡ true)
+        (λ value. value.now ≡ value_at set.now column place) }
 {
     let value = value_at(set, column, place)?;
     if is_null(value) { None } else { Some(value) }
@@ -83,7 +84,8 @@ pub(crate) fn sort_by_column(set: &RowSet, column: usize, places: &mut [usize])
 fn from_value<'a>(set: &RowSet, column: usize, places: &'a [usize], value: &Value) -> &'a [usize]
     requires { IsByColumn set.now column places.now }
     ensures order { IsByColumn set.now column result.now }
-    ensures all { (place : Place) → Contains places.now place → value_cmp (value_at set.now column place) value.now ≡ Equal → Contains result.now place }
+    ensures all { (place : Place) → Contains places.now place
+        → value_cmp (value_at set.now column place) value.now ≡ Equal → Contains result.now place }
 {
     let start = places.partition_point(|place| is_below(set, column, *place, value));
     &places[start..]
@@ -92,7 +94,8 @@ fn from_value<'a>(set: &RowSet, column: usize, places: &'a [usize], value: &Valu
 // The places to the last whose row's value is not above this one.
 fn up_to_value<'a>(set: &RowSet, column: usize, places: &'a [usize], value: &Value) -> &'a [usize]
     requires { IsByColumn set.now column places.now }
-    ensures { (place : Place) → Contains places.now place → value_cmp (value_at set.now column place) value.now ≡ Equal → Contains result.now place }
+    ensures { (place : Place) → Contains places.now place → value_cmp (value_at set.now column place) value.now ≡ Equal
+        → Contains result.now place }
 {
     let end = places.partition_point(|place| is_within(set, column, *place, value));
     &places[..end]
@@ -106,7 +109,8 @@ pub(crate) fn with_value<'a>(
     value: &Value,
 ) -> &'a [usize]
     requires { IsByColumn set.now column places.now }
-    ensures { (place : Place) → Contains places.now place → value_cmp (value_at set.now column place) value.now ≡ Equal → Contains result.now place }
+    ensures { (place : Place) → Contains places.now place → value_cmp (value_at set.now column place) value.now ≡ Equal
+        → Contains result.now place }
 {
     up_to_value(set, column, from_value(set, column, places, value), value)
 }

@@ -20,13 +20,6 @@ fn tables_below(alloc: Global, count: usize) -> Result<Vec<usize>, Memory>
     Ok(tables)
 }
 
-fn size_of(sizes: &Sizes, table: usize) -> u64 {
-    match sizes.as_slice().get(table) {
-        Some(size) => *size,
-        None => 0,
-    }
-}
-
 // Whether an expression shows a column of a table, and the other one is a literal.
 fn is_fixed(expr: &Expr, other: &Expr, table: usize) -> bool {
     match column_of(expr) {
@@ -57,7 +50,8 @@ fn lateness(
     let parts = outer_parts(&query.cond);
     let tie = find_tie(parts, table, slots);
     let is_fixed = parts.iter().any(|part| fixes(part, table));
-    (tie.is_none(), !is_fixed, size_of(sizes, table))
+    let size = sizes.as_slice().get(table).copied().unwrap_or(0);
+    (tie.is_none(), !is_fixed, size)
 }
 
 // The place of the table that is to be joined next, among those that are left.

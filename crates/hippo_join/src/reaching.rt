@@ -1,5 +1,5 @@
 //! Which rows of a table may follow those that are chosen.
-ghost use Rattle.std.specs.Prelude.{◌≡◌, ◌<◌, ◌≤◌, ℕ, true, None, Some, List, [], ◌∷◌, ◌++◌, if◌then◌else◌, OnOk, IfOk, length, replicate, slice_get};
+ghost use Rattle.std.specs.Prelude.{◌≡◌, ◌<◌, ◌≤◌, ℕ, true, false, None, Some, List, [], ◌∷◌, ◌++◌, if◌then◌else◌, OnOk, IfOk, length, replicate, slice_get};
 ghost use Rattle.std.specs.List.{All, Contains};
 ghost use Rattle.std.specs.List.Sorted.{IsPermutation};
 ghost use Rattle.hippo_model.specs.Terms.{Place};
@@ -7,6 +7,7 @@ ghost use Rattle.hippo_join.specs.Places.{chosen, Fits, stands};
 ghost use Rattle.hippo_join.specs.Lookups.{IsByColumn};
 ghost use Rattle.hippo_join.specs.Ties.{AreEqual};
 ghost use Rattle.hippo_join.specs.Keys.{IsWithin};
+ghost use Rattle.hippo_join.specs.Walking.{IsWalkable, AreWalkable};
 ghost use Rattle.hippo_join.specs.Steps.{Reaches, ReachesFrom, IsStep, AreSteps};
 
 use crate::keys::Span;
@@ -15,7 +16,7 @@ use crate::lookups::{known_value, sort_by_column, with_value};
 use crate::sides::Side;
 use crate::steps::Step;
 use crate::ties::{Tie, find_tie, outer_parts};
-use hippo_model::{ChoiceView, RowSet};
+use hippo_model::{ChoiceView, Ref, RowSet};
 use hippo_values::Memory;
 use std::alloc::Global;
 
@@ -125,8 +126,24 @@ impl<'a, C: ChoiceView> Side<'a, C> {
         }
     }
 
-    // A table's step behind those whose rows are chosen.
-    pub(crate) fn step(
+    // Whether the condition says a table's key, by the rows that are chosen.
+    fn tells_key(&self, table: usize, slots: &[Option<usize>]) -> bool
+        requires { table < length self.now.sets.now }
+    {
+        for column in self.sets.get(table).key().as_slice() {
+            let column = Ref {
+                table,
+                column: *column,
+            };
+            if self.told_value(column, slots).is_none() {
+                return false;
+            }
+        }
+        true
+    }
+
+    // A table's step behind those whose rows are chosen, with its places.
+    fn listed_step(
         &self,
         alloc: Global,
         table: usize,
@@ -134,13 +151,17 @@ impl<'a, C: ChoiceView> Side<'a, C> {
         tests: Vec<usize>,
     ) -> Result<Step, Memory>
         requires { table < length self.now.sets.now }
-        ensures { IfOk result (λ step. IsStep (C.choices self.now.choices.now) self.now.query.now self.now.sets.now step × (step.table ≡ table)) }
+        ensures step { IfOk result (λ step. IsStep (C.choices self.now.choices.now) self.now.query.now self.now.sets.now
+            step) }
+        ensures listed { IfOk result (λ step. step.by_key ≡ false) }
+        ensures table { IfOk result (λ step. step.table ≡ table) }
     {
         let places = self.reached_places(alloc, table)?;
         let Some(tie) = find_tie(outer_parts(&self.query.cond), table, slots) else {
             return Ok(Step {
                 table,
                 tie: None,
+                by_key: false,
                 places,
                 tests,
             });
@@ -149,16 +170,49 @@ impl<'a, C: ChoiceView> Side<'a, C> {
         Ok(Step {
             table,
             tie: Some(tie),
+            by_key: false,
             places,
             tests,
         })
+    }
+
+    // A table's step behind those whose rows are chosen: with its places, if all steps are to list theirs or if its key
+    // is not said.
+    fn step(
+        &self,
+        alloc: Global,
+        table: usize,
+        slots: &[Option<usize>],
+        lists: bool,
+    ) -> Result<Step, Memory>
+        requires sets { table < length self.now.sets.now }
+        requires slots { table < length slots.now }
+        ensures walkable { IfOk result (λ step. IsWalkable
+            (C.choices self.now.choices.now) self.now.query.now self.now.sets.now step) }
+        ensures listed { IfOk result (λ step. lists ≡ true → step.by_key ≡ false) }
+        ensures table { IfOk result (λ step. step.table ≡ table) }
+    {
+        let by_key = !lists && self.tells_key(table, slots);
+        let tests = self.tests_at(alloc, table, slots, by_key)?;
+        if by_key {
+            Ok(Step {
+                table,
+                tie: None,
+                by_key,
+                places: Vec::new(alloc),
+                tests,
+            })
+        } else {
+            self.listed_step(alloc, table, slots, tests)
+        }
     }
 
     // The places of a step that may follow the rows that are chosen, by a tie.
     fn tied_places<'s>(&self, step: &'s Step, tie: &Tie, slots: &[Option<usize>]) -> &'s [usize]
         requires step { IsStep (C.choices self.now.choices.now) self.now.query.now self.now.sets.now step.now }
         requires tie { step.now.tie ≡ Some tie.now }
-        ensures { ReachesFrom (C.choices self.now.choices.now) self.now.query.now self.now.sets.now slots.now step.now.table result.now }
+        ensures { ReachesFrom (C.choices self.now.choices.now) self.now.query.now self.now.sets.now
+            slots.now step.now.table result.now }
     {
         let places = step.places.as_slice();
         let Some(place) = slot_at(slots, tie.other.table) else {
@@ -178,7 +232,8 @@ impl<'a, C: ChoiceView> Side<'a, C> {
     /// The places of a step that may follow the rows that are chosen.
     pub fn places_of<'s>(&self, step: &'s Step, slots: &[Option<usize>]) -> &'s [usize]
         requires { IsStep (C.choices self.now.choices.now) self.now.query.now self.now.sets.now step.now }
-        ensures { ReachesFrom (C.choices self.now.choices.now) self.now.query.now self.now.sets.now slots.now step.now.table result.now }
+        ensures { ReachesFrom (C.choices self.now.choices.now) self.now.query.now self.now.sets.now
+            slots.now step.now.table result.now }
     {
         match &step.tie {
             None => step.places.as_slice(),
@@ -186,55 +241,60 @@ impl<'a, C: ChoiceView> Side<'a, C> {
         }
     }
 
-    // The parts of the condition that can be tested once a row more is chosen, and not with that row alone.
-    fn tests_after(
+    // The parts of the condition that are tested where a table's row is chosen, by its key or not: none where it is the
+    // last, since the whole condition is tested then. Where places are listed, the parts on the table alone are tested
+    // before.
+    fn tests_at(
         &self,
         alloc: Global,
-        before: &[Option<usize>],
-        after: &[Option<usize>],
-        alone: &[Option<usize>],
-    ) -> Result<Vec<usize>, Memory> {
+        table: usize,
+        slots: &[Option<usize>],
+        by_key: bool,
+    ) -> Result<Vec<usize>, Memory>
+        requires { table < length slots.now }
+    {
         let mut tests = Vec::new(alloc);
+        let mut after = Vec::from_slice(alloc, slots)?;
+        after[table] = Some(0);
+        if after.iter().all(|slot| slot.is_some()) {
+            return Ok(tests);
+        }
+        let mut alone = open_slots(alloc, slots.len())?;
+        alone[table] = if by_key { None } else { Some(0) };
         for (place, part) in outer_parts(&self.query.cond).iter().enumerate() {
-            if knows(part, after) && !knows(part, before) && !knows(part, alone) {
+            if knows(part, &after) && !knows(part, slots) && !knows(part, &alone) {
                 tests.push(place)?;
             }
         }
         Ok(tests)
     }
 
-    // The parts of the condition that are tested where a table's row is chosen: none where it is the last, since the whole
-    // condition is tested then.
-    fn tests_at(
+    // The steps of a join, in an order of tables: all with their places, or only those whose keys are not said.
+    pub(crate) fn steps_in(
         &self,
         alloc: Global,
-        table: usize,
-        slots: &[Option<usize>],
-    ) -> Result<Vec<usize>, Memory>
-        requires { table < length slots.now }
+        order: &[usize],
+        lists: bool,
+    ) -> Result<Vec<Step>, Memory>
+        requires { All (λ table. table < length self.now.sets.now) order.now }
+        ensures { IfOk result (λ steps. AreWalkable
+            (C.choices self.now.choices.now) self.now.query.now self.now.sets.now lists order.now steps.items) }
     {
-        let mut after = Vec::from_slice(alloc, slots)?;
-        after[table] = Some(0);
-        if after.iter().all(|slot| slot.is_some()) {
-            return Ok(Vec::new(alloc));
+        let mut slots = open_slots(alloc, self.sets.len())?;
+        let mut steps = Vec::new(alloc);
+        for table in order {
+            steps.push(self.step(alloc, *table, &slots, lists)?)?;
+            slots[*table] = Some(0);
         }
-        let mut alone = open_slots(alloc, slots.len())?;
-        alone[table] = Some(0);
-        self.tests_after(alloc, slots, &after, &alone)
+        Ok(steps)
     }
 
     /// The steps of a join, in an order of tables.
     pub fn steps(&self, alloc: Global, order: &[usize]) -> Result<Vec<Step>, Memory>
         requires { All (λ table. table < length self.now.sets.now) order.now }
-        ensures { IfOk result (λ steps. AreSteps (C.choices self.now.choices.now) self.now.query.now self.now.sets.now order.now steps.items) }
+        ensures { IfOk result (λ steps. AreSteps (C.choices self.now.choices.now) self.now.query.now self.now.sets.now
+            order.now steps.items) }
     {
-        let mut slots = open_slots(alloc, self.sets.len())?;
-        let mut steps = Vec::new(alloc);
-        for table in order {
-            let tests = self.tests_at(alloc, *table, &slots)?;
-            steps.push(self.step(alloc, *table, &slots, tests)?)?;
-            slots[*table] = Some(0);
-        }
-        Ok(steps)
+        self.steps_in(alloc, order, true)
     }
 }

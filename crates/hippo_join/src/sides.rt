@@ -15,7 +15,8 @@ use hippo_model::{BornRow, ChoiceView, Combo, CondOf, Expr, Guard, Masked, RowSe
 use hippo_values::{Memory, Truth};
 use std::alloc::Global;
 
-/// A query over tables, by the choices of patients. It wants the rows of each of the query's tables, in the order of FROM.
+/// A query over tables, by the choices of patients. It wants the rows of each of the query's tables, in the order of
+/// FROM.
 #[derive(Drop)]
 pub struct Side<'a, C> {
     pub query: &'a Masked,
@@ -33,7 +34,8 @@ fn push_row<'a>(
     slot: Option<usize>,
     blank: &'a BornRow,
 ) -> Result<(), Memory>
-    ensures { OnOk result (rows.new ≡ rows.old ++ option_map_or (λ place. unwrap_or (slice_get set.now.rows place) blank.now) slot blank.now ∷ []) }
+    ensures { OnOk result (rows.new ≡ rows.old
+        ++ option_map_or (λ place. unwrap_or (slice_get set.now.rows place) blank.now) slot blank.now ∷ []) }
 {
     match slot {
         Some(place) if place < set.len() => rows.push(set.row(place), set.born(place)),
@@ -62,22 +64,26 @@ impl<'a, C: ChoiceView> Side<'a, C> {
 
     // Whether a part of the condition holds, if its columns are known.
     fn part_holds(&self, part: &CondOf<Expr>, slots: &[Option<usize>], rows: &Combo<'_>) -> bool
-        ensures { result ≡ (not (knows slots.now part.now) || holds (C.choices self.now.choices.now) rows.now part.now) }
+        ensures { result ≡ (not (knows slots.now part.now)
+            || holds (C.choices self.now.choices.now) rows.now part.now) }
     {
         !knows(part, slots) || is_true(test(part, rows, self.choices))
     }
 
     fn guard_holds(&self, guard: &Guard, slots: &[Option<usize>], rows: &Combo<'_>) -> bool
-        ensures { result ≡ (not (knows_expr slots.now guard.now.expr) || is_shown_cell (masked_cell (C.choices self.now.choices.now) rows.now guard.now.expr)) }
+        ensures { result ≡ (not (knows_expr slots.now guard.now.expr)
+            || is_shown_cell (masked_cell (C.choices self.now.choices.now) rows.now guard.now.expr)) }
     {
         !knows_expr(&guard.expr, slots) || cell(&guard.expr, rows, self.choices).is_shown()
     }
 
-    // Whether the guards hold, as far as their columns are known: true where some combination counts that has these rows.
+    // Whether the guards hold, as far as their columns are known: true where some combination counts that has these
+    // rows.
     fn guards_hold(&self, slots: &[Option<usize>], rows: &Combo<'_>) -> bool
         requires { rows.now ≡ rows_at self.now.sets.now slots.now }
         ensures { (places : List Place) → Fits slots.now places
-            → stands (C.choices self.now.choices.now) self.now.query.now self.now.sets.now places ≡ true → result ≡ true }
+            → stands (C.choices self.now.choices.now) self.now.query.now self.now.sets.now places ≡ true
+            → result ≡ true }
     {
         for guard in self.query.guards.as_slice() {
             if !self.guard_holds(guard, slots, rows) {
@@ -91,7 +97,8 @@ impl<'a, C: ChoiceView> Side<'a, C> {
     fn test_holds(&self, test: usize, slots: &[Option<usize>], rows: &Combo<'_>) -> bool
         requires { rows.now ≡ rows_at self.now.sets.now slots.now }
         ensures { (places : List Place) → Fits slots.now places
-            → stands (C.choices self.now.choices.now) self.now.query.now self.now.sets.now places ≡ true → result ≡ true }
+            → stands (C.choices self.now.choices.now) self.now.query.now self.now.sets.now places ≡ true
+            → result ≡ true }
     {
         match outer_parts(&self.query.cond).get(test) {
             Some(part) => self.part_holds(part, slots, rows),
@@ -103,7 +110,8 @@ impl<'a, C: ChoiceView> Side<'a, C> {
     fn tests_hold(&self, tests: &[usize], slots: &[Option<usize>], rows: &Combo<'_>) -> bool
         requires { rows.now ≡ rows_at self.now.sets.now slots.now }
         ensures { (places : List Place) → Fits slots.now places
-            → stands (C.choices self.now.choices.now) self.now.query.now self.now.sets.now places ≡ true → result ≡ true }
+            → stands (C.choices self.now.choices.now) self.now.query.now self.now.sets.now places ≡ true
+            → result ≡ true }
     {
         for test in tests {
             if !self.test_holds(*test, slots, rows) {

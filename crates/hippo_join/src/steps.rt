@@ -6,6 +6,8 @@ use crate::ties::Tie;
 pub struct Step {
     pub table: usize,
     pub tie: Option<Tie>,
+    /// Whether equalities say the row's key, by the rows that are chosen before: then it is looked up.
+    pub by_key: bool,
     /// Places in the table, in the order of the tie's column.
     pub places: Vec<usize>,
     /// The parts of the condition that are tested here.

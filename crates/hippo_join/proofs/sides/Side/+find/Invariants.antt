@@ -4,6 +4,7 @@ use Rattle.std.specs.Prelude.{slice_get}
 use Rattle.hippo_model.specs.Terms.{Place}
 use Rattle.hippo_join.specs.Places.{Fits, stands}
 use Rattle.hippo_join.specs.Finding.{has_places, Grows}
+use Rattle.hippo_join.specs.Walking.{followed}
 use Rattle.hippo_join.proofs.sides.Side.+find.Given as goal
 
 abbrev pub decreases-find : goal.decreases-find
@@ -15,10 +16,10 @@ decreases-find_behind g l = 3 * length l.rest.now + 1
 abbrev pub decreases-find_with : goal.decreases-find_with
 decreases-find_with g l = 3 * length l.rest.now + 2
 
-abbrev pub invariant-find-loop-place : goal.invariant-find-loop-place
-invariant-find-loop-place g l = record {
+abbrev pub invariant-find-loop-index : goal.invariant-find-loop-index
+invariant-find-loop-index g l = record {
   same : l.slots ≡ l.initial.slots;
   grows : Grows (g.C.ChoiceView.choices l.self.choices.now) l.self.query.now l.self.sets.now l.initial.found.keys l.found.keys;
   so_far : (places : List Place) → Fits l.initial.slots places → stands (g.C.ChoiceView.choices l.self.choices.now) l.self.query.now l.self.sets.now places ≡ true
-      → (k : ℕ) → k < l.place-index → slice_get places l.step.table ≡ Some (get_or l.place-items k 0) → has_places places l.found.keys ≡ true;
+      → (k : ℕ) → k < l.index → slice_get places l.step.table ≡ Some (get_or (followed l.following) k 0) → has_places places l.found.keys ≡ true;
 }

@@ -10,5 +10,5 @@ returns-in-Ok g c =
 
 pub returns-in-Err : goal.returns-in-Err
 returns-in-Err g c =
-    joined-many (g.C.ChoiceView.choices c.args.self.now.choices.now) c.args.self.now.query.now c.args.self.now.sets.now c.args.found.keys c.requires.order ANSWER_LIMIT c.in-Err.stop
+    joined-many (g.C.ChoiceView.choices c.args.self.now.choices.now) c.args.self.now.query.now c.args.self.now.sets.now c.args.found.keys c.requires.order ANSWER_LIMIT c.in-Err.fault
     (λ places has. sym (c.requires.exact places) ∙ has) (λ e. c.in-Err.ensures.1)

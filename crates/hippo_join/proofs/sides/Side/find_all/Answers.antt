@@ -1,12 +1,12 @@
 -- At the beginning no row is chosen, and nothing is found.
 use Rattle.std.proofs.Common.{◌∙◌, ap, replicate, None}
-use Rattle.hippo_join.proofs.FindingLemmas.{covers-all, none-count, found-exact}
+use Rattle.hippo_join.proofs.FindingLemmas.{walk-all, none-count, found-exact}
 use Rattle.hippo_join.proofs.ReachLemmas.{length-unchosen}
 use Rattle.hippo_join.proofs.sides.Side.find_all.Goals as goal
 
-pub find-result-requires-clause-covers : goal.find-result-requires-clause-covers
-find-result-requires-clause-covers g c =
-    covers-all (g.C.ChoiceView.choices c.args.self.now.choices.now) c.args.self.now.query.now c.args.self.now.sets.now c.args.order.now c.in_ok-steps.steps.items c.deref.result.now c.deref_mut.result.now c.in_ok-steps.ensures c.deref.ensures.value
+pub find-result-requires : goal.find-result-requires
+find-result-requires g c =
+    walk-all (g.C.ChoiceView.choices c.args.self.now.choices.now) c.args.self.now.query.now c.args.self.now.sets.now c.args.order.now c.in_ok-steps.steps.items c.deref.result.now c.deref_mut.result.now c.in_ok-steps.ensures c.deref.ensures.value
     (length-unchosen c.deref_mut.result.now c.len.result _ (c.deref_mut.ensures.value ∙ c.in_ok-slots.ensures) c.len.ensures) c.requires.whole
 
 pub returns-clause-found : goal.returns-clause-found

@@ -1,12 +1,15 @@
--- One step more.
-use Rattle.std.proofs.Common.{length-set}
-use Rattle.hippo_join.proofs.FindingLemmas.{steps-more}
+-- Where all steps list their places, they are steps.
+use Rattle.std.proofs.Common.{true}
+use Rattle.hippo_join.specs.Steps.{AreSteps}
+use Rattle.hippo_join.specs.Walking.{AreWalkable}
+use Rattle.hippo_join.proofs.FindingLemmas.{all-listed}
+use Rattle.hippo_join.proofs.ReachLemmas.{ok-then}
 use Rattle.hippo_join.proofs.sides.Side.steps.Goals as goal
 
-pub loop-table-preserved : goal.loop-table-preserved
-loop-table-preserved g c = record {
-  long = simp length-set c.loop-table.invariant.long;
-  so_far =
-      steps-more (g.C.ChoiceView.choices c.args.self.now.choices.now) c.args.self.now.query.now c.args.self.now.sets.now c.args.order.now c.loop-table.table-index c.loop-table.steps.items c.push.new.self.items c.in_ok-step.field-0
-      c.loop-table.invariant.so_far c.in_ok-step.ensures.0 c.in_ok-step.ensures.1 c.loop-table-test.true c.in_ok-push.ensures.items;
-}
+pub returns : goal.returns
+returns g c =
+    let choices = g.C.ChoiceView.choices c.args.self.now.choices.now in
+    let query = c.args.self.now.query.now in
+    let sets = c.args.self.now.sets.now in
+    let order = c.args.order.now in
+    ok-then (λ steps. AreWalkable choices query sets true order steps.items) (λ steps. AreSteps choices query sets order steps.items) c.steps_in.result c.steps_in.ensures (λ steps are. all-listed choices query sets order steps.items are)
