@@ -7,7 +7,7 @@ use Rattle.hippo_values.specs.declared.truths.CompareOp.{CompareOp}
 use Rattle.hippo_model.specs.declared.query.CondOf.{CondOf, CondOf-F, fold-roll-CondOf, roll-CondOf, map-CondOf}
 use Rattle.hippo_model.specs.declared.query.CondOf.TheVariants.{All, Any, Not, Compare, Between, Among, Missing, rolls-All, rolls-Any, rolls-Not, rolls-Compare, rolls-Between, rolls-Among, rolls-Missing}
 use Rattle.hippo_model.specs.declared.query.CondOf.TheOpen as open_
-use Rattle.hippo_catalog.specs.Comparisons.{comparisons_step, comparisons}
+use Rattle.hippo_catalog.specs.Comparisons.{comparisons_layer, comparisons}
 
 flat_map-append : {A B : Type 0} (f : A → List B) (xs ys : List A) → flat_map f (xs ++ ys) ≡ flat_map f xs ++ flat_map f ys
 flat_map-append f [] ys = refl
@@ -22,29 +22,29 @@ or_false true = refl
 or_false false = refl
 
 module _ {O : Type 0} where
-  by_step : (d : CondOf-F O (CondOf O)) (condition : CondOf O) → roll-CondOf O d ≡ condition → comparisons condition ≡ comparisons_step (map-CondOf O (CondOf O) (List (List O)) comparisons d)
-  by_step d condition made = ap comparisons (sym made) ∙ fold-roll-CondOf O (List (List O)) comparisons_step d
+  by_layer : (d : CondOf-F O (CondOf O)) (condition : CondOf O) → roll-CondOf O d ≡ condition → comparisons condition ≡ comparisons_layer (map-CondOf O (CondOf O) (List (List O)) comparisons d)
+  by_layer d condition made = ap comparisons (sym made) ∙ fold-roll-CondOf O (List (List O)) comparisons_layer d
 
   pub comparisons-All : (parts : List (CondOf O)) → comparisons (All parts) ≡ flat_map (λ lists. lists) (map comparisons parts)
-  comparisons-All parts = by_step (open_.All parts) (All parts) (rolls-All parts)
+  comparisons-All parts = by_layer (open_.All parts) (All parts) (rolls-All parts)
 
   pub comparisons-Any : (parts : List (CondOf O)) → comparisons (Any parts) ≡ flat_map (λ lists. lists) (map comparisons parts)
-  comparisons-Any parts = by_step (open_.Any parts) (Any parts) (rolls-Any parts)
+  comparisons-Any parts = by_layer (open_.Any parts) (Any parts) (rolls-Any parts)
 
   pub comparisons-Not : (part : CondOf O) → comparisons (Not part) ≡ comparisons part
-  comparisons-Not part = by_step (open_.Not part) (Not part) (rolls-Not part)
+  comparisons-Not part = by_layer (open_.Not part) (Not part) (rolls-Not part)
 
   pub comparisons-Compare : (op : CompareOp) (left right : O) → comparisons (Compare op left right) ≡ (left ∷ right ∷ []) ∷ []
-  comparisons-Compare op left right = by_step (open_.Compare op left right) (Compare op left right) (rolls-Compare op left right)
+  comparisons-Compare op left right = by_layer (open_.Compare op left right) (Compare op left right) (rolls-Compare op left right)
 
   pub comparisons-Between : (operand low high : O) → comparisons (Between operand low high) ≡ (operand ∷ low ∷ high ∷ []) ∷ []
-  comparisons-Between operand low high = by_step (open_.Between operand low high) (Between operand low high) (rolls-Between operand low high)
+  comparisons-Between operand low high = by_layer (open_.Between operand low high) (Between operand low high) (rolls-Between operand low high)
 
   pub comparisons-Among : (operand : O) (list : List O) → comparisons (Among operand list) ≡ (operand ∷ list) ∷ []
-  comparisons-Among operand list = by_step (open_.Among operand list) (Among operand list) (rolls-Among operand list)
+  comparisons-Among operand list = by_layer (open_.Among operand list) (Among operand list) (rolls-Among operand list)
 
   pub comparisons-Missing : (operand : O) → comparisons (Missing operand) ≡ (operand ∷ []) ∷ []
-  comparisons-Missing operand = by_step (open_.Missing operand) (Missing operand) (rolls-Missing operand)
+  comparisons-Missing operand = by_layer (open_.Missing operand) (Missing operand) (rolls-Missing operand)
 
   -- what is gathered from a condition's comparisons
   module _ {A : Type 0} (gather : List O → List A) where

@@ -17,18 +17,18 @@ use Rattle.hippo_catalog.specs.Refusals.{refused}
 use Rattle.hippo_catalog.specs.WrittenColumns.{column_refused, column_of, column_at}
 
 -- the operands that a condition compares with one another, where those of its parts are known
-abbrev pub comparisons_step : {O : Type 0} → CondOf-F O (List (List O)) → List (List O)
-comparisons_step (All parts) = flat_map (λ lists. lists) parts
-comparisons_step (Any parts) = flat_map (λ lists. lists) parts
-comparisons_step (Not part) = part
-comparisons_step (Compare op left right) = (left ∷ right ∷ []) ∷ []
-comparisons_step (Between operand low high) = (operand ∷ low ∷ high ∷ []) ∷ []
-comparisons_step (Among operand list) = (operand ∷ list) ∷ []
-comparisons_step (Missing operand) = (operand ∷ []) ∷ []
+abbrev pub comparisons_layer : {O : Type 0} → CondOf-F O (List (List O)) → List (List O)
+comparisons_layer (All parts) = flat_map (λ lists. lists) parts
+comparisons_layer (Any parts) = flat_map (λ lists. lists) parts
+comparisons_layer (Not part) = part
+comparisons_layer (Compare op left right) = (left ∷ right ∷ []) ∷ []
+comparisons_layer (Between operand low high) = (operand ∷ low ∷ high ∷ []) ∷ []
+comparisons_layer (Among operand list) = (operand ∷ list) ∷ []
+comparisons_layer (Missing operand) = (operand ∷ []) ∷ []
 
 -- the operands that a condition compares with one another, in text order; the operand of IS NULL stands alone
 abbrev pub comparisons : {O : Type 0} → CondOf O → List (List O)
-comparisons {O} condition = fold-CondOf O (List (List O)) comparisons_step condition
+comparisons {O} condition = fold-CondOf O (List (List O)) comparisons_layer condition
 
 abbrev pub operand_refused : List Schema → RawOperand → List NameFault
 operand_refused schemas (WrittenColumn written) = column_refused schemas written

@@ -11,7 +11,7 @@ use Rattle.hippo_model.specs.Masking.{Choices}
 use Rattle.hippo_join.specs.Places.{Fits, rows_at, chosen, stands}
 use Rattle.hippo_join.specs.Known.{is_chosen}
 use Rattle.hippo_join.specs.Finding.{Covers}
-use Rattle.hippo_join.specs.Steps.{ReachesFrom}
+use Rattle.hippo_join.specs.Stages.{ReachesFrom}
 use Rattle.hippo_join.specs.Existence.{are_shown, HasOne, Decides}
 use Rattle.hippo_join.proofs.SlotLemmas.{Fits-set, Fits-whole}
 use Rattle.hippo_join.proofs.PruneLemmas.{long-enough}
@@ -29,7 +29,7 @@ pub told-not : (fact : Type 0) (answer : Bool) → Decides fact (Ok answer) → 
 told-not fact true told is = absurd (false≢true (sym is))
 told-not fact false told is = told
 
--- where no step is left, each row is chosen
+-- where no stage is left, each row is chosen
 pub all-chosen : (slots : List (Option Place)) (places : List Place) → Covers [] slots → places ≡ map (λ slot. unwrap_or slot 0) slots → slots ≡ map Some places
 all-chosen slots places covers is = whole-chosen slots (covered-whole slots covers) ∙ ap (map Some) (sym is)
 
@@ -92,7 +92,7 @@ module _ (choices : Choices) (query : Masked) (seen : List Expr) (sets : List Ke
     | inr here ↦ not_here (subst (λ (j : ℕ). HasOne choices query seen sets (slice_set slots table (Some (get_or some j 0)))) here one)
   ]
 
-  -- all places of a step's were tried
+  -- all places of a stage's were tried
   pub none-tried : (slots : List (Option Place)) (table : Place) (some : List Place) (i : ℕ) → table < length sets → length some ≤ i → ReachesFrom choices query sets slots table some
       → ((k : ℕ) → k < i → ¬ HasOne choices query seen sets (slice_set slots table (Some (get_or some k 0)))) → ¬ HasOne choices query seen sets slots
   none-tried slots table some i within past reaches so_far one =

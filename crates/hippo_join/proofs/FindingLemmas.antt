@@ -22,10 +22,10 @@ use Rattle.hippo_model.specs.RowSets.{KeyedRows}
 use Rattle.hippo_model.specs.Masking.{Choices, is_guarded, masked_passes}
 use Rattle.hippo_eval.specs.declared.answers.EvalFault.{EvalFault}
 use Rattle.hippo_eval.specs.declared.answers.EvalFault.TheVariants.{TooManyRows, Memory}
-use Rattle.hippo_join.specs.declared.steps.Step.{Step}
+use Rattle.hippo_join.specs.declared.stages.Stage.{Stage}
 use Rattle.hippo_join.specs.Places.{Fits, chosen, in_range, stays, stands}
 use Rattle.hippo_join.specs.Known.{is_chosen, is_open}
-use Rattle.hippo_join.specs.Steps.{ReachesFrom, AreSteps}
+use Rattle.hippo_join.specs.Stages.{ReachesFrom, AreStages}
 use Rattle.hippo_join.specs.Walking.{IsWalkable, AreWalkable, CanWalk}
 use Rattle.hippo_join.specs.Finding.{has_places, Covers, AllCount, Grows, IsFound, HasOneMore, IsAdded}
 use Rattle.hippo_join.proofs.SlotLemmas.{Fits-open, Fits-set, Fits-whole}
@@ -33,16 +33,16 @@ use Rattle.hippo_join.proofs.PruneLemmas.{long-enough}
 
 -- a test of places, one table after the other
 pub in_range-drop : (sets : List KeyedRows) (places : List Place) (i : ℕ) (set : KeyedRows) (place : Place) → slice_get sets i ≡ Some set → slice_get places i ≡ Some place → in_range (drop i sets) (drop i places) ≡ (nat_lt place (length set.rows) && in_range (drop (i + 1) sets) (drop (i + 1) places))
-in_range-drop sets places i set place at here = rw (add-one i) (step sets places i set place at here)
+in_range-drop sets places i set place at here = rw (add-one i) (stage sets places i set place at here)
   where
     some_is : {A : Type 0} {a b : A} → Some a ≡ Some b → a ≡ b
     some_is e = cc
 
-    step : (sets : List KeyedRows) (places : List Place) (i : ℕ) (set : KeyedRows) (place : Place) → slice_get sets i ≡ Some set → slice_get places i ≡ Some place → in_range (drop i sets) (drop i places) ≡ (nat_lt place (length set.rows) && in_range (drop (suc i) sets) (drop (suc i) places))
-    step [] places i set place at here = absurd cc
-    step (first ∷ sets) [] i set place at here = absurd cc
-    step (first ∷ sets) (p ∷ places) zero set place at here = λ j. nat_lt (some_is here j) (length ((some_is at j).rows)) && in_range sets places
-    step (first ∷ sets) (p ∷ places) (suc i) set place at here = step sets places i set place at here
+    stage : (sets : List KeyedRows) (places : List Place) (i : ℕ) (set : KeyedRows) (place : Place) → slice_get sets i ≡ Some set → slice_get places i ≡ Some place → in_range (drop i sets) (drop i places) ≡ (nat_lt place (length set.rows) && in_range (drop (suc i) sets) (drop (suc i) places))
+    stage [] places i set place at here = absurd cc
+    stage (first ∷ sets) [] i set place at here = absurd cc
+    stage (first ∷ sets) (p ∷ places) zero set place at here = λ j. nat_lt (some_is here j) (length ((some_is at j).rows)) && in_range sets places
+    stage (first ∷ sets) (p ∷ places) (suc i) set place at here = stage sets places i set place at here
 
 or_cond : (a b : Bool) → cond a true b ≡ (a || b)
 or_cond true b = refl
@@ -130,7 +130,7 @@ whole-chosen [] each = refl
 whole-chosen (None ∷ slots) each = absurd (false≢true (each 0 (omega arith)))
 whole-chosen (Some place ∷ slots) each = ap (λ l. Some place ∷ l) (whole-chosen slots (λ table within. each (suc table) (omega arith)))
 
--- no step is left: each row is chosen
+-- no stage is left: each row is chosen
 pub covered-whole : (slots : List (Option Place)) → Covers [] slots → (table : Place) → table < length slots → is_chosen slots table ≡ true
 covered-whole slots covers table within = elim (covers table within) as (λ _. is_chosen slots table ≡ true) [
   | inl known ↦ known
@@ -174,24 +174,24 @@ closed_chosen (None ∷ slots) zero closed within = absurd (false≢true (sym cl
 closed_chosen (Some place ∷ slots) zero closed within = refl
 closed_chosen (slot ∷ slots) (suc table) closed within = closed_chosen slots table closed (omega arith)
 
--- a step whose row is not to be chosen any more, and one whose row is chosen now
-pub covers-closed : (step : Step) (steps : List Step) (slots : List (Option Place)) → Covers (step ∷ steps) slots → is_open slots step.table ≡ false → Covers steps slots
-covers-closed step steps slots covers closed table within = elim (covers table within) as (λ _. (is_chosen slots table ≡ true) ⊎ Contains (map (λ s. s.table) steps) table) [
+-- a stage whose row is not to be chosen any more, and one whose row is chosen now
+pub covers-closed : (stage : Stage) (stages : List Stage) (slots : List (Option Place)) → Covers (stage ∷ stages) slots → is_open slots stage.table ≡ false → Covers stages slots
+covers-closed stage stages slots covers closed table within = elim (covers table within) as (λ _. (is_chosen slots table ≡ true) ⊎ Contains (map (λ s. s.table) stages) table) [
   | inl before ↦ inl before
-  | inr left ↦ elim (first_or_later step.table (map (λ s. s.table) steps) table left) as (λ _. (is_chosen slots table ≡ true) ⊎ Contains (map (λ s. s.table) steps) table) [
+  | inr left ↦ elim (first_or_later stage.table (map (λ s. s.table) stages) table left) as (λ _. (is_chosen slots table ≡ true) ⊎ Contains (map (λ s. s.table) stages) table) [
     | inl here ↦ inl (closed_chosen slots table (subst (λ (t : Place). is_open slots t ≡ false) here closed) within)
     | inr later ↦ inr later
   ]
 ]
 
-pub covers-more : (step : Step) (steps : List Step) (slots : List (Option Place)) (place : Place) → Covers (step ∷ steps) slots → step.table < length slots → Covers steps (slice_set slots step.table (Some place))
-covers-more step steps slots place covers here table within =
-    let known : is_chosen (slice_set slots step.table (Some place)) step.table ≡ true = chosen_at slots step.table place here in
+pub covers-more : (stage : Stage) (stages : List Stage) (slots : List (Option Place)) (place : Place) → Covers (stage ∷ stages) slots → stage.table < length slots → Covers stages (slice_set slots stage.table (Some place))
+covers-more stage stages slots place covers here table within =
+    let known : is_chosen (slice_set slots stage.table (Some place)) stage.table ≡ true = chosen_at slots stage.table place here in
     let before : table < length slots = simp length-set at within in
-    elim (covers table before) as (λ _. (is_chosen (slice_set slots step.table (Some place)) table ≡ true) ⊎ Contains (map (λ s. s.table) steps) table) [
-      | inl chosen ↦ inl (still_chosen slots step.table table place chosen)
-      | inr left ↦ elim (first_or_later step.table (map (λ s. s.table) steps) table left) as (λ _. (is_chosen (slice_set slots step.table (Some place)) table ≡ true) ⊎ Contains (map (λ s. s.table) steps) table) [
-        | inl same ↦ inl (subst (λ (t : Place). is_chosen (slice_set slots step.table (Some place)) t ≡ true) same known)
+    elim (covers table before) as (λ _. (is_chosen (slice_set slots stage.table (Some place)) table ≡ true) ⊎ Contains (map (λ s. s.table) stages) table) [
+      | inl chosen ↦ inl (still_chosen slots stage.table table place chosen)
+      | inr left ↦ elim (first_or_later stage.table (map (λ s. s.table) stages) table left) as (λ _. (is_chosen (slice_set slots stage.table (Some place)) table ≡ true) ⊎ Contains (map (λ s. s.table) stages) table) [
+        | inl same ↦ inl (subst (λ (t : Place). is_chosen (slice_set slots stage.table (Some place)) t ≡ true) same known)
         | inr later ↦ inr later
       ]
     ]
@@ -207,7 +207,7 @@ unchosen-same (Some place ∷ slots) zero none = absurd (false≢true (sym none)
 unchosen-same (slot ∷ slots) (suc table) none = ap (λ l. slot ∷ l) (unchosen-same slots table none)
 
 module _ (choices : Choices) (query : Masked) (sets : List KeyedRows) where
-  -- a place more of a step's was tried
+  -- a place more of a stage's was tried
   pub so-far-more : (slots : List (Option Place)) (table : Place) (some : List Place) (i : ℕ) (before after : List (List Place)) → Grows choices query sets before after
       → ((places : List Place) → Fits (slice_set slots table (Some (get_or some i 0))) places → stands choices query sets places ≡ true → has_places places after ≡ true)
       → ((places : List Place) → Fits slots places → stands choices query sets places ≡ true → (k : ℕ) → k < i → slice_get places table ≡ Some (get_or some k 0) → has_places places before ≡ true)
@@ -223,7 +223,7 @@ module _ (choices : Choices) (query : Masked) (sets : List KeyedRows) where
       below_or_at : (k n : ℕ) → k < n + 1 → (k < n) ⊎ (k ≡ n)
       below_or_at k n lower = grind arith
 
-  -- all places of a step's were tried
+  -- all places of a stage's were tried
   pub all-tried : (slots : List (Option Place)) (table : Place) (some : List Place) (i : ℕ) (found : List (List Place)) → table < length sets → length some ≤ i → ReachesFrom choices query sets slots table some
       → ((places : List Place) → Fits slots places → stands choices query sets places ≡ true → (k : ℕ) → k < i → slice_get places table ≡ Some (get_or some k 0) → has_places places found ≡ true)
       → (places : List Place) → Fits slots places → stands choices query sets places ≡ true → has_places places found ≡ true
@@ -242,15 +242,15 @@ module _ (choices : Choices) (query : Masked) (sets : List KeyedRows) where
   pub nothing-fits : (slots : List (Option Place)) (limit : ℕ) (found : List (List Place)) (may : Bool) → may ≡ false → ((places : List Place) → Fits slots places → stands choices query sets places ≡ true → may ≡ true) → IsFound choices query sets slots limit found (Ok tt)
   nothing-fits slots limit found may not_may all = λ places fits counts. absurd (false≢true (sym not_may ∙ all places fits counts))
 
--- the first of some steps, and the others
+-- the first of some stages, and the others
 pub all-first : {X : Type 0} (P : X → Type 0) (xs : List X) (x : X) (rest : List X) → All P xs → xs ≡ x ∷ rest → P x
 all-first P xs x rest all is = let each : All P (x ∷ rest) = subst (λ l. All P l) is all in each 0 x (omega arith)
 
 pub all-rest : {X : Type 0} (P : X → Type 0) (xs : List X) (x : X) (rest : List X) → All P xs → xs ≡ x ∷ rest → All P rest
 all-rest P xs x rest all is = let each : All P (x ∷ rest) = subst (λ l. All P l) is all in λ k d within. each (suc k) d (omega arith)
 
-pub covers-first : (steps : List Step) (step : Step) (rest : List Step) (slots : List (Option Place)) → Covers steps slots → steps ≡ step ∷ rest → Covers (step ∷ rest) slots
-covers-first steps step rest slots covers is = let P : List Step → Type 0 = λ l. Covers l slots in subst P is covers
+pub covers-first : (stages : List Stage) (stage : Stage) (rest : List Stage) (slots : List (Option Place)) → Covers stages slots → stages ≡ stage ∷ rest → Covers (stage ∷ rest) slots
+covers-first stages stage rest slots covers is = let P : List Stage → Type 0 = λ l. Covers l slots in subst P is covers
 
 map_push : {A B : Type 0} (f : A → B) (xs : List A) (x : A) → map f (xs ++ x ∷ []) ≡ map f xs ++ f x ∷ []
 map_push f [] x = refl
@@ -262,50 +262,50 @@ same_tests false true there back = back refl
 same_tests false false there back = refl
 
 module _ (choices : Choices) (query : Masked) (sets : List KeyedRows) where
-  covers-all : (order : List Place) (steps : List Step) (slots : List (Option Place)) → map (λ step. step.table) steps ≡ order → length slots ≡ length sets → ((table : Place) → table < length sets → Contains order table) → Covers steps slots
-  covers-all order steps slots tables long whole table within = inr (subst (λ (l : List Place). Contains l table) (sym tables) (whole table (omega (arith, long))))
+  covers-all : (order : List Place) (stages : List Stage) (slots : List (Option Place)) → map (λ stage. stage.table) stages ≡ order → length slots ≡ length sets → ((table : Place) → table < length sets → Contains order table) → Covers stages slots
+  covers-all order stages slots tables long whole table within = inr (subst (λ (l : List Place). Contains l table) (sym tables) (whole table (omega (arith, long))))
 
-  -- one step more
-  pub steps-more : (lists : Bool) (order : List Place) (i : ℕ) (steps more : List Step) (step : Step) → AreWalkable choices query sets lists (take i order) steps → IsWalkable choices query sets step → (lists ≡ true → step.by_key ≡ false)
-      → step.table ≡ get_or order i 0 → i < length order → more ≡ steps ++ step ∷ [] → AreWalkable choices query sets lists (take (i + 1) order) more
-  steps-more lists order i steps more step so_far walkable listed at within pushed =
-      let P : Step → Type 0 = λ s. IsWalkable choices query sets s × (lists ≡ true → s.by_key ≡ false) in
+  -- one stage more
+  pub stages-more : (lists : Bool) (order : List Place) (i : ℕ) (stages more : List Stage) (stage : Stage) → AreWalkable choices query sets lists (take i order) stages → IsWalkable choices query sets stage → (lists ≡ true → stage.by_key ≡ false)
+      → stage.table ≡ get_or order i 0 → i < length order → more ≡ stages ++ stage ∷ [] → AreWalkable choices query sets lists (take (i + 1) order) more
+  stages-more lists order i stages more stage so_far walkable listed at within pushed =
+      let P : Stage → Type 0 = λ s. IsWalkable choices query sets s × (lists ≡ true → s.by_key ≡ false) in
       record {
-        each = subst (λ l. All P l) (sym pushed) (All-push P steps step so_far.each (walkable, listed));
+        each = subst (λ l. All P l) (sym pushed) (All-push P stages stage so_far.each (walkable, listed));
         tables =
-            ap (λ (l : List Step). map (λ s. s.table) l) pushed ∙ map_push (λ (s : Step). s.table) steps step ∙ (λ j. so_far.tables j ++ at j ∷ []) ∙ sym (take_more order i 0 within);
+            ap (λ (l : List Stage). map (λ s. s.table) l) pushed ∙ map_push (λ (s : Stage). s.table) stages stage ∙ (λ j. so_far.tables j ++ at j ∷ []) ∙ sym (take_more order i 0 within);
       }
 
   -- where all are listed
-  pub all-listed : (order : List Place) (steps : List Step) → AreWalkable choices query sets true order steps → AreSteps choices query sets order steps
-  all-listed order steps are = record {
+  pub all-listed : (order : List Place) (stages : List Stage) → AreWalkable choices query sets true order stages → AreStages choices query sets order stages
+  all-listed order stages are = record {
     each = λ k d within. let one = are.each k d within in one.0 (one.1 refl);
     tables = are.tables;
   }
 
   -- at the beginning of a walk
-  pub walk-all : (order : List Place) (steps here : List Step) (slots : List (Option Place)) → AreWalkable choices query sets false order steps → here ≡ steps → length slots ≡ length sets → ((table : Place) → table < length sets → Contains order table) → CanWalk choices query sets here slots
-  walk-all order steps here slots are same long whole = record {
+  pub walk-all : (order : List Place) (stages here : List Stage) (slots : List (Option Place)) → AreWalkable choices query sets false order stages → here ≡ stages → length slots ≡ length sets → ((table : Place) → table < length sets → Contains order table) → CanWalk choices query sets here slots
+  walk-all order stages here slots are same long whole = record {
     long = long;
     walkable = subst (λ l. All (IsWalkable choices query sets) l) (sym same) (λ k d within. (are.each k d within).0);
-    covers = covers-all order here slots (ap (λ (l : List Step). map (λ s. s.table) l) same ∙ are.tables) long whole;
+    covers = covers-all order here slots (ap (λ (l : List Stage). map (λ s. s.table) l) same ∙ are.tables) long whole;
   }
 
-  -- behind the first step
-  pub walk-first : (steps : List Step) (step : Step) (rest : List Step) (slots now : List (Option Place)) → CanWalk choices query sets steps slots → steps ≡ step ∷ rest → now ≡ slots → CanWalk choices query sets (step ∷ rest) now
-  walk-first steps step rest slots now can first same =
-      subst (λ (s : List (Option Place)). CanWalk choices query sets (step ∷ rest) s) (sym same) (subst (λ (l : List Step). CanWalk choices query sets l slots) first can)
+  -- behind the first stage
+  pub walk-first : (stages : List Stage) (stage : Stage) (rest : List Stage) (slots now : List (Option Place)) → CanWalk choices query sets stages slots → stages ≡ stage ∷ rest → now ≡ slots → CanWalk choices query sets (stage ∷ rest) now
+  walk-first stages stage rest slots now can first same =
+      subst (λ (s : List (Option Place)). CanWalk choices query sets (stage ∷ rest) s) (sym same) (subst (λ (l : List Stage). CanWalk choices query sets l slots) first can)
 
-  pub walk-closed : (steps : List Step) (step : Step) (rest : List Step) (slots : List (Option Place)) → CanWalk choices query sets steps slots → steps ≡ step ∷ rest → is_open slots step.table ≡ false → CanWalk choices query sets rest slots
-  walk-closed steps step rest slots can first closed =
-      let whole = walk-first steps step rest slots slots can first refl in
-      record { long = whole.long; walkable = all-rest (IsWalkable choices query sets) steps step rest can.walkable first; covers = covers-closed step rest slots whole.covers closed }
+  pub walk-closed : (stages : List Stage) (stage : Stage) (rest : List Stage) (slots : List (Option Place)) → CanWalk choices query sets stages slots → stages ≡ stage ∷ rest → is_open slots stage.table ≡ false → CanWalk choices query sets rest slots
+  walk-closed stages stage rest slots can first closed =
+      let whole = walk-first stages stage rest slots slots can first refl in
+      record { long = whole.long; walkable = all-rest (IsWalkable choices query sets) stages stage rest can.walkable first; covers = covers-closed stage rest slots whole.covers closed }
 
-  pub walk-chosen : (step : Step) (rest : List Step) (slots : List (Option Place)) (place : Place) → CanWalk choices query sets (step ∷ rest) slots → step.table < length slots → CanWalk choices query sets rest (slice_set slots step.table (Some place))
-  walk-chosen step rest slots place can within = record {
+  pub walk-chosen : (stage : Stage) (rest : List Stage) (slots : List (Option Place)) (place : Place) → CanWalk choices query sets (stage ∷ rest) slots → stage.table < length slots → CanWalk choices query sets rest (slice_set slots stage.table (Some place))
+  walk-chosen stage rest slots place can within = record {
     long = let long = can.long in simp length-set long;
-    walkable = all-rest (IsWalkable choices query sets) (step ∷ rest) step rest can.walkable refl;
-    covers = covers-more step rest slots place can.covers within;
+    walkable = all-rest (IsWalkable choices query sets) (stage ∷ rest) stage rest can.walkable refl;
+    covers = covers-more stage rest slots place can.covers within;
   }
 
   pub none-count : (some : List (List Place)) → some ≡ [] → AllCount choices query sets some

@@ -12,38 +12,38 @@ use Rattle.hippo_model.specs.declared.query.CondOf.{CondOf, CondOf-F, fold-roll-
 use Rattle.hippo_model.specs.declared.query.CondOf.TheOpen.{All, Any, Not, Compare, Between, Among, Missing}
 use Rattle.hippo_model.specs.declared.query.CondOf.TheVariants as conditions
 use Rattle.hippo_model.specs.declared.query.CondOf.TheVariants.{rolls-All, rolls-Any, rolls-Not, rolls-Compare, rolls-Between, rolls-Among, rolls-Missing}
-use Rattle.hippo_model.specs.Conditions.{least, greatest, truth_step, truth, is_null}
+use Rattle.hippo_model.specs.Conditions.{least, greatest, truth_layer, truth, is_null}
 use Rattle.hippo_model.specs.Terms.{Place}
-use Rattle.hippo_join.specs.Known.{knows_expr, knows_step, knows}
+use Rattle.hippo_join.specs.Known.{knows_expr, knows_layer, knows}
 
 module _ (slots : List (Option Place)) where
-  by_step : (d : CondOf-F Expr (CondOf Expr)) (condition : CondOf Expr) → roll-CondOf Expr d ≡ condition → knows slots condition ≡ knows_step slots (map-CondOf Expr (CondOf Expr) Bool (knows slots) d)
-  by_step d condition made = ap (knows slots) (sym made) ∙ fold-roll-CondOf Expr Bool (knows_step slots) d
+  by_layer : (d : CondOf-F Expr (CondOf Expr)) (condition : CondOf Expr) → roll-CondOf Expr d ≡ condition → knows slots condition ≡ knows_layer slots (map-CondOf Expr (CondOf Expr) Bool (knows slots) d)
+  by_layer d condition made = ap (knows slots) (sym made) ∙ fold-roll-CondOf Expr Bool (knows_layer slots) d
 
   all_of : (parts : List (CondOf Expr)) → list_all (λ part. part) (map (knows slots) parts) ≡ list_all (knows slots) parts
   all_of [] = refl
   all_of (part ∷ parts) = ap (λ b. knows slots part && b) (all_of parts)
 
   pub knows-All : (parts : List (CondOf Expr)) → knows slots (conditions.All parts) ≡ list_all (knows slots) parts
-  knows-All parts = by_step (All parts) (conditions.All parts) (rolls-All parts) ∙ all_of parts
+  knows-All parts = by_layer (All parts) (conditions.All parts) (rolls-All parts) ∙ all_of parts
 
   pub knows-Any : (parts : List (CondOf Expr)) → knows slots (conditions.Any parts) ≡ list_all (knows slots) parts
-  knows-Any parts = by_step (Any parts) (conditions.Any parts) (rolls-Any parts) ∙ all_of parts
+  knows-Any parts = by_layer (Any parts) (conditions.Any parts) (rolls-Any parts) ∙ all_of parts
 
   pub knows-Not : (part : CondOf Expr) → knows slots (conditions.Not part) ≡ knows slots part
-  knows-Not part = by_step (Not part) (conditions.Not part) (rolls-Not part)
+  knows-Not part = by_layer (Not part) (conditions.Not part) (rolls-Not part)
 
   pub knows-Compare : (op : CompareOp) (left right : Expr) → knows slots (conditions.Compare op left right) ≡ (knows_expr slots left && knows_expr slots right)
-  knows-Compare op left right = by_step (Compare op left right) (conditions.Compare op left right) (rolls-Compare op left right)
+  knows-Compare op left right = by_layer (Compare op left right) (conditions.Compare op left right) (rolls-Compare op left right)
 
   pub knows-Between : (value low high : Expr) → knows slots (conditions.Between value low high) ≡ (knows_expr slots value && (knows_expr slots low && knows_expr slots high))
-  knows-Between value low high = by_step (Between value low high) (conditions.Between value low high) (rolls-Between value low high)
+  knows-Between value low high = by_layer (Between value low high) (conditions.Between value low high) (rolls-Between value low high)
 
   pub knows-Among : (value : Expr) (list : List Expr) → knows slots (conditions.Among value list) ≡ (knows_expr slots value && list_all (knows_expr slots) list)
-  knows-Among value list = by_step (Among value list) (conditions.Among value list) (rolls-Among value list)
+  knows-Among value list = by_layer (Among value list) (conditions.Among value list) (rolls-Among value list)
 
   pub knows-Missing : (value : Expr) → knows slots (conditions.Missing value) ≡ knows_expr slots value
-  knows-Missing value = by_step (Missing value) (conditions.Missing value) (rolls-Missing value)
+  knows-Missing value = by_layer (Missing value) (conditions.Missing value) (rolls-Missing value)
 
 pub ruleset knowledge = (knows-All, knows-Any, knows-Not, knows-Compare, knows-Between, knows-Among, knows-Missing)
 
@@ -80,8 +80,8 @@ module _ (slots : List (Option Place)) (read other : Expr → Value) (agree : (e
   plain_layer layer = map-CondOf Expr Agreeing (CondOf Expr) (λ part. part.0) layer
 
   -- one layer, whose parts agree
-  layer_agrees : (layer : CondOf-F Expr Agreeing) → knows_step slots (map-CondOf Expr (CondOf Expr) Bool (knows slots) (plain_layer layer)) ≡ true
-      → truth_step read (map-CondOf Expr (CondOf Expr) Truth (truth read) (plain_layer layer)) ≡ truth_step other (map-CondOf Expr (CondOf Expr) Truth (truth other) (plain_layer layer))
+  layer_agrees : (layer : CondOf-F Expr Agreeing) → knows_layer slots (map-CondOf Expr (CondOf Expr) Bool (knows slots) (plain_layer layer)) ≡ true
+      → truth_layer read (map-CondOf Expr (CondOf Expr) Truth (truth read) (plain_layer layer)) ≡ truth_layer other (map-CondOf Expr (CondOf Expr) Truth (truth other) (plain_layer layer))
   layer_agrees (All parts) known = least_agrees parts known
   layer_agrees (Any parts) known = greatest_agrees parts known
   layer_agrees (Not part) known = ap truth_not (part.1 known)
@@ -99,9 +99,9 @@ module _ (slots : List (Option Place)) (read other : Expr → Value) (agree : (e
 
   rolled_agrees : (layer : CondOf-F Expr Agreeing) → Agrees (roll-CondOf Expr (plain_layer layer))
   rolled_agrees layer known =
-      fold-roll-CondOf Expr Truth (truth_step read) (plain_layer layer)
-      ∙ layer_agrees layer (sym (fold-roll-CondOf Expr Bool (knows_step slots) (plain_layer layer)) ∙ known)
-      ∙ sym (fold-roll-CondOf Expr Truth (truth_step other) (plain_layer layer))
+      fold-roll-CondOf Expr Truth (truth_layer read) (plain_layer layer)
+      ∙ layer_agrees layer (sym (fold-roll-CondOf Expr Bool (knows_layer slots) (plain_layer layer)) ∙ known)
+      ∙ sym (fold-roll-CondOf Expr Truth (truth_layer other) (plain_layer layer))
 
   pub truth-known : (condition : CondOf Expr) → Agrees condition
   truth-known = ind-CondOf Expr Agrees (λ layer parts is. subst (λ (plain : CondOf-F Expr (CondOf Expr)). Agrees (roll-CondOf Expr plain)) is (rolled_agrees parts))

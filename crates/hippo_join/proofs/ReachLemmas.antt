@@ -14,7 +14,7 @@ use Rattle.hippo_values.specs.declared.values.Value.{Value}
 use Rattle.hippo_values.specs.Order.{value_cmp}
 use Rattle.hippo_values.specs.OrderLaws.{value_total}
 use Rattle.hippo_model.specs.Conditions.{is_null}
-use Rattle.hippo_join.specs.declared.steps.Step.{Step}
+use Rattle.hippo_join.specs.declared.stages.Stage.{Stage}
 use Rattle.hippo_join.specs.Lookups.{value_at}
 use Rattle.hippo_model.specs.declared.query.Masked.{Masked}
 use Rattle.hippo_model.specs.Terms.{Place}
@@ -24,7 +24,7 @@ use Rattle.hippo_model.specs.Masking.{Choices}
 use Rattle.hippo_join.specs.declared.ties.Tie.{Tie}
 use Rattle.hippo_join.specs.Places.{chosen, Fits, slot_at, stands}
 use Rattle.hippo_join.specs.Ties.{holds, AreEqual, IsTieOf}
-use Rattle.hippo_join.specs.Steps.{IsStep}
+use Rattle.hippo_join.specs.Stages.{IsStage}
 use Rattle.hippo_join.proofs.PruneLemmas.{all-hold, value-tied}
 use Rattle.hippo_join.proofs.SlotLemmas.{Fits-open, Fits-set}
 
@@ -75,20 +75,20 @@ of-some {X} P o x p is = let at : IfSome (Some x) P = subst (λ (q : Option X). 
 
 -- a place whose row has the value that a tie asks for
 module _ (choices : Choices) (query : Masked) (sets : List KeyedRows) (slots : List (Option Place)) (places : List Place) (fits : Fits slots places) (counts : stands choices query sets places ≡ true) where
-  pub order-tied : (step : Step) (tie : Tie) (set others : KeyedRows) (place fixed : Place) (value : Value) → IsStep choices query sets step → step.tie ≡ Some tie
-      → slice_get sets step.table ≡ Some set → slice_get places step.table ≡ Some place → slice_get sets tie.other.table ≡ Some others → Some fixed ≡ slot_at slots tie.other.table
+  pub order-tied : (stage : Stage) (tie : Tie) (set others : KeyedRows) (place fixed : Place) (value : Value) → IsStage choices query sets stage → stage.tie ≡ Some tie
+      → slice_get sets stage.table ≡ Some set → slice_get places stage.table ≡ Some place → slice_get sets tie.other.table ≡ Some others → Some fixed ≡ slot_at slots tie.other.table
       → value ≡ value_at others tie.other.column fixed → value_cmp (value_at set tie.column place) value ≡ Equal
-  order-tied step tie set others place fixed value is_step is at here at_others there is_value =
-      let equal = of-some (λ t. (places : List Place) → stands choices query sets places ≡ true → AreEqual (chosen sets places) (record { table = step.table; column = t.column }) t.other) step.tie tie is_step.tied is places counts in
-      let same = value-tied choices query sets slots places fits counts step.table tie.column tie.other set others place fixed equal at here at_others (sym there) in
+  order-tied stage tie set others place fixed value is_stage is at here at_others there is_value =
+      let equal = of-some (λ t. (places : List Place) → stands choices query sets places ≡ true → AreEqual (chosen sets places) (record { table = stage.table; column = t.column }) t.other) stage.tie tie is_stage.tied is places counts in
+      let same = value-tied choices query sets slots places fits counts stage.table tie.column tie.other set others place fixed equal at here at_others (sym there) in
       ap (λ (v : Value). value_cmp v value) (same.0 ∙ sym is_value) ∙ tied_itself value_total value
 
-  pub not-null : (step : Step) (tie : Tie) (set others : KeyedRows) (place fixed : Place) → IsStep choices query sets step → step.tie ≡ Some tie
-      → slice_get sets step.table ≡ Some set → slice_get places step.table ≡ Some place → slice_get sets tie.other.table ≡ Some others → Some fixed ≡ slot_at slots tie.other.table
+  pub not-null : (stage : Stage) (tie : Tie) (set others : KeyedRows) (place fixed : Place) → IsStage choices query sets stage → stage.tie ≡ Some tie
+      → slice_get sets stage.table ≡ Some set → slice_get places stage.table ≡ Some place → slice_get sets tie.other.table ≡ Some others → Some fixed ≡ slot_at slots tie.other.table
       → ¬ (is_null (value_at others tie.other.column fixed) ≡ true)
-  not-null step tie set others place fixed is_step is at here at_others there null =
-      let equal = of-some (λ t. (places : List Place) → stands choices query sets places ≡ true → AreEqual (chosen sets places) (record { table = step.table; column = t.column }) t.other) step.tie tie is_step.tied is places counts in
-      let same = value-tied choices query sets slots places fits counts step.table tie.column tie.other set others place fixed equal at here at_others (sym there) in
+  not-null stage tie set others place fixed is_stage is at here at_others there null =
+      let equal = of-some (λ t. (places : List Place) → stands choices query sets places ≡ true → AreEqual (chosen sets places) (record { table = stage.table; column = t.column }) t.other) stage.tie tie is_stage.tied is places counts in
+      let same = value-tied choices query sets slots places fits counts stage.table tie.column tie.other set others place fixed equal at here at_others (sym there) in
       false≢true (sym same.1 ∙ null)
 
 pub length-unchosen : (slots : List (Option Place)) (n m : ℕ) → slots ≡ replicate n None → n ≡ m → length slots ≡ m

@@ -10,7 +10,7 @@ use Rattle.hippo_model.specs.RowSets.{KeyedRows}
 use Rattle.hippo_model.specs.Masking.{Choices}
 use Rattle.hippo_eval.specs.declared.answers.EvalFault.{EvalFault}
 use Rattle.hippo_eval.specs.declared.answers.EvalFault.TheVariants.{TooManyRows, Memory}
-use Rattle.hippo_join.specs.declared.steps.Step.{Step}
+use Rattle.hippo_join.specs.declared.stages.Stage.{Stage}
 use Rattle.hippo_join.specs.Places.{Fits, stands}
 use Rattle.hippo_join.specs.Known.{is_chosen}
 
@@ -22,11 +22,11 @@ has_places places some = list_any (λ other. is_eq (slice_cmp nat_cmp places oth
 abbrev pub IsRising : List (List Place) → Type 0
 IsRising some = IsStrictlySortedBy (slice_cmp nat_cmp) some
 
--- each table's row is chosen, or is to be chosen by a step
-abbrev pub Covers : List Step → List (Option Place) → Type 0
-Covers steps slots =
+-- each table's row is chosen, or is to be chosen by a stage
+abbrev pub Covers : List Stage → List (Option Place) → Type 0
+Covers stages slots =
     (table : Place) → table < length slots
-    → (is_chosen slots table ≡ true) ⊎ Contains (map (λ step. step.table) steps) table
+    → (is_chosen slots table ≡ true) ⊎ Contains (map (λ stage. stage.table) stages) table
 
 abbrev pub AllCount : Choices → Masked → List KeyedRows → List (List Place) → Type 0
 AllCount choices query sets some =

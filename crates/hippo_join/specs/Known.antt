@@ -27,15 +27,15 @@ knows_expr slots (Case column subject item rule opt_in after) =
 knows_expr slots (Literal value) = true
 
 -- the same of a condition, where it is known of its parts
-abbrev pub knows_step : List (Option Place) → CondOf-F Expr Bool → Bool
-knows_step slots (All parts) = list_all (λ part. part) parts
-knows_step slots (Any parts) = list_all (λ part. part) parts
-knows_step slots (Not part) = part
-knows_step slots (Compare op left right) = knows_expr slots left && knows_expr slots right
-knows_step slots (Between value low high) = knows_expr slots value && (knows_expr slots low && knows_expr slots high)
-knows_step slots (Among value list) = knows_expr slots value && list_all (knows_expr slots) list
-knows_step slots (Missing value) = knows_expr slots value
+abbrev pub knows_layer : List (Option Place) → CondOf-F Expr Bool → Bool
+knows_layer slots (All parts) = list_all (λ part. part) parts
+knows_layer slots (Any parts) = list_all (λ part. part) parts
+knows_layer slots (Not part) = part
+knows_layer slots (Compare op left right) = knows_expr slots left && knows_expr slots right
+knows_layer slots (Between value low high) = knows_expr slots value && (knows_expr slots low && knows_expr slots high)
+knows_layer slots (Among value list) = knows_expr slots value && list_all (knows_expr slots) list
+knows_layer slots (Missing value) = knows_expr slots value
 
 -- whether a condition's columns are in rows that are chosen
 abbrev pub knows : List (Option Place) → CondOf Expr → Bool
-knows slots condition = fold-CondOf Expr Bool (knows_step slots) condition
+knows slots condition = fold-CondOf Expr Bool (knows_layer slots) condition

@@ -3,7 +3,7 @@ pub mod Known
 pub mod Lookups
 pub mod Ties
 pub mod Keys
-pub mod Steps
+pub mod Stages
 pub mod Finding
 pub mod Walking
 pub mod Existence

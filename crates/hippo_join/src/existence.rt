@@ -4,14 +4,14 @@ ghost use Rattle.std.specs.List.{All};
 ghost use Rattle.hippo_model.specs.Masking.{masked_cell, is_shown_cell};
 ghost use Rattle.hippo_join.specs.Places.{rows_at, stands};
 ghost use Rattle.hippo_join.specs.Finding.{Covers};
-ghost use Rattle.hippo_join.specs.Steps.{IsStep};
+ghost use Rattle.hippo_join.specs.Stages.{IsStage};
 ghost use Rattle.hippo_join.specs.Walking.{CanWalk};
 ghost use Rattle.hippo_join.specs.Existence.{are_shown, HasOne, Decides};
 
 use crate::finding::chosen_places;
 use crate::known::is_open;
 use crate::sides::Side;
-use crate::steps::Step;
+use crate::stages::Stage;
 use hippo_eval::cell;
 use hippo_model::{ChoiceView, Combo, Expr};
 use hippo_values::Memory;
@@ -63,27 +63,27 @@ impl<'a, C: ChoiceView> Side<'a, C> {
         Ok(self.counts_seen(places.as_slice(), &rows, seen))
     }
 
-    // Whether some combination counts that has the rows that are chosen, where a place of a step's table is chosen too.
+    // Whether some combination counts that has the rows that are chosen, where a place of a stage's table is chosen too.
     #[cycle(has)]
     fn has_with(
         &self,
         alloc: Global,
-        step: &Step,
-        rest: &[Step],
+        stage: &Stage,
+        rest: &[Stage],
         place: usize,
         seen: &[Expr],
         slots: &mut [Option<usize>],
     ) -> Result<bool, Memory>
-        requires table { step.now.table < length slots.old }
+        requires table { stage.now.table < length slots.old }
         requires walk { CanWalk (C.choices self.now.choices.now) self.now.query.now self.now.sets.now
-            (step.now ∷ rest.now) slots.old }
-        ensures slots { OnOk result (slots.new ≡ slice_set slots.old step.now.table None) }
+            (stage.now ∷ rest.now) slots.old }
+        ensures slots { OnOk result (slots.new ≡ slice_set slots.old stage.now.table None) }
         ensures one { Decides (HasOne (C.choices self.now.choices.now) self.now.query.now seen.now self.now.sets.now
-            (slice_set slots.old step.now.table (Some place))) result }
+            (slice_set slots.old stage.now.table (Some place))) result }
     {
-        slots[step.table] = Some(place);
-        let found = self.has_behind(alloc, &step.tests, rest, seen, slots)?;
-        slots[step.table] = None;
+        slots[stage.table] = Some(place);
+        let found = self.has_behind(alloc, &stage.tests, rest, seen, slots)?;
+        slots[stage.table] = None;
         Ok(found)
     }
 
@@ -93,7 +93,7 @@ impl<'a, C: ChoiceView> Side<'a, C> {
         &self,
         alloc: Global,
         tests: &[usize],
-        rest: &[Step],
+        rest: &[Stage],
         seen: &[Expr],
         slots: &mut [Option<usize>],
     ) -> Result<bool, Memory>
@@ -114,24 +114,24 @@ impl<'a, C: ChoiceView> Side<'a, C> {
     fn has_from(
         &self,
         alloc: Global,
-        steps: &[Step],
+        stages: &[Stage],
         seen: &[Expr],
         slots: &mut [Option<usize>],
     ) -> Result<bool, Memory>
-        requires { CanWalk (C.choices self.now.choices.now) self.now.query.now self.now.sets.now steps.now slots.old }
+        requires { CanWalk (C.choices self.now.choices.now) self.now.query.now self.now.sets.now stages.now slots.old }
         ensures slots { OnOk result (slots.new ≡ slots.old) }
         ensures one { Decides (HasOne (C.choices self.now.choices.now) self.now.query.now seen.now self.now.sets.now
             slots.old) result }
     {
-        let Some((step, rest)) = steps.split_first() else {
+        let Some((stage, rest)) = stages.split_first() else {
             return self.has_chosen(alloc, seen, slots);
         };
-        if !is_open(slots, step.table) {
+        if !is_open(slots, stage.table) {
             return self.has_from(alloc, rest, seen, slots);
         }
-        let following = self.following(alloc, step, slots)?;
+        let following = self.following(alloc, stage, slots)?;
         for index in 0..following.len() {
-            if self.has_with(alloc, step, rest, following.place(index), seen, slots)? {
+            if self.has_with(alloc, stage, rest, following.place(index), seen, slots)? {
                 return Ok(true);
             }
         }
@@ -139,21 +139,21 @@ impl<'a, C: ChoiceView> Side<'a, C> {
     }
 
     /// Whether some combination counts that has the rows that are chosen, and shows each cell that is to be seen. Wants
-    /// steps for all tables whose row is not chosen; leaves the slots as they are, but where memory is short.
+    /// stages for all tables whose row is not chosen; leaves the slots as they are, but where memory is short.
     pub fn has(
         &self,
         alloc: Global,
-        steps: &[Step],
+        stages: &[Stage],
         seen: &[Expr],
         slots: &mut [Option<usize>],
     ) -> Result<bool, Memory>
         requires long { length slots.old ≡ length self.now.sets.now }
-        requires steps { All (IsStep (C.choices self.now.choices.now) self.now.query.now self.now.sets.now) steps.now }
-        requires covers { Covers steps.now slots.old }
+        requires stages { All (IsStage (C.choices self.now.choices.now) self.now.query.now self.now.sets.now) stages.now }
+        requires covers { Covers stages.now slots.old }
         ensures slots { OnOk result (slots.new ≡ slots.old) }
         ensures one { Decides (HasOne (C.choices self.now.choices.now) self.now.query.now seen.now self.now.sets.now
             slots.old) result }
     {
-        self.has_from(alloc, steps, seen, slots)
+        self.has_from(alloc, stages, seen, slots)
     }
 }

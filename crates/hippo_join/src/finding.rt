@@ -8,7 +8,7 @@ ghost use Rattle.hippo_eval.specs.declared.answers.EvalFault.TheVariants.{TooMan
 
 use crate::known::is_open;
 use crate::sides::Side;
-use crate::steps::Step;
+use crate::stages::Stage;
 use hippo_eval::{ANSWER_LIMIT, EvalFault, passes};
 use hippo_model::{ChoiceView, Combo, Places};
 use hippo_values::{Memory, Sequence};
@@ -97,30 +97,30 @@ impl<'a, C: ChoiceView> Side<'a, C> {
         }
     }
 
-    // Finds all combinations that count and have the rows that are chosen, where a place of a step's table is chosen
+    // Finds all combinations that count and have the rows that are chosen, where a place of a stage's table is chosen
     // too.
     #[cycle(find)]
     fn find_with(
         &self,
         alloc: Global,
-        step: &Step,
-        rest: &[Step],
+        stage: &Stage,
+        rest: &[Stage],
         place: usize,
         slots: &mut [Option<usize>],
         found: &mut BTreeSet<Places>,
     ) -> Result<(), EvalFault>
-        requires table { step.now.table < length slots.old }
+        requires table { stage.now.table < length slots.old }
         requires walk { CanWalk (C.choices self.now.choices.now) self.now.query.now self.now.sets.now
-            (step.now ∷ rest.now) slots.old }
-        ensures slots { OnOk result (slots.new ≡ slice_set slots.old step.now.table None) }
+            (stage.now ∷ rest.now) slots.old }
+        ensures slots { OnOk result (slots.new ≡ slice_set slots.old stage.now.table None) }
         ensures grows { Grows (C.choices self.now.choices.now) self.now.query.now self.now.sets.now
             found.old.keys found.new.keys }
         ensures found { IsFound (C.choices self.now.choices.now) self.now.query.now self.now.sets.now
-            (slice_set slots.old step.now.table (Some place)) ANSWER_LIMIT found.new.keys result }
+            (slice_set slots.old stage.now.table (Some place)) ANSWER_LIMIT found.new.keys result }
     {
-        slots[step.table] = Some(place);
-        self.find_behind(alloc, &step.tests, rest, slots, found)?;
-        slots[step.table] = None;
+        slots[stage.table] = Some(place);
+        self.find_behind(alloc, &stage.tests, rest, slots, found)?;
+        slots[stage.table] = None;
         Ok(())
     }
 
@@ -130,7 +130,7 @@ impl<'a, C: ChoiceView> Side<'a, C> {
         &self,
         alloc: Global,
         tests: &[usize],
-        rest: &[Step],
+        rest: &[Stage],
         slots: &mut [Option<usize>],
         found: &mut BTreeSet<Places>,
     ) -> Result<(), EvalFault>
@@ -153,26 +153,26 @@ impl<'a, C: ChoiceView> Side<'a, C> {
     pub(crate) fn find(
         &self,
         alloc: Global,
-        steps: &[Step],
+        stages: &[Stage],
         slots: &mut [Option<usize>],
         found: &mut BTreeSet<Places>,
     ) -> Result<(), EvalFault>
-        requires { CanWalk (C.choices self.now.choices.now) self.now.query.now self.now.sets.now steps.now slots.old }
+        requires { CanWalk (C.choices self.now.choices.now) self.now.query.now self.now.sets.now stages.now slots.old }
         ensures slots { OnOk result (slots.new ≡ slots.old) }
         ensures grows { Grows (C.choices self.now.choices.now) self.now.query.now self.now.sets.now
             found.old.keys found.new.keys }
         ensures found { IsFound (C.choices self.now.choices.now) self.now.query.now self.now.sets.now
             slots.old ANSWER_LIMIT found.new.keys result }
     {
-        let Some((step, rest)) = steps.split_first() else {
+        let Some((stage, rest)) = stages.split_first() else {
             return self.add_chosen(alloc, slots, found);
         };
-        if !is_open(slots, step.table) {
+        if !is_open(slots, stage.table) {
             return self.find(alloc, rest, slots, found);
         }
-        let following = self.following(alloc, step, slots)?;
+        let following = self.following(alloc, stage, slots)?;
         for index in 0..following.len() {
-            self.find_with(alloc, step, rest, following.place(index), slots, found)?;
+            self.find_with(alloc, stage, rest, following.place(index), slots, found)?;
         }
         Ok(())
     }

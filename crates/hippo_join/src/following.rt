@@ -1,16 +1,16 @@
-//! The places of a step that may follow the rows that are chosen.
+//! The places of a stage that may follow the rows that are chosen.
 ghost use Rattle.std.specs.Prelude.{◌≡◌, ◌<◌, ◌+◌, ◌-◌, IfOk, length, get_or, slice_get, unwrap_or};
-ghost use Rattle.hippo_join.specs.Steps.{ReachesFrom};
+ghost use Rattle.hippo_join.specs.Stages.{ReachesFrom};
 ghost use Rattle.hippo_join.specs.Walking.{followed, IsWalkable};
 
 use crate::keys::Span;
 use crate::sides::Side;
-use crate::steps::Step;
+use crate::stages::Stage;
 use hippo_model::ChoiceView;
 use hippo_values::Memory;
 use std::alloc::Global;
 
-// Places of a step: some of those that it lists, or those where a look-up by key may find its row.
+// Places of a stage: some of those that it lists, or those where a look-up by key may find its row.
 #[derive(Clone, Copy)]
 pub(crate) enum Following<'s> {
     Listed(&'s [usize]),
@@ -56,24 +56,24 @@ impl<'s> Following<'s> {
 }
 
 impl<'a, C: ChoiceView> Side<'a, C> {
-    // The places of a step that may follow the rows that are chosen. A look-up by key takes no memory but for the key,
+    // The places of a stage that may follow the rows that are chosen. A look-up by key takes no memory but for the key,
     // and time that grows with the logarithm of the table.
     pub(crate) fn following<'s>(
         &self,
         alloc: Global,
-        step: &'s Step,
+        stage: &'s Stage,
         slots: &[Option<usize>],
     ) -> Result<Following<'s>, Memory>
-        requires table { step.now.table < length self.now.sets.now }
-        requires step { IsWalkable (C.choices self.now.choices.now) self.now.query.now self.now.sets.now step.now }
+        requires table { stage.now.table < length self.now.sets.now }
+        requires stage { IsWalkable (C.choices self.now.choices.now) self.now.query.now self.now.sets.now stage.now }
         ensures { IfOk result (λ following. ReachesFrom
             (C.choices self.now.choices.now) self.now.query.now self.now.sets.now
-            slots.now step.now.table (followed following)) }
+            slots.now stage.now.table (followed following)) }
     {
-        if step.by_key {
-            Ok(Following::Sought(self.span(alloc, step.table, slots)?))
+        if stage.by_key {
+            Ok(Following::Sought(self.span(alloc, stage.table, slots)?))
         } else {
-            Ok(Following::Listed(self.places_of(step, slots)))
+            Ok(Following::Listed(self.places_of(stage, slots)))
         }
     }
 }

@@ -63,9 +63,9 @@ impl<'a, C: ChoiceView> Side<'a, C> {
         ensures many { result ≡ Err TooManyRows → ANSWER_LIMIT < length found.new.keys }
     {
         let _count = found.len();
-        let steps = self.steps_in(alloc, order, false)?;
+        let stages = self.stages_in(alloc, order, false)?;
         let mut slots = open_slots(alloc, self.sets.len())?;
-        let result = self.find(alloc, &steps, &mut slots, found);
+        let result = self.find(alloc, &stages, &mut slots, found);
         let _count = found.len();
         result
     }

@@ -11,7 +11,7 @@ mod lookups;
 mod orders;
 mod reaching;
 mod sides;
-mod steps;
+mod stages;
 mod ties;
 
 pub use joins::{blank_row, run};
@@ -19,5 +19,5 @@ pub use lookups::value_at;
 pub use orders::{order_behind, plan};
 pub use reaching::{open_slots, push_if};
 pub use sides::Side;
-pub use steps::Step;
+pub use stages::Stage;
 pub use ties::Tie;

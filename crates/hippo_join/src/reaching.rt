@@ -8,13 +8,13 @@ ghost use Rattle.hippo_join.specs.Lookups.{IsByColumn};
 ghost use Rattle.hippo_join.specs.Ties.{AreEqual};
 ghost use Rattle.hippo_join.specs.Keys.{IsWithin};
 ghost use Rattle.hippo_join.specs.Walking.{IsWalkable, AreWalkable};
-ghost use Rattle.hippo_join.specs.Steps.{Reaches, ReachesFrom, IsStep, AreSteps};
+ghost use Rattle.hippo_join.specs.Stages.{Reaches, ReachesFrom, IsStage, AreStages};
 
 use crate::keys::Span;
 use crate::known::{knows, knows_expr, slot_at};
 use crate::lookups::{known_value, sort_by_column, with_value};
 use crate::sides::Side;
-use crate::steps::Step;
+use crate::stages::Stage;
 use crate::ties::{Tie, find_tie, outer_parts};
 use hippo_model::{ChoiceView, Ref, RowSet};
 use hippo_values::Memory;
@@ -142,23 +142,23 @@ impl<'a, C: ChoiceView> Side<'a, C> {
         true
     }
 
-    // A table's step behind those whose rows are chosen, with its places.
-    fn listed_step(
+    // A table's stage behind those whose rows are chosen, with its places.
+    fn listed_stage(
         &self,
         alloc: Global,
         table: usize,
         slots: &[Option<usize>],
         tests: Vec<usize>,
-    ) -> Result<Step, Memory>
+    ) -> Result<Stage, Memory>
         requires { table < length self.now.sets.now }
-        ensures step { IfOk result (λ step. IsStep (C.choices self.now.choices.now) self.now.query.now self.now.sets.now
-            step) }
-        ensures listed { IfOk result (λ step. step.by_key ≡ false) }
-        ensures table { IfOk result (λ step. step.table ≡ table) }
+        ensures stage { IfOk result (λ stage. IsStage (C.choices self.now.choices.now) self.now.query.now self.now.sets.now
+            stage) }
+        ensures listed { IfOk result (λ stage. stage.by_key ≡ false) }
+        ensures table { IfOk result (λ stage. stage.table ≡ table) }
     {
         let places = self.reached_places(alloc, table)?;
         let Some(tie) = find_tie(outer_parts(&self.query.cond), table, slots) else {
-            return Ok(Step {
+            return Ok(Stage {
                 table,
                 tie: None,
                 by_key: false,
@@ -167,7 +167,7 @@ impl<'a, C: ChoiceView> Side<'a, C> {
             });
         };
         let places = sorted_by_column(self.sets.get(table), tie.column, places);
-        Ok(Step {
+        Ok(Stage {
             table,
             tie: Some(tie),
             by_key: false,
@@ -176,26 +176,26 @@ impl<'a, C: ChoiceView> Side<'a, C> {
         })
     }
 
-    // A table's step behind those whose rows are chosen: with its places, if all steps are to list theirs or if its key
+    // A table's stage behind those whose rows are chosen: with its places, if all stages are to list theirs or if its key
     // is not said.
-    fn step(
+    fn stage(
         &self,
         alloc: Global,
         table: usize,
         slots: &[Option<usize>],
         lists: bool,
-    ) -> Result<Step, Memory>
+    ) -> Result<Stage, Memory>
         requires sets { table < length self.now.sets.now }
         requires slots { table < length slots.now }
-        ensures walkable { IfOk result (λ step. IsWalkable
-            (C.choices self.now.choices.now) self.now.query.now self.now.sets.now step) }
-        ensures listed { IfOk result (λ step. lists ≡ true → step.by_key ≡ false) }
-        ensures table { IfOk result (λ step. step.table ≡ table) }
+        ensures walkable { IfOk result (λ stage. IsWalkable
+            (C.choices self.now.choices.now) self.now.query.now self.now.sets.now stage) }
+        ensures listed { IfOk result (λ stage. lists ≡ true → stage.by_key ≡ false) }
+        ensures table { IfOk result (λ stage. stage.table ≡ table) }
     {
         let by_key = !lists && self.tells_key(table, slots);
         let tests = self.tests_at(alloc, table, slots, by_key)?;
         if by_key {
-            Ok(Step {
+            Ok(Stage {
                 table,
                 tie: None,
                 by_key,
@@ -203,25 +203,25 @@ impl<'a, C: ChoiceView> Side<'a, C> {
                 tests,
             })
         } else {
-            self.listed_step(alloc, table, slots, tests)
+            self.listed_stage(alloc, table, slots, tests)
         }
     }
 
-    // The places of a step that may follow the rows that are chosen, by a tie.
-    fn tied_places<'s>(&self, step: &'s Step, tie: &Tie, slots: &[Option<usize>]) -> &'s [usize]
-        requires step { IsStep (C.choices self.now.choices.now) self.now.query.now self.now.sets.now step.now }
-        requires tie { step.now.tie ≡ Some tie.now }
+    // The places of a stage that may follow the rows that are chosen, by a tie.
+    fn tied_places<'s>(&self, stage: &'s Stage, tie: &Tie, slots: &[Option<usize>]) -> &'s [usize]
+        requires stage { IsStage (C.choices self.now.choices.now) self.now.query.now self.now.sets.now stage.now }
+        requires tie { stage.now.tie ≡ Some tie.now }
         ensures { ReachesFrom (C.choices self.now.choices.now) self.now.query.now self.now.sets.now
-            slots.now step.now.table result.now }
+            slots.now stage.now.table result.now }
     {
-        let places = step.places.as_slice();
+        let places = stage.places.as_slice();
         let Some(place) = slot_at(slots, tie.other.table) else {
             return places;
         };
-        if tie.other.table >= self.sets.len() || step.table >= self.sets.len() {
+        if tie.other.table >= self.sets.len() || stage.table >= self.sets.len() {
             return places;
         }
-        let set = self.sets.get(step.table);
+        let set = self.sets.get(stage.table);
         let others = self.sets.get(tie.other.table);
         match known_value(others, tie.other.column, place) {
             None => &places[..0],
@@ -229,15 +229,15 @@ impl<'a, C: ChoiceView> Side<'a, C> {
         }
     }
 
-    /// The places of a step that may follow the rows that are chosen.
-    pub fn places_of<'s>(&self, step: &'s Step, slots: &[Option<usize>]) -> &'s [usize]
-        requires { IsStep (C.choices self.now.choices.now) self.now.query.now self.now.sets.now step.now }
+    /// The places of a stage that may follow the rows that are chosen.
+    pub fn places_of<'s>(&self, stage: &'s Stage, slots: &[Option<usize>]) -> &'s [usize]
+        requires { IsStage (C.choices self.now.choices.now) self.now.query.now self.now.sets.now stage.now }
         ensures { ReachesFrom (C.choices self.now.choices.now) self.now.query.now self.now.sets.now
-            slots.now step.now.table result.now }
+            slots.now stage.now.table result.now }
     {
-        match &step.tie {
-            None => step.places.as_slice(),
-            Some(tie) => self.tied_places(step, tie, slots),
+        match &stage.tie {
+            None => stage.places.as_slice(),
+            Some(tie) => self.tied_places(stage, tie, slots),
         }
     }
 
@@ -269,32 +269,32 @@ impl<'a, C: ChoiceView> Side<'a, C> {
         Ok(tests)
     }
 
-    // The steps of a join, in an order of tables: all with their places, or only those whose keys are not said.
-    pub(crate) fn steps_in(
+    // The stages of a join, in an order of tables: all with their places, or only those whose keys are not said.
+    pub(crate) fn stages_in(
         &self,
         alloc: Global,
         order: &[usize],
         lists: bool,
-    ) -> Result<Vec<Step>, Memory>
+    ) -> Result<Vec<Stage>, Memory>
         requires { All (λ table. table < length self.now.sets.now) order.now }
-        ensures { IfOk result (λ steps. AreWalkable
-            (C.choices self.now.choices.now) self.now.query.now self.now.sets.now lists order.now steps.items) }
+        ensures { IfOk result (λ stages. AreWalkable
+            (C.choices self.now.choices.now) self.now.query.now self.now.sets.now lists order.now stages.items) }
     {
         let mut slots = open_slots(alloc, self.sets.len())?;
-        let mut steps = Vec::new(alloc);
+        let mut stages = Vec::new(alloc);
         for table in order {
-            steps.push(self.step(alloc, *table, &slots, lists)?)?;
+            stages.push(self.stage(alloc, *table, &slots, lists)?)?;
             slots[*table] = Some(0);
         }
-        Ok(steps)
+        Ok(stages)
     }
 
-    /// The steps of a join, in an order of tables.
-    pub fn steps(&self, alloc: Global, order: &[usize]) -> Result<Vec<Step>, Memory>
+    /// The stages of a join, in an order of tables.
+    pub fn stages(&self, alloc: Global, order: &[usize]) -> Result<Vec<Stage>, Memory>
         requires { All (λ table. table < length self.now.sets.now) order.now }
-        ensures { IfOk result (λ steps. AreSteps (C.choices self.now.choices.now) self.now.query.now self.now.sets.now
-            order.now steps.items) }
+        ensures { IfOk result (λ stages. AreStages (C.choices self.now.choices.now) self.now.query.now self.now.sets.now
+            order.now stages.items) }
     {
-        self.steps_in(alloc, order, true)
+        self.stages_in(alloc, order, true)
     }
 }

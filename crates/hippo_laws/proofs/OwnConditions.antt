@@ -13,8 +13,8 @@ use Rattle.hippo_model.specs.declared.query.CondOf.{CondOf, CondOf-F, fold-roll-
 use Rattle.hippo_model.specs.declared.query.CondOf.TheOpen.{All, Any, Not, Compare, Between, Among, Missing}
 use Rattle.hippo_model.specs.declared.query.Operand.{Operand}
 use Rattle.hippo_model.specs.declared.query.Ref.{Ref}
-use Rattle.hippo_model.specs.Conditions.{least, greatest, is_null, truth_step, truth}
-use Rattle.hippo_model.specs.Columns.{columns_in, columns_step, condition_columns}
+use Rattle.hippo_model.specs.Conditions.{least, greatest, is_null, truth_layer, truth}
+use Rattle.hippo_model.specs.Columns.{columns_in, columns_layer, condition_columns}
 
 -- two readings that agree on each operand whose columns all pass a test
 module _ (is_own : Ref → Bool) (read other : Operand → Value) (agree : (operand : Operand) → list_all is_own (columns_in operand) ≡ true → read operand ≡ other operand) where
@@ -61,8 +61,8 @@ module _ (is_own : Ref → Bool) (read other : Operand → Value) (agree : (oper
   plain_layer layer = map-CondOf Operand Agreeing (CondOf Operand) (λ part. part.0) layer
 
   -- one layer, whose parts agree
-  layer_agrees : (layer : CondOf-F Operand Agreeing) → list_all is_own (columns_step (map-CondOf Operand (CondOf Operand) (List Ref) condition_columns (plain_layer layer))) ≡ true
-      → truth_step read (map-CondOf Operand (CondOf Operand) Truth (truth read) (plain_layer layer)) ≡ truth_step other (map-CondOf Operand (CondOf Operand) Truth (truth other) (plain_layer layer))
+  layer_agrees : (layer : CondOf-F Operand Agreeing) → list_all is_own (columns_layer (map-CondOf Operand (CondOf Operand) (List Ref) condition_columns (plain_layer layer))) ≡ true
+      → truth_layer read (map-CondOf Operand (CondOf Operand) Truth (truth read) (plain_layer layer)) ≡ truth_layer other (map-CondOf Operand (CondOf Operand) Truth (truth other) (plain_layer layer))
   layer_agrees (All parts) own = least_agrees parts own
   layer_agrees (Any parts) own = greatest_agrees parts own
   layer_agrees (Not part) own = ap truth_not (part.1 own)
@@ -80,9 +80,9 @@ module _ (is_own : Ref → Bool) (read other : Operand → Value) (agree : (oper
 
   rolled_agrees : (layer : CondOf-F Operand Agreeing) → Agrees (roll-CondOf Operand (plain_layer layer))
   rolled_agrees layer own =
-      fold-roll-CondOf Operand Truth (truth_step read) (plain_layer layer)
-      ∙ layer_agrees layer (sym (ap (list_all is_own) (fold-roll-CondOf Operand (List Ref) columns_step (plain_layer layer))) ∙ own)
-      ∙ sym (fold-roll-CondOf Operand Truth (truth_step other) (plain_layer layer))
+      fold-roll-CondOf Operand Truth (truth_layer read) (plain_layer layer)
+      ∙ layer_agrees layer (sym (ap (list_all is_own) (fold-roll-CondOf Operand (List Ref) columns_layer (plain_layer layer))) ∙ own)
+      ∙ sym (fold-roll-CondOf Operand Truth (truth_layer other) (plain_layer layer))
 
   -- give a condition whose columns all pass it the same truth
   pub truth-own : (condition : CondOf Operand) → Agrees condition

@@ -6,7 +6,7 @@ use Rattle.hippo_values.specs.declared.truths.CompareOp.TheVariants.{Eq}
 use Rattle.hippo_values.specs.Truths.{truth_and, truth_or, truth_not, comparison}
 use Rattle.hippo_model.specs.declared.query.CondOf.{CondOf, CondOf-F, fold-roll-CondOf, roll-CondOf, map-CondOf, ind-CondOf}
 use Rattle.hippo_model.specs.declared.query.CondOf.TheOpen.{All, Any, Not, Compare, Between, Among, Missing}
-use Rattle.hippo_model.specs.Conditions.{least, greatest, truth_step, truth, changed_step, changed_operands}
+use Rattle.hippo_model.specs.Conditions.{least, greatest, truth_layer, truth, changed_layer, changed_operands}
 use Rattle.hippo_model.proofs.Truths.{truth-All, truth-Any, truth-Not, truth-Compare, truth-Between, truth-Among, truth-Missing}
 
 module _ {O P : Type 0} (change : O → P) (value : P → Value) where
@@ -39,8 +39,8 @@ module _ {O P : Type 0} (change : O → P) (value : P → Value) where
   plain_layer layer = map-CondOf O Agreeing (CondOf O) (λ part. part.0) layer
 
   -- one layer, whose parts agree
-  layer_agrees : (layer : CondOf-F O Agreeing) → truth value (changed_step change (map-CondOf O (CondOf O) (CondOf P) (changed_operands change) (plain_layer layer)))
-      ≡ truth_step changed_value (map-CondOf O (CondOf O) Truth (truth changed_value) (plain_layer layer))
+  layer_agrees : (layer : CondOf-F O Agreeing) → truth value (changed_layer change (map-CondOf O (CondOf O) (CondOf P) (changed_operands change) (plain_layer layer)))
+      ≡ truth_layer changed_value (map-CondOf O (CondOf O) Truth (truth changed_value) (plain_layer layer))
   layer_agrees (All parts) = truth-All value (map (changed_operands change) (parts_of parts)) ∙ least_agrees parts
   layer_agrees (Any parts) = truth-Any value (map (changed_operands change) (parts_of parts)) ∙ greatest_agrees parts
   layer_agrees (Not part) = truth-Not value (changed_operands change part.0) ∙ ap truth_not part.1
@@ -51,7 +51,7 @@ module _ {O P : Type 0} (change : O → P) (value : P → Value) where
 
   rolled_agrees : (layer : CondOf-F O Agreeing) → Agrees (roll-CondOf O (plain_layer layer))
   rolled_agrees layer =
-      ap (truth value) (fold-roll-CondOf O (CondOf P) (changed_step change) (plain_layer layer)) ∙ layer_agrees layer ∙ sym (fold-roll-CondOf O Truth (truth_step changed_value) (plain_layer layer))
+      ap (truth value) (fold-roll-CondOf O (CondOf P) (changed_layer change) (plain_layer layer)) ∙ layer_agrees layer ∙ sym (fold-roll-CondOf O Truth (truth_layer changed_value) (plain_layer layer))
 
   pub agrees : (condition : CondOf O) → Agrees condition
   agrees = ind-CondOf O Agrees (λ layer parts is. subst (λ (plain : CondOf-F O (CondOf O)). Agrees (roll-CondOf O plain)) is (rolled_agrees parts))

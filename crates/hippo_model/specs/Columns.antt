@@ -16,17 +16,17 @@ columns_in (Column column) = column ∷ []
 columns_in (Literal value) = []
 
 -- the columns of a condition, where those of its parts are known
-abbrev pub columns_step : CondOf-F Operand (List Ref) → List Ref
-columns_step (All parts) = flat_map (λ columns. columns) parts
-columns_step (Any parts) = flat_map (λ columns. columns) parts
-columns_step (Not part) = part
-columns_step (Compare op left right) = columns_in left ++ columns_in right
-columns_step (Between operand low high) = columns_in operand ++ columns_in low ++ columns_in high
-columns_step (Among operand list) = columns_in operand ++ flat_map columns_in list
-columns_step (Missing operand) = columns_in operand
+abbrev pub columns_layer : CondOf-F Operand (List Ref) → List Ref
+columns_layer (All parts) = flat_map (λ columns. columns) parts
+columns_layer (Any parts) = flat_map (λ columns. columns) parts
+columns_layer (Not part) = part
+columns_layer (Compare op left right) = columns_in left ++ columns_in right
+columns_layer (Between operand low high) = columns_in operand ++ columns_in low ++ columns_in high
+columns_layer (Among operand list) = columns_in operand ++ flat_map columns_in list
+columns_layer (Missing operand) = columns_in operand
 
 abbrev pub condition_columns : CondOf Operand → List Ref
-condition_columns condition = fold-CondOf Operand (List Ref) columns_step condition
+condition_columns condition = fold-CondOf Operand (List Ref) columns_layer condition
 
 -- a column by its table's name and its place there
 abbrev pub named_column : List Name → Ref → Name × Place

@@ -23,19 +23,19 @@ is_null Null = true
 is_null value = false
 
 -- the truth of a condition, where the truths of its parts are known
-abbrev pub truth_step : {O : Type 0} → (O → Value) → CondOf-F O Truth → Truth
-truth_step value (All parts) = least parts
-truth_step value (Any parts) = greatest parts
-truth_step value (Not part) = truth_not part
-truth_step value (Compare op left right) = comparison op (value left) (value right)
-truth_step value (Between operand low high) =
+abbrev pub truth_layer : {O : Type 0} → (O → Value) → CondOf-F O Truth → Truth
+truth_layer value (All parts) = least parts
+truth_layer value (Any parts) = greatest parts
+truth_layer value (Not part) = truth_not part
+truth_layer value (Compare op left right) = comparison op (value left) (value right)
+truth_layer value (Between operand low high) =
     truth_and (comparison Ge (value operand) (value low)) (comparison Le (value operand) (value high))
-truth_step value (Among operand list) = greatest (map (λ member. comparison Eq (value operand) (value member)) list)
-truth_step value (Missing operand) = truth_of (is_null (value operand))
+truth_layer value (Among operand list) = greatest (map (λ member. comparison Eq (value operand) (value member)) list)
+truth_layer value (Missing operand) = truth_of (is_null (value operand))
 
 -- the truth of a condition, where each operand has a value
 abbrev pub truth : {O : Type 0} → (O → Value) → CondOf O → Truth
-truth {O} value condition = fold-CondOf O Truth (truth_step value) condition
+truth {O} value condition = fold-CondOf O Truth (truth_layer value) condition
 
 abbrev pub is_true : Truth → Bool
 is_true True = true
@@ -43,18 +43,18 @@ is_true Unknown = false
 is_true False = false
 
 -- a condition with its operands changed, where its parts are changed already
-abbrev pub changed_step : {O P : Type 0} → (O → P) → CondOf-F O (CondOf P) → CondOf P
-changed_step change (All parts) = conditions.All parts
-changed_step change (Any parts) = conditions.Any parts
-changed_step change (Not part) = conditions.Not part
-changed_step change (Compare op left right) = conditions.Compare op (change left) (change right)
-changed_step change (Between operand low high) = conditions.Between (change operand) (change low) (change high)
-changed_step change (Among operand list) = conditions.Among (change operand) (map change list)
-changed_step change (Missing operand) = conditions.Missing (change operand)
+abbrev pub changed_layer : {O P : Type 0} → (O → P) → CondOf-F O (CondOf P) → CondOf P
+changed_layer change (All parts) = conditions.All parts
+changed_layer change (Any parts) = conditions.Any parts
+changed_layer change (Not part) = conditions.Not part
+changed_layer change (Compare op left right) = conditions.Compare op (change left) (change right)
+changed_layer change (Between operand low high) = conditions.Between (change operand) (change low) (change high)
+changed_layer change (Among operand list) = conditions.Among (change operand) (map change list)
+changed_layer change (Missing operand) = conditions.Missing (change operand)
 
 -- a condition with its operands changed
 abbrev pub changed_operands : {O P : Type 0} → (O → P) → CondOf O → CondOf P
-changed_operands {O} {P} change condition = fold-CondOf O (CondOf P) (changed_step change) condition
+changed_operands {O} {P} change condition = fold-CondOf O (CondOf P) (changed_layer change) condition
 
 -- the parts of a condition's outermost All; a condition that is no All is its own one part
 abbrev pub outer_parts : {O : Type 0} → CondOf O → List (CondOf O)

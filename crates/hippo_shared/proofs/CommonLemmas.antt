@@ -37,8 +37,8 @@ abbrev pub InBoth : List Name → List Name → Name → Type 0
 InBoth query audit table = (list_any (bytes_eq table) query ≡ true) × (list_any (bytes_eq table) audit ≡ true)
 
 all_more : (P Q : Name → Type 0) → ((name : Name) → P name → Q name) → (names : List Name) → AllByRecursion P names → AllByRecursion Q names
-all_more P Q step [] all = tt
-all_more P Q step (name ∷ names) all = (step name all.0, all_more P Q step names all.1)
+all_more P Q stage [] all = tt
+all_more P Q stage (name ∷ names) all = (stage name all.0, all_more P Q stage names all.1)
 
 or_right : (a b : Bool) → b ≡ true → (a || b) ≡ true
 or_right true b e = refl

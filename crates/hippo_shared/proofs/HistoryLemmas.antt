@@ -35,8 +35,8 @@ map_same f g [] all = refl
 map_same f g (x ∷ xs) all = λ i. all.0 i ∷ map_same f g xs all.1 i
 
 all_from : {X : Type 0} (P Q : X → Type 0) → ((x : X) → P x → Q x) → (xs : List X) → AllByRecursion P xs → AllByRecursion Q xs
-all_from P Q step [] all = tt
-all_from P Q step (x ∷ xs) all = (step x all.0, all_from P Q step xs all.1)
+all_from P Q stage [] all = tt
+all_from P Q stage (x ∷ xs) all = (stage x all.0, all_from P Q stage xs all.1)
 
 get_map : {X Y : Type 0} (f : X → Y) (xs : List X) (k : ℕ) (d : X) (e : Y) → k < length xs → get_or (map f xs) k e ≡ f (get_or xs k d)
 get_map f [] k d e within = absurd (omega arith)

@@ -67,7 +67,7 @@ pub map-push : {A B : Type 0} (f : A → B) (xs : List A) (x : A) → map f (xs 
 map-push f [] x = refl
 map-push f (y ∷ xs) x = ap (λ l. f y ∷ l) (map-push f xs x)
 
--- one pair of steps more
+-- one pair of stages more
 pub mapped-more : {A B : Type 0} (f : A → B) (some more : List A) (one : A) (xs : List B) (i : ℕ) (x : B) → map f some ≡ take i xs → more ≡ some ++ one ∷ [] → f one ≡ x → i < length xs → x ≡ get_or xs i x → map f more ≡ take (i + 1) xs
 mapped-more f some more one xs i x so_far pushed is within at =
     ap (map f) pushed ∙ map-push f some one ∙ (λ j. so_far j ++ is j ∷ []) ∙ sym (take-one-more xs i x within at)

@@ -15,14 +15,14 @@ use Rattle.hippo_model.specs.Masking.{Choices}
 use Rattle.hippo_join.specs.Places.{slot_at}
 use Rattle.hippo_join.specs.Known.{is_chosen}
 use Rattle.hippo_join.specs.Existence.{HasOne}
-use Rattle.hippo_join.specs.Steps.{ReachesFrom, IsStep, AreSteps}
+use Rattle.hippo_join.specs.Stages.{ReachesFrom, IsStage, AreStages}
 use Rattle.hippo_join.proofs.ExistenceLemmas.{Fits-unset, below_or_at, get_or_default}
 use Rattle.hippo_join.proofs.SlotLemmas.{Fits-at}
-use Rattle.hippo_join.specs.declared.steps.Step.{Step}
-use Rattle.hippo_shared.specs.declared.commons.CommonSteps.{CommonSteps}
+use Rattle.hippo_join.specs.declared.stages.Stage.{Stage}
+use Rattle.hippo_shared.specs.declared.commons.CommonStages.{CommonStages}
 use Rattle.hippo_shared.specs.declared.searching.Search.{Search}
 use Rattle.hippo_shared.specs.FirstPlaces.{AreOpen, AreWhole, AreFirst, IsFirst}
-use Rattle.hippo_shared.specs.Searching.{Slots, query_tables, audit_tables, FindsFirst, HasOneOf, IsReady, IsStepOf, ReachesOf, Shared}
+use Rattle.hippo_shared.specs.Searching.{Slots, query_tables, audit_tables, FindsFirst, HasOneOf, IsReady, IsStageOf, ReachesOf, Shared}
 use Rattle.hippo_shared.proofs.SideLemmas.{set-here, share-both, one-agrees}
 
 pub reaches-moved : (choices : Choices) (query : Masked) (sets : List KeyedRows) (slots : List (Option Place)) (table : Place) (some these sorted : List Place) → ReachesFrom choices query sets slots table some → these ≡ some → IsPermutation these sorted
@@ -39,7 +39,7 @@ in-either choices query sets slots table own other_choices other other_sets othe
       | inr same ↦ inr (reaches-moved other_choices other other_sets other_slots other_table others these sorted reached same moved)
     ]
 
--- a row that may be chosen stands among those that a step reaches
+-- a row that may be chosen stands among those that a stage reaches
 pub reach-one : (choices : Choices) (query : Masked) (seen : List Expr) (sets : List KeyedRows) (slots : List (Option Place)) (table : Place) (some : List Place) (place : Place) → slice_get slots table ≡ Some None → ReachesFrom choices query sets slots table some
     → HasOne choices query seen sets (slice_set slots table (Some place)) → Contains some place
 reach-one choices query seen sets slots table some place free reaches one =
@@ -49,20 +49,20 @@ reach-one choices query seen sets slots table some place free reaches one =
     reaches one.places (Fits-unset slots one.places table place unchosen one.fits) one.counts place (Fits-at more one.places table place one.fits here)
 
 -- none of a list's places up to one is the first of places by which both sides have a combination
-abbrev pub NoneSoFar : {C : Type 0} → (C → Choices) → Search C → List CommonSteps → Slots → Slots → List Place → ℕ → Type 0
+abbrev pub NoneSoFar : {C : Type 0} → (C → Choices) → Search C → List CommonStages → Slots → Slots → List Place → ℕ → Type 0
 NoneSoFar choices sides left query audit places i =
     (k : ℕ) → k < i → (others : List Place) → ¬ Shared choices sides left query audit (get_or places k 0 ∷ others)
 
-length-tables : (left : List CommonSteps) → length (query_tables left) ≡ length (audit_tables left)
+length-tables : (left : List CommonStages) → length (query_tables left) ≡ length (audit_tables left)
 length-tables [] = refl
-length-tables (steps ∷ left) = ap suc (length-tables left)
+length-tables (stages ∷ left) = ap suc (length-tables left)
 
 module _ {C : Type 0} (choices : C → Choices) (sides : Search C) where
   -- ---- what a search counts on
-  pub ready-none : (common : List CommonSteps) (query audit : Slots) → IsReady choices sides common query audit → IsReady choices sides [] query audit
+  pub ready-none : (common : List CommonStages) (query audit : Slots) → IsReady choices sides common query audit → IsReady choices sides [] query audit
   ready-none common query audit ready = record {
-    query_steps = ready.query_steps;
-    audit_steps = ready.audit_steps;
+    query_stages = ready.query_stages;
+    audit_stages = ready.audit_stages;
     query_left = λ k d within. absurd (omega arith);
     audit_left = λ k d within. absurd (omega arith);
     query_long = ready.query_long;
@@ -71,25 +71,25 @@ module _ {C : Type 0} (choices : C → Choices) (sides : Search C) where
     audit_open = tt;
   }
 
-  pub ready-next : (steps : CommonSteps) (rest : List CommonSteps) (query audit : Slots) (place : Place) → IsReady choices sides (steps ∷ rest) query audit
-      → IsReady choices sides rest (slice_set query steps.query.now.table (Some place)) (slice_set audit steps.audit.now.table (Some place))
-  ready-next steps rest query audit place ready = record {
-    query_steps = ready.query_steps;
-    audit_steps = ready.audit_steps;
+  pub ready-next : (stages : CommonStages) (rest : List CommonStages) (query audit : Slots) (place : Place) → IsReady choices sides (stages ∷ rest) query audit
+      → IsReady choices sides rest (slice_set query stages.query.now.table (Some place)) (slice_set audit stages.audit.now.table (Some place))
+  ready-next stages rest query audit place ready = record {
+    query_stages = ready.query_stages;
+    audit_stages = ready.audit_stages;
     query_left = λ k d within. ready.query_left (suc k) d (omega (arith, within));
     audit_left = λ k d within. ready.audit_left (suc k) d (omega (arith, within));
-    query_long = length-set query steps.query.now.table (Some place) ∙ ready.query_long;
-    audit_long = length-set audit steps.audit.now.table (Some place) ∙ ready.audit_long;
+    query_long = length-set query stages.query.now.table (Some place) ∙ ready.query_long;
+    audit_long = length-set audit stages.audit.now.table (Some place) ∙ ready.audit_long;
     query_open = ready.query_open.1 place;
     audit_open = ready.audit_open.1 place;
   }
 
-  pub ready-same : (left : List CommonSteps) (query query_now audit audit_now : Slots) → query_now ≡ query → audit_now ≡ audit → IsReady choices sides left query audit → IsReady choices sides left query_now audit_now
+  pub ready-same : (left : List CommonStages) (query query_now audit audit_now : Slots) → query_now ≡ query → audit_now ≡ audit → IsReady choices sides left query audit → IsReady choices sides left query_now audit_now
   ready-same left query query_now audit audit_now same_query same_audit ready =
       subst (λ (slots : Slots). IsReady choices sides left slots audit_now) (sym same_query) (subst (λ (slots : Slots). IsReady choices sides left query slots) (sym same_audit) ready)
 
   -- both sides have a combination with the rows that are chosen already
-  share-ones : (left : List CommonSteps) (query audit : Slots) (given : List Place) → AreOpen (query_tables left) query → AreOpen (audit_tables left) audit → Shared choices sides left query audit given
+  share-ones : (left : List CommonStages) (query audit : Slots) (given : List Place) → AreOpen (query_tables left) query → AreOpen (audit_tables left) audit → Shared choices sides left query audit given
       → HasOneOf choices sides.query.now sides.seen.now query × HasOneOf choices sides.audit.now [] audit
   share-ones left query audit given query_open audit_open share =
       let both = share-both (HasOneOf choices sides.query.now sides.seen.now) (HasOneOf choices sides.audit.now []) (query_tables left) (audit_tables left) query audit given share in (
@@ -97,37 +97,37 @@ module _ {C : Type 0} (choices : C → Choices) (sides : Search C) where
         (one-agrees (choices sides.audit.now.choices.now) sides.audit.now.query.now [] sides.audit.now.sets.now (audit_tables left) given audit audit_open (both.0 ∙ length-tables left) both.2).0,
       )
 
-  pub none-may : (left : List CommonSteps) (query audit : Slots) → IsReady choices sides left query audit → (may : Bool)
+  pub none-may : (left : List CommonStages) (query audit : Slots) → IsReady choices sides left query audit → (may : Bool)
       → (HasOneOf choices sides.query.now sides.seen.now query → HasOneOf choices sides.audit.now [] audit → may ≡ true) → may ≡ false → IsFirst (Shared choices sides left query audit) None
   none-may left query audit ready may told not given share =
       let ones = share-ones left query audit given ready.query_open ready.audit_open share in
       false≢true (sym not ∙ told ones.0 ones.1)
 
-  pub first-same : (left : List CommonSteps) (query audit : Slots) (here found : Option (Vec ℕ Global)) → here ≡ found
+  pub first-same : (left : List CommonStages) (query audit : Slots) (here found : Option (Vec ℕ Global)) → here ≡ found
       → IsFirst (Shared choices sides left query audit) (option_map (λ (places : Vec ℕ Global). places.items) found) → IsFirst (Shared choices sides left query audit) (option_map (λ (places : Vec ℕ Global). places.items) here)
   first-same left query audit here found is first =
       subst (λ (o : Option (Vec ℕ Global)). IsFirst (Shared choices sides left query audit) (option_map (λ (places : Vec ℕ Global). places.items) o)) (sym is) first
 
-  -- ---- a step's places are tried one after the other
-  module _ (common : List CommonSteps) (steps : CommonSteps) (rest : List CommonSteps) (split : common ≡ steps ∷ rest) (query audit : Slots) (ready : IsReady choices sides common query audit) where
-    pub split-ready : IsReady choices sides (steps ∷ rest) query audit
-    split-ready = subst (λ (left : List CommonSteps). IsReady choices sides left query audit) split ready
+  -- ---- a stage's places are tried one after the other
+  module _ (common : List CommonStages) (stages : CommonStages) (rest : List CommonStages) (split : common ≡ stages ∷ rest) (query audit : Slots) (ready : IsReady choices sides common query audit) where
+    pub split-ready : IsReady choices sides (stages ∷ rest) query audit
+    split-ready = subst (λ (left : List CommonStages). IsReady choices sides left query audit) split ready
 
-    pub first-steps : IsStepOf choices sides.query.now steps.query.now × IsStepOf choices sides.audit.now steps.audit.now
-    first-steps = (split-ready.query_left 0 steps.query.now (omega arith), split-ready.audit_left 0 steps.audit.now (omega arith))
+    pub first-stages : IsStageOf choices sides.query.now stages.query.now × IsStageOf choices sides.audit.now stages.audit.now
+    first-stages = (split-ready.query_left 0 stages.query.now (omega arith), split-ready.audit_left 0 stages.audit.now (omega arith))
 
     abbrev Shares : List Place → Type 0
-    Shares given = Shared choices sides (steps ∷ rest) query audit given
+    Shares given = Shared choices sides (stages ∷ rest) query audit given
 
     module _ (some these : List Place) (is : some ≡ these) (sorted : IsNonDecreasing these)
-        (reach : ReachesOf choices sides.query.now steps.query.now query these ⊎ ReachesOf choices sides.audit.now steps.audit.now audit these) where
+        (reach : ReachesOf choices sides.query.now stages.query.now query these ⊎ ReachesOf choices sides.audit.now stages.audit.now audit these) where
       reached : (place : Place) (given : List Place) → Shares (place ∷ given) → Contains some place
       reached place given share =
-          let next = ready-next steps rest query audit place split-ready in
-          let ones = share-ones rest (slice_set query steps.query.now.table (Some place)) (slice_set audit steps.audit.now.table (Some place)) given next.query_open next.audit_open share in
+          let next = ready-next stages rest query audit place split-ready in
+          let ones = share-ones rest (slice_set query stages.query.now.table (Some place)) (slice_set audit stages.audit.now.table (Some place)) given next.query_open next.audit_open share in
           subst (λ (l : List Place). Contains l place) (sym is) (elim reach as (λ _. Contains these place) [
-            | inl own ↦ reach-one (choices sides.query.now.choices.now) sides.query.now.query.now sides.seen.now sides.query.now.sets.now query steps.query.now.table these place split-ready.query_open.0 own ones.0
-            | inr own ↦ reach-one (choices sides.audit.now.choices.now) sides.audit.now.query.now [] sides.audit.now.sets.now audit steps.audit.now.table these place split-ready.audit_open.0 own ones.1
+            | inl own ↦ reach-one (choices sides.query.now.choices.now) sides.query.now.query.now sides.seen.now sides.query.now.sets.now query stages.query.now.table these place split-ready.query_open.0 own ones.0
+            | inr own ↦ reach-one (choices sides.audit.now.choices.now) sides.audit.now.query.now [] sides.audit.now.sets.now audit stages.audit.now.table these place split-ready.audit_open.0 own ones.1
           ])
 
       rises : IsNonDecreasing some
@@ -137,7 +137,7 @@ module _ {C : Type 0} (choices : C → Choices) (sides : Search C) where
       named place k within at = sym (get_or_default some k 0 place within) ∙ at
 
       -- the first place with which both sides have a combination
-      first-tried : (i : ℕ) → i < length some → NoneSoFar choices sides (steps ∷ rest) query audit some i → (given : List Place)
+      first-tried : (i : ℕ) → i < length some → NoneSoFar choices sides (stages ∷ rest) query audit some i → (given : List Place)
           → AreFirst (λ later. Shares (get_or some i 0 ∷ later)) given → AreFirst Shares (get_or some i 0 ∷ given)
       first-tried i within so_far given first = (
         first,
@@ -153,19 +153,19 @@ module _ {C : Type 0} (choices : C → Choices) (sides : Search C) where
           below_or_from : (k n : ℕ) → (k < n) ⊎ (n ≤ k)
           below_or_from k n = grind arith
 
-      none-here : (i : ℕ) → length some ≤ i → NoneSoFar choices sides (steps ∷ rest) query audit some i → (given : List Place) → ¬ Shares given
+      none-here : (i : ℕ) → length some ≤ i → NoneSoFar choices sides (stages ∷ rest) query audit some i → (given : List Place) → ¬ Shares given
       none-here i past so_far [] share = share
       none-here i past so_far (place ∷ given) share =
           let has = reached place given share in
           so_far has.0 (omega (arith, has.1)) given (subst (λ (p : Place). Shares (p ∷ given)) (sym (named place has.0 has.1 has.2)) share)
 
-      pub none-tried : (i : ℕ) → length some ≤ i → NoneSoFar choices sides (steps ∷ rest) query audit some i → IsFirst (Shared choices sides common query audit) None
-      none-tried i past so_far given = subst (λ (left : List CommonSteps). ¬ Shared choices sides left query audit given) (sym split) (none-here i past so_far given)
+      pub none-tried : (i : ℕ) → length some ≤ i → NoneSoFar choices sides (stages ∷ rest) query audit some i → IsFirst (Shared choices sides common query audit) None
+      none-tried i past so_far given = subst (λ (left : List CommonStages). ¬ Shared choices sides left query audit given) (sym split) (none-here i past so_far given)
 
       -- the same, of what a call answers over slots that are these
       module _ (query_now audit_now : Slots) (same_query : query_now ≡ query) (same_audit : audit_now ≡ audit) (found : Option (Vec ℕ Global)) (i : ℕ)
-          (told : IsFirst (Shared choices sides rest (slice_set query_now steps.query.now.table (Some (get_or some i 0))) (slice_set audit_now steps.audit.now.table (Some (get_or some i 0)))) (option_map (λ (places : Vec ℕ Global). places.items) found))
-          (so_far : NoneSoFar choices sides (steps ∷ rest) query audit some i) where
+          (told : IsFirst (Shared choices sides rest (slice_set query_now stages.query.now.table (Some (get_or some i 0))) (slice_set audit_now stages.audit.now.table (Some (get_or some i 0)))) (option_map (λ (places : Vec ℕ Global). places.items) found))
+          (so_far : NoneSoFar choices sides (stages ∷ rest) query audit some i) where
         abbrev Later : List Place → Type 0
         Later given = Shares (get_or some i 0 ∷ given)
 
@@ -174,8 +174,8 @@ module _ {C : Type 0} (choices : C → Choices) (sides : Search C) where
 
         told_here : IsFirst Later (option_map items found)
         told_here =
-            subst (λ (slots : Slots). IsFirst (Shared choices sides rest (slice_set query steps.query.now.table (Some (get_or some i 0))) (slice_set slots steps.audit.now.table (Some (get_or some i 0)))) (option_map items found)) same_audit
-            (subst (λ (slots : Slots). IsFirst (Shared choices sides rest (slice_set slots steps.query.now.table (Some (get_or some i 0))) (slice_set audit_now steps.audit.now.table (Some (get_or some i 0)))) (option_map items found)) same_query told)
+            subst (λ (slots : Slots). IsFirst (Shared choices sides rest (slice_set query stages.query.now.table (Some (get_or some i 0))) (slice_set slots stages.audit.now.table (Some (get_or some i 0)))) (option_map items found)) same_audit
+            (subst (λ (slots : Slots). IsFirst (Shared choices sides rest (slice_set slots stages.query.now.table (Some (get_or some i 0))) (slice_set audit_now stages.audit.now.table (Some (get_or some i 0)))) (option_map items found)) same_query told)
 
         pub first-made : (query_after audit_after : Slots) → query_after ≡ query_now → audit_after ≡ audit_now → i < length some → (value : Vec ℕ Global) → found ≡ Some value → (made : Vec ℕ Global) → items made ≡ get_or some i 0 ∷ items value
             → FindsFirst choices sides common query audit query_after audit_after (Ok (Some made))
@@ -185,10 +185,10 @@ module _ {C : Type 0} (choices : C → Choices) (sides : Search C) where
             record {
               same_query = query_kept ∙ same_query;
               same_audit = audit_kept ∙ same_audit;
-              first = subst (λ (left : List CommonSteps). AreFirst (Shared choices sides left query audit) (items made)) (sym split) here;
+              first = subst (λ (left : List CommonStages). AreFirst (Shared choices sides left query audit) (items made)) (sym split) here;
             }
 
-        pub none-more : found ≡ None → NoneSoFar choices sides (steps ∷ rest) query audit some (i + 1)
+        pub none-more : found ≡ None → NoneSoFar choices sides (stages ∷ rest) query audit some (i + 1)
         none-more at k lower given share =
             let none : IsFirst Later None = subst (λ (o : Option (Vec ℕ Global)). IsFirst Later (option_map items o)) at told_here in
             elim (below_or_at k i lower) as (λ _. ⊥) [
@@ -197,10 +197,10 @@ module _ {C : Type 0} (choices : C → Choices) (sides : Search C) where
             ]
 
   -- what is found where no table is left
-  pub none-left : (common : List CommonSteps) (query audit query_after audit_after : Slots) (result : Result (Option (Vec ℕ Global)) Memory) → length common ≡ 0
+  pub none-left : (common : List CommonStages) (query audit query_after audit_after : Slots) (result : Result (Option (Vec ℕ Global)) Memory) → length common ≡ 0
       → FindsFirst choices sides [] query audit query_after audit_after result → FindsFirst choices sides common query audit query_after audit_after result
   none-left [] query audit query_after audit_after result none finds = finds
-  none-left (steps ∷ common) query audit query_after audit_after result none finds = absurd (omega arith)
+  none-left (stages ∷ common) query audit query_after audit_after result none finds = absurd (omega arith)
 
 -- a slot that was open is open again
 open-again : (slots : List (Option Place)) (table : Place) → slice_get slots table ≡ Some None → slice_set slots table None ≡ slots
@@ -216,12 +216,12 @@ pub reset : (slots now : Slots) (table place : Place) → slice_get slots table 
 reset slots now table place free is = ap (λ (s : Slots). slice_set s table None) is ∙ set-set slots table (Some place) None ∙ open-again slots table free
 
 -- ---- the beginning of the search
-pub whole-steps : (choices : Choices) (query : Masked) (sets : List KeyedRows) (order listed : List Place) (steps here : List Step) (n : ℕ) → AreSteps choices query sets order steps → here ≡ steps → order ≡ listed → ((table : Place) → table < n → Contains listed table) → n ≡ length sets
+pub whole-stages : (choices : Choices) (query : Masked) (sets : List KeyedRows) (order listed : List Place) (stages here : List Stage) (n : ℕ) → AreStages choices query sets order stages → here ≡ stages → order ≡ listed → ((table : Place) → table < n → Contains listed table) → n ≡ length sets
     → AreWhole choices query sets here
-whole-steps choices query sets order listed steps here n are same ordered whole long = record {
-  each = subst (λ (l : List Step). All (IsStep choices query sets) l) (sym same) are.each;
+whole-stages choices query sets order listed stages here n are same ordered whole long = record {
+  each = subst (λ (l : List Stage). All (IsStage choices query sets) l) (sym same) are.each;
   all = λ table within.
-      let tables : map (λ (s : Step). s.table) here ≡ listed = ap (λ (l : List Step). map (λ s. s.table) l) same ∙ are.tables ∙ ordered in
+      let tables : map (λ (s : Stage). s.table) here ≡ listed = ap (λ (l : List Stage). map (λ s. s.table) l) same ∙ are.tables ∙ ordered in
       subst (λ (l : List Place). Contains l table) (sym tables) (whole table (subst (λ (m : ℕ). table < m) (sym long) within));
 }
 
@@ -244,16 +244,16 @@ map_map : {A B C : Type 0} (g : B → C) (f : A → B) (xs : List A) → map g (
 map_map g f [] = refl
 map_map g f (x ∷ xs) = ap (λ l. g (f x) ∷ l) (map_map g f xs)
 
-module _ {X : Type 0} (h : X → Step) (common listed : List X) (here steps : List Step) (n : ℕ) (same : common ≡ listed) (taken : map h listed ≡ take n here) (same_steps : here ≡ steps) where
-  pub common-are-steps : (P : Step → Type 0) → All P steps → All P (map h common)
-  common-are-steps P all =
-      let first : map h common ≡ take n steps = ap (map h) same ∙ taken ∙ ap (take n) same_steps in
-      subst (λ (l : List Step). All P l) (sym first) (all_front P steps n all)
+module _ {X : Type 0} (h : X → Stage) (common listed : List X) (here stages : List Stage) (n : ℕ) (same : common ≡ listed) (taken : map h listed ≡ take n here) (same_stages : here ≡ stages) where
+  pub common-are-stages : (P : Stage → Type 0) → All P stages → All P (map h common)
+  common-are-stages P all =
+      let first : map h common ≡ take n stages = ap (map h) same ∙ taken ∙ ap (take n) same_stages in
+      subst (λ (l : List Stage). All P l) (sym first) (all_front P stages n all)
 
-  pub common-tables-are : (order ordered first given : List Place) → map (λ (s : Step). s.table) steps ≡ order → order ≡ ordered → take (length first) ordered ≡ first → first ≡ given → n ≡ length given → map (λ x. (h x).table) common ≡ given
+  pub common-tables-are : (order ordered first given : List Place) → map (λ (s : Stage). s.table) stages ≡ order → order ≡ ordered → take (length first) ordered ≡ first → first ≡ given → n ≡ length given → map (λ x. (h x).table) common ≡ given
   common-tables-are order ordered first given tables is front same_first long =
-      sym (map_map (λ (s : Step). s.table) h common) ∙ ap (map (λ (s : Step). s.table)) (ap (map h) same ∙ taken ∙ ap (take n) same_steps)
-      ∙ map_front (λ (s : Step). s.table) n steps ∙ ap (take n) (tables ∙ is)
+      sym (map_map (λ (s : Stage). s.table) h common) ∙ ap (map (λ (s : Stage). s.table)) (ap (map h) same ∙ taken ∙ ap (take n) same_stages)
+      ∙ map_front (λ (s : Stage). s.table) n stages ∙ ap (take n) (tables ∙ is)
       ∙ ap (λ (m : ℕ). take m ordered) (long ∙ ap length (sym same_first)) ∙ front ∙ same_first
 
 pub four : {S : Type 0} (P : List Place → List Place → S → S → Type 0) (tables tables' others others' : List Place) (slots slots' other other' : S) → tables ≡ tables' → others ≡ others' → slots ≡ slots' → other ≡ other' → P tables others slots other → P tables' others' slots' other'

@@ -5,8 +5,8 @@ use Rattle.hippo_model.specs.declared.query.Masked.{Masked}
 use Rattle.hippo_model.specs.Masking.{Choices}
 use Rattle.hippo_model.specs.RowSets.{KeyedRows}
 use Rattle.hippo_model.specs.Terms.{Place}
-use Rattle.hippo_join.specs.declared.steps.Step.{Step}
-use Rattle.hippo_join.specs.Steps.{IsStep}
+use Rattle.hippo_join.specs.declared.stages.Stage.{Stage}
+use Rattle.hippo_join.specs.Stages.{IsStage}
 
 -- tables whose rows are not chosen, whatever rows of the others are
 abbrev pub AreOpen : List Place → List (Option Place) → Type 0
@@ -39,7 +39,7 @@ abbrev pub IsFirst : (List Place → Type 0) → Option (List Place) → Type 0
 IsFirst holds (Some places) = AreFirst holds places
 IsFirst holds None = (places : List Place) → ¬ holds places
 
--- steps of all tables
-pub record AreWhole (choices : Choices) (query : Masked) (sets : List KeyedRows) (steps : List Step) : Type 0 where
-  pub each : All (IsStep choices query sets) steps
-  pub all : (table : Place) → table < length sets → Contains (map (λ step. step.table) steps) table
+-- stages of all tables
+pub record AreWhole (choices : Choices) (query : Masked) (sets : List KeyedRows) (stages : List Stage) : Type 0 where
+  pub each : All (IsStage choices query sets) stages
+  pub all : (table : Place) → table < length sets → Contains (map (λ stage. stage.table) stages) table

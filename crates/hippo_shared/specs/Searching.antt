@@ -7,10 +7,10 @@ use Rattle.hippo_model.specs.declared.query.Expr.{Expr}
 use Rattle.hippo_model.specs.Terms.{Place}
 use Rattle.hippo_model.specs.Masking.{Choices}
 use Rattle.hippo_join.specs.declared.sides.Side.{Side}
-use Rattle.hippo_join.specs.declared.steps.Step.{Step}
+use Rattle.hippo_join.specs.declared.stages.Stage.{Stage}
 use Rattle.hippo_join.specs.Existence.{HasOne}
-use Rattle.hippo_join.specs.Steps.{IsStep, ReachesFrom}
-use Rattle.hippo_shared.specs.declared.commons.CommonSteps.{CommonSteps}
+use Rattle.hippo_join.specs.Stages.{IsStage, ReachesFrom}
+use Rattle.hippo_shared.specs.declared.commons.CommonStages.{CommonStages}
 use Rattle.hippo_shared.specs.declared.searching.Search.{Search}
 use Rattle.hippo_shared.specs.FirstPlaces.{AreOpen, AreWhole, ShareAt, IsFirst}
 
@@ -18,48 +18,48 @@ use Rattle.hippo_shared.specs.FirstPlaces.{AreOpen, AreWhole, ShareAt, IsFirst}
 abbrev pub Slots : Type 0
 Slots = List (Option Place)
 
-abbrev pub query_tables : List CommonSteps → List Place
-query_tables common = map (λ steps. steps.query.now.table) common
+abbrev pub query_tables : List CommonStages → List Place
+query_tables common = map (λ stages. stages.query.now.table) common
 
-abbrev pub audit_tables : List CommonSteps → List Place
-audit_tables common = map (λ steps. steps.audit.now.table) common
+abbrev pub audit_tables : List CommonStages → List Place
+audit_tables common = map (λ stages. stages.audit.now.table) common
 
-abbrev pub IsStepOf : {C : Type 0} → (C → Choices) → Side C → Step → Type 0
-IsStepOf choices side step = IsStep (choices side.choices.now) side.query.now side.sets.now step
+abbrev pub IsStageOf : {C : Type 0} → (C → Choices) → Side C → Stage → Type 0
+IsStageOf choices side stage = IsStage (choices side.choices.now) side.query.now side.sets.now stage
 
--- steps of all of a side's tables
-abbrev pub AreWholeOf : {C : Type 0} → (C → Choices) → Side C → List Step → Type 0
-AreWholeOf choices side steps = AreWhole (choices side.choices.now) side.query.now side.sets.now steps
+-- stages of all of a side's tables
+abbrev pub AreWholeOf : {C : Type 0} → (C → Choices) → Side C → List Stage → Type 0
+AreWholeOf choices side stages = AreWhole (choices side.choices.now) side.query.now side.sets.now stages
 
 -- a side has a combination with the rows that are chosen, in which all is shown that is to be seen
 abbrev pub HasOneOf : {C : Type 0} → (C → Choices) → Side C → List Expr → Slots → Type 0
 HasOneOf choices side seen slots = HasOne (choices side.choices.now) side.query.now seen side.sets.now slots
 
--- some places have each place of a step's table in a combination that counts for a side
-abbrev pub ReachesOf : {C : Type 0} → (C → Choices) → Side C → Step → Slots → List Place → Type 0
-ReachesOf choices side step slots places =
-    ReachesFrom (choices side.choices.now) side.query.now side.sets.now slots step.table places
+-- some places have each place of a stage's table in a combination that counts for a side
+abbrev pub ReachesOf : {C : Type 0} → (C → Choices) → Side C → Stage → Slots → List Place → Type 0
+ReachesOf choices side stage slots places =
+    ReachesFrom (choices side.choices.now) side.query.now side.sets.now slots stage.table places
 
 -- with these places of the common tables that are left, both sides have a combination
-abbrev pub Shared : {C : Type 0} → (C → Choices) → Search C → List CommonSteps → Slots → Slots → List Place → Type 0
+abbrev pub Shared : {C : Type 0} → (C → Choices) → Search C → List CommonStages → Slots → Slots → List Place → Type 0
 Shared choices sides left query audit =
     ShareAt (HasOneOf choices sides.query.now sides.seen.now) (HasOneOf choices sides.audit.now [])
     (query_tables left) (audit_tables left) query audit
 
--- each side has steps of all its tables, and the common tables that are left are open
-pub record IsReady {C : Type 0} (choices : C → Choices) (sides : Search C) (left : List CommonSteps)
+-- each side has stages of all its tables, and the common tables that are left are open
+pub record IsReady {C : Type 0} (choices : C → Choices) (sides : Search C) (left : List CommonStages)
     (query audit : Slots) : Type 0 where
-  pub query_steps : AreWholeOf choices sides.query.now sides.query_steps.now
-  pub audit_steps : AreWholeOf choices sides.audit.now sides.audit_steps.now
-  pub query_left : All (IsStepOf choices sides.query.now) (map (λ steps. steps.query.now) left)
-  pub audit_left : All (IsStepOf choices sides.audit.now) (map (λ steps. steps.audit.now) left)
+  pub query_stages : AreWholeOf choices sides.query.now sides.query_stages.now
+  pub audit_stages : AreWholeOf choices sides.audit.now sides.audit_stages.now
+  pub query_left : All (IsStageOf choices sides.query.now) (map (λ stages. stages.query.now) left)
+  pub audit_left : All (IsStageOf choices sides.audit.now) (map (λ stages. stages.audit.now) left)
   pub query_long : length query ≡ length sides.query.now.sets.now
   pub audit_long : length audit ≡ length sides.audit.now.sets.now
   pub query_open : AreOpen (query_tables left) query
   pub audit_open : AreOpen (audit_tables left) audit
 
 -- the first places of the common tables that are left are found, and the slots are as they were
-pub record FindsFirst {C : Type 0} (choices : C → Choices) (sides : Search C) (left : List CommonSteps)
+pub record FindsFirst {C : Type 0} (choices : C → Choices) (sides : Search C) (left : List CommonStages)
     (query audit query_after audit_after : Slots) (result : Result (Option (Vec ℕ)) Memory) : Type 0 where
   pub same_query : OnOk result (query_after ≡ query)
   pub same_audit : OnOk result (audit_after ≡ audit)

@@ -4,7 +4,7 @@ ghost use Rattle.std.specs.List.{All, Contains, list_any};
 ghost use Rattle.hippo_model.specs.Terms.{Place};
 ghost use Rattle.hippo_shared.specs.Sharing.{common_tables, place_in};
 
-use hippo_join::{Side, Step, order_behind, push_if};
+use hippo_join::{Side, Stage, order_behind, push_if};
 use hippo_model::{ChoiceView, Sets, Sizes};
 use hippo_values::{Memory, Name, Sequence};
 use std::alloc::Global;
@@ -16,11 +16,11 @@ pub(crate) struct CommonPlaces {
     pub audit: Vec<usize>,
 }
 
-// The steps of a common table.
+// The stages of a common table.
 #[derive(Clone, Copy)]
-pub(crate) struct CommonSteps<'s> {
-    pub query: &'s Step,
-    pub audit: &'s Step,
+pub(crate) struct CommonStages<'s> {
+    pub query: &'s Stage,
+    pub audit: &'s Stage,
 }
 
 // The place of a table among others, or their number where it is not among them.
@@ -112,21 +112,21 @@ pub(crate) fn order_from<C: ChoiceView>(
     order_behind(alloc, side.query, &sizes, first, &tables[first.len()..])
 }
 
-// The first so many steps of both sides, side by side.
-pub(crate) fn common_steps<'s>(
+// The first so many stages of both sides, side by side.
+pub(crate) fn common_stages<'s>(
     alloc: Global,
     count: usize,
-    query: &'s [Step],
-    audit: &'s [Step],
-) -> Result<Vec<CommonSteps<'s>>, Memory>
+    query: &'s [Stage],
+    audit: &'s [Stage],
+) -> Result<Vec<CommonStages<'s>>, Memory>
     requires query { count ≤ length query.now }
     requires audit { count ≤ length audit.now }
-    ensures query { IfOk result (λ common. map (λ steps. steps.query.now) common.items ≡ take count query.now) }
-    ensures audit { IfOk result (λ common. map (λ steps. steps.audit.now) common.items ≡ take count audit.now) }
+    ensures query { IfOk result (λ common. map (λ stages. stages.query.now) common.items ≡ take count query.now) }
+    ensures audit { IfOk result (λ common. map (λ stages. stages.audit.now) common.items ≡ take count audit.now) }
 {
     let mut common = Vec::with_capacity(alloc, count)?;
     for place in 0..count {
-        common.push(CommonSteps {
+        common.push(CommonStages {
             query: &query[place],
             audit: &audit[place],
         })?;

@@ -2,21 +2,21 @@
 ghost use Rattle.std.specs.Prelude.{◌≡◌, [], ◌∷◌, Some, OnOk, IfOk, length, option_map, slice_set, true, ◌⊎◌};
 ghost use Rattle.std.specs.List.Sorted.{IsNonDecreasing, IsPermutation};
 ghost use Rattle.hippo_shared.specs.FirstPlaces.{IsFirst};
-ghost use Rattle.hippo_shared.specs.Searching.{AreCommon, FindsFirst, HasOneOf, IsReady, IsStepOf, ReachesOf, Shared, SharedPlaces};
+ghost use Rattle.hippo_shared.specs.Searching.{AreCommon, FindsFirst, HasOneOf, IsReady, IsStageOf, ReachesOf, Shared, SharedPlaces};
 
-use crate::commons::{CommonPlaces, CommonSteps, common_steps, order_from};
-use hippo_join::{Side, Step, open_slots};
+use crate::commons::{CommonPlaces, CommonStages, common_stages, order_from};
+use hippo_join::{Side, Stage, open_slots};
 use hippo_model::{ChoiceView, Expr};
 use hippo_values::Memory;
 use std::alloc::Global;
 
-// A query and an audit, the steps of each, and what is to be seen of the query's rows.
+// A query and an audit, the stages of each, and what is to be seen of the query's rows.
 #[derive(Drop)]
 struct Search<'a, C> {
     query: &'a Side<'a, C>,
     audit: &'a Side<'a, C>,
-    query_steps: &'a [Step],
-    audit_steps: &'a [Step],
+    query_stages: &'a [Stage],
+    audit_stages: &'a [Stage],
     seen: &'a [Expr],
 }
 
@@ -51,27 +51,27 @@ impl<'a, C: ChoiceView> Search<'a, C> {
     fn places_of(
         &self,
         alloc: Global,
-        steps: &CommonSteps<'_>,
+        stages: &CommonStages<'_>,
         query: &[Option<usize>],
         audit: &[Option<usize>],
     ) -> Result<Vec<usize>, Memory>
-        requires query { IsStepOf C.choices self.now.query.now steps.now.query.now }
-        requires audit { IsStepOf C.choices self.now.audit.now steps.now.audit.now }
+        requires query { IsStageOf C.choices self.now.query.now stages.now.query.now }
+        requires audit { IsStageOf C.choices self.now.audit.now stages.now.audit.now }
         ensures order { IfOk result (λ places. IsNonDecreasing places.items) }
         ensures reach { IfOk result (λ places.
-            ReachesOf C.choices self.now.query.now steps.now.query.now query.now places.items
-            ⊎ ReachesOf C.choices self.now.audit.now steps.now.audit.now audit.now places.items) }
+            ReachesOf C.choices self.now.query.now stages.now.query.now query.now places.items
+            ⊎ ReachesOf C.choices self.now.audit.now stages.now.audit.now audit.now places.items) }
     {
-        let places = self.query.places_of(steps.query, query);
-        let others = self.audit.places_of(steps.audit, audit);
+        let places = self.query.places_of(stages.query, query);
+        let others = self.audit.places_of(stages.audit, audit);
         in_order(alloc, shorter(places, others))
     }
 
-    // Whether both sides may have a combination with the rows that are chosen, by the tests of two steps.
+    // Whether both sides may have a combination with the rows that are chosen, by the tests of two stages.
     fn may_share(
         &self,
         alloc: Global,
-        steps: &CommonSteps<'_>,
+        stages: &CommonStages<'_>,
         query: &[Option<usize>],
         audit: &[Option<usize>],
     ) -> Result<bool, Memory>
@@ -79,8 +79,8 @@ impl<'a, C: ChoiceView> Search<'a, C> {
             → HasOneOf C.choices self.now.audit.now [] audit.now → may ≡ true) }
     {
         Ok(
-            self.query.may_count(alloc, &steps.query.tests, query)?
-                && self.audit.may_count(alloc, &steps.audit.tests, audit)?,
+            self.query.may_count(alloc, &stages.query.tests, query)?
+                && self.audit.may_count(alloc, &stages.audit.tests, audit)?,
         )
     }
 
@@ -94,39 +94,39 @@ impl<'a, C: ChoiceView> Search<'a, C> {
         requires { IsReady C.choices self.now [] query.old audit.old }
         ensures { FindsFirst C.choices self.now [] query.old audit.old query.new audit.new result }
     {
-        let shares = self.query.has(alloc, self.query_steps, self.seen, query)?
-            && self.audit.has(alloc, self.audit_steps, &[], audit)?;
+        let shares = self.query.has(alloc, self.query_stages, self.seen, query)?
+            && self.audit.has(alloc, self.audit_stages, &[], audit)?;
         Ok(if shares { Some(Vec::new(alloc)) } else { None })
     }
 
-    // The first places of the common tables that are left, behind a place of a step's table: none if the tests of two
-    // steps allow none.
+    // The first places of the common tables that are left, behind a place of a stage's table: none if the tests of two
+    // stages allow none.
     #[cycle(first)]
     fn first_behind(
         &self,
         alloc: Global,
-        steps: &CommonSteps<'_>,
-        rest: &[CommonSteps<'_>],
+        stages: &CommonStages<'_>,
+        rest: &[CommonStages<'_>],
         place: usize,
         query: &mut [Option<usize>],
         audit: &mut [Option<usize>],
     ) -> Result<Option<Vec<usize>>, Memory>
-        requires { IsReady C.choices self.now (steps.now ∷ rest.now) query.old audit.old }
+        requires { IsReady C.choices self.now (stages.now ∷ rest.now) query.old audit.old }
         ensures query { OnOk result (query.new ≡ query.old) }
         ensures audit { OnOk result (audit.new ≡ audit.old) }
         ensures first { IfOk result (λ found. IsFirst (Shared C.choices self.now rest.now
-            (slice_set query.old steps.now.query.now.table (Some place))
-            (slice_set audit.old steps.now.audit.now.table (Some place))) (option_map (λ places. places.items) found)) }
+            (slice_set query.old stages.now.query.now.table (Some place))
+            (slice_set audit.old stages.now.audit.now.table (Some place))) (option_map (λ places. places.items) found)) }
     {
-        query[steps.query.table] = Some(place);
-        audit[steps.audit.table] = Some(place);
-        let found = if self.may_share(alloc, steps, query, audit)? {
+        query[stages.query.table] = Some(place);
+        audit[stages.audit.table] = Some(place);
+        let found = if self.may_share(alloc, stages, query, audit)? {
             self.first(alloc, rest, query, audit)?
         } else {
             None
         };
-        query[steps.query.table] = None;
-        audit[steps.audit.table] = None;
+        query[stages.query.table] = None;
+        audit[stages.audit.table] = None;
         Ok(found)
     }
 
@@ -135,19 +135,19 @@ impl<'a, C: ChoiceView> Search<'a, C> {
     fn first(
         &self,
         alloc: Global,
-        common: &[CommonSteps<'_>],
+        common: &[CommonStages<'_>],
         query: &mut [Option<usize>],
         audit: &mut [Option<usize>],
     ) -> Result<Option<Vec<usize>>, Memory>
         requires { IsReady C.choices self.now common.now query.old audit.old }
         ensures { FindsFirst C.choices self.now common.now query.old audit.old query.new audit.new result }
     {
-        let Some((steps, rest)) = common.split_first() else {
+        let Some((stages, rest)) = common.split_first() else {
             return self.first_of_none(alloc, query, audit);
         };
-        let places = self.places_of(alloc, steps, query, audit)?;
+        let places = self.places_of(alloc, stages, query, audit)?;
         for place in &places {
-            if let Some(others) = self.first_behind(alloc, steps, rest, *place, query, audit)? {
+            if let Some(others) = self.first_behind(alloc, stages, rest, *place, query, audit)? {
                 return Ok(Some(with_first(*place, others)?));
             }
         }
@@ -170,17 +170,17 @@ pub(crate) fn first_places<C: ChoiceView>(
 {
     let query_order = order_from(alloc, query, &common.query)?;
     let audit_order = order_from(alloc, audit, &common.audit)?;
-    let query_steps = query.steps(alloc, &query_order)?;
-    let audit_steps = audit.steps(alloc, &audit_order)?;
-    let steps = common_steps(alloc, common.query.len(), &query_steps, &audit_steps)?;
+    let query_stages = query.stages(alloc, &query_order)?;
+    let audit_stages = audit.stages(alloc, &audit_order)?;
+    let stages = common_stages(alloc, common.query.len(), &query_stages, &audit_stages)?;
     let mut query_slots = open_slots(alloc, query.sets.len())?;
     let mut audit_slots = open_slots(alloc, audit.sets.len())?;
     let search = Search {
         query,
         audit,
-        query_steps: &query_steps,
-        audit_steps: &audit_steps,
+        query_stages: &query_stages,
+        audit_stages: &audit_stages,
         seen,
     };
-    search.first(alloc, &steps, &mut query_slots, &mut audit_slots)
+    search.first(alloc, &stages, &mut query_slots, &mut audit_slots)
 }

@@ -60,8 +60,8 @@ find_same p q [] all = refl
 find_same p q (x ∷ xs) all = λ i. cond (all.0 i) (Some x) (find_same p q xs all.1 i)
 
 all_from : {X : Type 0} (P Q : X → Type 0) → ((x : X) → P x → Q x) → (xs : List X) → AllByRecursion P xs → AllByRecursion Q xs
-all_from P Q step [] all = tt
-all_from P Q step (x ∷ xs) all = (step x all.0, all_from P Q step xs all.1)
+all_from P Q stage [] all = tt
+all_from P Q stage (x ∷ xs) all = (stage x all.0, all_from P Q stage xs all.1)
 
 both_all : {X : Type 0} (P Q : X → Type 0) (xs : List X) → AllByRecursion P xs → AllByRecursion Q xs → AllByRecursion (λ x. P x × Q x) xs
 both_all P Q [] a b = tt

@@ -1,44 +1,44 @@
--- The steps of the common tables come first in each side's order, and no row is chosen.
+-- The stages of the common tables come first in each side's order, and no row is chosen.
 use Rattle.std.proofs.Common.{ℕ, [], refl, ap, sym, ◌∙◌, length, None, Option, option_map, replicate, Vec, Global}
 use Rattle.std.specs.Prelude.{IfOk}
 use Rattle.std.proofs.lemmas.List.{length-replicate}
 use Rattle.hippo_model.specs.Terms.{Place}
-use Rattle.hippo_join.specs.Steps.{IsStep}
-use Rattle.hippo_shared.specs.declared.commons.CommonSteps.{CommonSteps}
+use Rattle.hippo_join.specs.Stages.{IsStage}
+use Rattle.hippo_shared.specs.declared.commons.CommonStages.{CommonStages}
 use Rattle.hippo_shared.specs.FirstPlaces.{ShareAt, IsFirst}
 use Rattle.hippo_shared.specs.Searching.{HasOneOf, query_tables, audit_tables}
-use Rattle.hippo_shared.proofs.SearchLemmas.{whole-steps, common-are-steps, common-tables-are, four, open-by}
+use Rattle.hippo_shared.proofs.SearchLemmas.{whole-stages, common-are-stages, common-tables-are, four, open-by}
 use Rattle.hippo_shared.proofs.searching.first_places.Goals as goal
 
 pub first-requires : goal.first-requires
 first-requires g c = record {
-  query_steps =
-      whole-steps (g.C.ChoiceView.choices c.args.query.now.choices.now) c.args.query.now.query.now c.args.query.now.sets.now c.deref-3.result.now c.in_ok-query_order.query_order.items c.in_ok-query_steps.query_steps.items c.deref-7.result.now (length c.args.query.now.sets.now)
-      c.in_ok-query_steps.ensures c.deref-7.ensures.value c.deref-3.ensures.value c.in_ok-query_order.ensures.whole refl;
-  audit_steps =
-      whole-steps (g.C.ChoiceView.choices c.args.audit.now.choices.now) c.args.audit.now.query.now c.args.audit.now.sets.now c.deref-4.result.now c.in_ok-audit_order.audit_order.items c.in_ok-audit_steps.audit_steps.items c.deref-8.result.now (length c.args.audit.now.sets.now)
-      c.in_ok-audit_steps.ensures c.deref-8.ensures.value c.deref-4.ensures.value c.in_ok-audit_order.ensures.whole refl;
+  query_stages =
+      whole-stages (g.C.ChoiceView.choices c.args.query.now.choices.now) c.args.query.now.query.now c.args.query.now.sets.now c.deref-3.result.now c.in_ok-query_order.query_order.items c.in_ok-query_stages.query_stages.items c.deref-7.result.now (length c.args.query.now.sets.now)
+      c.in_ok-query_stages.ensures c.deref-7.ensures.value c.deref-3.ensures.value c.in_ok-query_order.ensures.whole refl;
+  audit_stages =
+      whole-stages (g.C.ChoiceView.choices c.args.audit.now.choices.now) c.args.audit.now.query.now c.args.audit.now.sets.now c.deref-4.result.now c.in_ok-audit_order.audit_order.items c.in_ok-audit_stages.audit_stages.items c.deref-8.result.now (length c.args.audit.now.sets.now)
+      c.in_ok-audit_stages.ensures c.deref-8.ensures.value c.deref-4.ensures.value c.in_ok-audit_order.ensures.whole refl;
   query_left =
-      common-are-steps (λ (steps : CommonSteps). steps.query.now) c.deref-9.result.now c.in_ok-steps.steps.items c.deref-5.result.now c.in_ok-query_steps.query_steps.items c.len.result
-      c.deref-9.ensures.value c.in_ok-steps.ensures.query c.deref-5.ensures.value
-      (IsStep (g.C.ChoiceView.choices c.args.query.now.choices.now) c.args.query.now.query.now c.args.query.now.sets.now) c.in_ok-query_steps.ensures.each;
+      common-are-stages (λ (stages : CommonStages). stages.query.now) c.deref-9.result.now c.in_ok-stages.stages.items c.deref-5.result.now c.in_ok-query_stages.query_stages.items c.len.result
+      c.deref-9.ensures.value c.in_ok-stages.ensures.query c.deref-5.ensures.value
+      (IsStage (g.C.ChoiceView.choices c.args.query.now.choices.now) c.args.query.now.query.now c.args.query.now.sets.now) c.in_ok-query_stages.ensures.each;
   audit_left =
-      common-are-steps (λ (steps : CommonSteps). steps.audit.now) c.deref-9.result.now c.in_ok-steps.steps.items c.deref-6.result.now c.in_ok-audit_steps.audit_steps.items c.len.result
-      c.deref-9.ensures.value c.in_ok-steps.ensures.audit c.deref-6.ensures.value
-      (IsStep (g.C.ChoiceView.choices c.args.audit.now.choices.now) c.args.audit.now.query.now c.args.audit.now.sets.now) c.in_ok-audit_steps.ensures.each;
+      common-are-stages (λ (stages : CommonStages). stages.audit.now) c.deref-9.result.now c.in_ok-stages.stages.items c.deref-6.result.now c.in_ok-audit_stages.audit_stages.items c.len.result
+      c.deref-9.ensures.value c.in_ok-stages.ensures.audit c.deref-6.ensures.value
+      (IsStage (g.C.ChoiceView.choices c.args.audit.now.choices.now) c.args.audit.now.query.now c.args.audit.now.sets.now) c.in_ok-audit_stages.ensures.each;
   query_long = ap (length {A = Option Place}) (c.deref_mut.ensures.value ∙ c.in_ok-query_slots.ensures) ∙ length-replicate c.len-2.result None ∙ c.len-2.ensures;
   audit_long = ap (length {A = Option Place}) (c.deref_mut-2.ensures.value ∙ c.in_ok-audit_slots.ensures) ∙ length-replicate c.len-3.result None ∙ c.len-3.ensures;
   query_open =
       open-by (length c.args.query.now.sets.now) c.len-2.result (query_tables c.deref-9.result.now) c.args.common.now.query.items c.deref_mut.result.now
-      (common-tables-are (λ (steps : CommonSteps). steps.query.now) c.deref-9.result.now c.in_ok-steps.steps.items c.deref-5.result.now c.in_ok-query_steps.query_steps.items c.len.result
-      c.deref-9.ensures.value c.in_ok-steps.ensures.query c.deref-5.ensures.value
-      c.deref-3.result.now c.in_ok-query_order.query_order.items c.deref.result.now c.args.common.now.query.items c.in_ok-query_steps.ensures.tables c.deref-3.ensures.value c.in_ok-query_order.ensures.front c.deref.ensures.value (c.len.ensures ∙ sym c.deref.ensures.len ∙ ap length c.deref.ensures.value))
+      (common-tables-are (λ (stages : CommonStages). stages.query.now) c.deref-9.result.now c.in_ok-stages.stages.items c.deref-5.result.now c.in_ok-query_stages.query_stages.items c.len.result
+      c.deref-9.ensures.value c.in_ok-stages.ensures.query c.deref-5.ensures.value
+      c.deref-3.result.now c.in_ok-query_order.query_order.items c.deref.result.now c.args.common.now.query.items c.in_ok-query_stages.ensures.tables c.deref-3.ensures.value c.in_ok-query_order.ensures.front c.deref.ensures.value (c.len.ensures ∙ sym c.deref.ensures.len ∙ ap length c.deref.ensures.value))
       (c.deref_mut.ensures.value ∙ c.in_ok-query_slots.ensures) c.len-2.ensures c.requires.query_open;
   audit_open =
       open-by (length c.args.audit.now.sets.now) c.len-3.result (audit_tables c.deref-9.result.now) c.args.common.now.audit.items c.deref_mut-2.result.now
-      (common-tables-are (λ (steps : CommonSteps). steps.audit.now) c.deref-9.result.now c.in_ok-steps.steps.items c.deref-6.result.now c.in_ok-audit_steps.audit_steps.items c.len.result
-      c.deref-9.ensures.value c.in_ok-steps.ensures.audit c.deref-6.ensures.value
-      c.deref-4.result.now c.in_ok-audit_order.audit_order.items c.deref-2.result.now c.args.common.now.audit.items c.in_ok-audit_steps.ensures.tables c.deref-4.ensures.value c.in_ok-audit_order.ensures.front c.deref-2.ensures.value (c.len.ensures ∙ sym c.deref.ensures.len ∙ ap length c.deref.ensures.value ∙ c.requires.same))
+      (common-tables-are (λ (stages : CommonStages). stages.audit.now) c.deref-9.result.now c.in_ok-stages.stages.items c.deref-6.result.now c.in_ok-audit_stages.audit_stages.items c.len.result
+      c.deref-9.ensures.value c.in_ok-stages.ensures.audit c.deref-6.ensures.value
+      c.deref-4.result.now c.in_ok-audit_order.audit_order.items c.deref-2.result.now c.args.common.now.audit.items c.in_ok-audit_stages.ensures.tables c.deref-4.ensures.value c.in_ok-audit_order.ensures.front c.deref-2.ensures.value (c.len.ensures ∙ sym c.deref.ensures.len ∙ ap length c.deref.ensures.value ∙ c.requires.same))
       (c.deref_mut-2.ensures.value ∙ c.in_ok-audit_slots.ensures) c.len-3.ensures c.requires.audit_open;
 }
 
@@ -48,12 +48,12 @@ returns g c =
     (ShareAt (HasOneOf g.C.ChoiceView.choices c.args.query.now c.args.seen.now) (HasOneOf g.C.ChoiceView.choices c.args.audit.now []) tables others slots other) (option_map (λ (places : Vec ℕ Global). places.items) found)))
     (query_tables c.deref-9.result.now) c.args.common.now.query.items (audit_tables c.deref-9.result.now) c.args.common.now.audit.items
     c.deref_mut.result.now (replicate (length c.args.query.now.sets.now) None) c.deref_mut-2.result.now (replicate (length c.args.audit.now.sets.now) None)
-    (common-tables-are (λ (steps : CommonSteps). steps.query.now) c.deref-9.result.now c.in_ok-steps.steps.items c.deref-5.result.now c.in_ok-query_steps.query_steps.items c.len.result
-    c.deref-9.ensures.value c.in_ok-steps.ensures.query c.deref-5.ensures.value
-    c.deref-3.result.now c.in_ok-query_order.query_order.items c.deref.result.now c.args.common.now.query.items c.in_ok-query_steps.ensures.tables c.deref-3.ensures.value c.in_ok-query_order.ensures.front c.deref.ensures.value (c.len.ensures ∙ sym c.deref.ensures.len ∙ ap length c.deref.ensures.value))
-    (common-tables-are (λ (steps : CommonSteps). steps.audit.now) c.deref-9.result.now c.in_ok-steps.steps.items c.deref-6.result.now c.in_ok-audit_steps.audit_steps.items c.len.result
-    c.deref-9.ensures.value c.in_ok-steps.ensures.audit c.deref-6.ensures.value
-    c.deref-4.result.now c.in_ok-audit_order.audit_order.items c.deref-2.result.now c.args.common.now.audit.items c.in_ok-audit_steps.ensures.tables c.deref-4.ensures.value c.in_ok-audit_order.ensures.front c.deref-2.ensures.value (c.len.ensures ∙ sym c.deref.ensures.len ∙ ap length c.deref.ensures.value ∙ c.requires.same))
+    (common-tables-are (λ (stages : CommonStages). stages.query.now) c.deref-9.result.now c.in_ok-stages.stages.items c.deref-5.result.now c.in_ok-query_stages.query_stages.items c.len.result
+    c.deref-9.ensures.value c.in_ok-stages.ensures.query c.deref-5.ensures.value
+    c.deref-3.result.now c.in_ok-query_order.query_order.items c.deref.result.now c.args.common.now.query.items c.in_ok-query_stages.ensures.tables c.deref-3.ensures.value c.in_ok-query_order.ensures.front c.deref.ensures.value (c.len.ensures ∙ sym c.deref.ensures.len ∙ ap length c.deref.ensures.value))
+    (common-tables-are (λ (stages : CommonStages). stages.audit.now) c.deref-9.result.now c.in_ok-stages.stages.items c.deref-6.result.now c.in_ok-audit_stages.audit_stages.items c.len.result
+    c.deref-9.ensures.value c.in_ok-stages.ensures.audit c.deref-6.ensures.value
+    c.deref-4.result.now c.in_ok-audit_order.audit_order.items c.deref-2.result.now c.args.common.now.audit.items c.in_ok-audit_stages.ensures.tables c.deref-4.ensures.value c.in_ok-audit_order.ensures.front c.deref-2.ensures.value (c.len.ensures ∙ sym c.deref.ensures.len ∙ ap length c.deref.ensures.value ∙ c.requires.same))
     (c.deref_mut.ensures.value ∙ c.in_ok-query_slots.ensures ∙ ap (λ (n : ℕ). replicate {A = Option Place} n None) c.len-2.ensures)
     (c.deref_mut-2.ensures.value ∙ c.in_ok-audit_slots.ensures ∙ ap (λ (n : ℕ). replicate {A = Option Place} n None) c.len-3.ensures)
     c.first.ensures.first

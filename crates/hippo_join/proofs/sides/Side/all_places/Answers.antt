@@ -1,7 +1,7 @@
 -- The span has each place that counts.
 use Rattle.std.proofs.Common.{ℕ, ◌<◌, ◌≤◌}
 use Rattle.std.specs.List.{Contains}
-use Rattle.hippo_join.specs.Steps.{Reaches}
+use Rattle.hippo_join.specs.Stages.{Reaches}
 use Rattle.hippo_join.proofs.KeyLemmas.{within-open}
 use Rattle.hippo_join.proofs.ReachLemmas.{ok-then}
 use Rattle.hippo_join.proofs.sides.Side.all_places.Goals as goal

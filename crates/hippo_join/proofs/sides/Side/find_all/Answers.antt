@@ -6,7 +6,7 @@ use Rattle.hippo_join.proofs.sides.Side.find_all.Goals as goal
 
 pub find-result-requires : goal.find-result-requires
 find-result-requires g c =
-    walk-all (g.C.ChoiceView.choices c.args.self.now.choices.now) c.args.self.now.query.now c.args.self.now.sets.now c.args.order.now c.in_ok-steps.steps.items c.deref.result.now c.deref_mut.result.now c.in_ok-steps.ensures c.deref.ensures.value
+    walk-all (g.C.ChoiceView.choices c.args.self.now.choices.now) c.args.self.now.query.now c.args.self.now.sets.now c.args.order.now c.in_ok-stages.stages.items c.deref.result.now c.deref_mut.result.now c.in_ok-stages.ensures c.deref.ensures.value
     (length-unchosen c.deref_mut.result.now c.len.result _ (c.deref_mut.ensures.value ∙ c.in_ok-slots.ensures) c.len.ensures) c.requires.whole
 
 pub returns-clause-found : goal.returns-clause-found

@@ -1,7 +1,7 @@
 -- The places of a table are tried in ascending order, with the rows that were chosen before.
 use Rattle.std.proofs.Common.{◌≡◌, suc, ◌∷◌, length, None, Some, refl, ap, ◌∙◌, arith}
 use Rattle.std.specs.Prelude.{slice_set}
-use Rattle.hippo_shared.proofs.SearchLemmas.{ready-none, ready-next, ready-same, split-ready, first-steps, first-made, none-more, none-tried, none-may, none-left, first-same, reset}
+use Rattle.hippo_shared.proofs.SearchLemmas.{ready-none, ready-next, ready-same, split-ready, first-stages, first-made, none-more, none-tried, none-may, none-left, first-same, reset}
 use Rattle.hippo_shared.proofs.searching.Search.+first.Goals as goal
 use Rattle.hippo_shared.proofs.searching.Search.+first.Goals.{first_behind-then-branch+in_ok-found, first_behind-else-branch}
 
@@ -14,18 +14,18 @@ first-returns-in_default g t c =
 
 pub first-places_of-requires-clause-query : goal.first-places_of-requires-clause-query
 first-places_of-requires-clause-query g t c =
-    (first-steps g.C.ChoiceView.choices c.args.self.now c.args.common.now c.in-Some.steps.now c.in-Some.rest.now c.in-Some.ensures.cases.0 c.args.query.now c.args.audit.now c.requires).0
+    (first-stages g.C.ChoiceView.choices c.args.self.now c.args.common.now c.in-Some.stages.now c.in-Some.rest.now c.in-Some.ensures.cases.0 c.args.query.now c.args.audit.now c.requires).0
 
 pub first-places_of-requires-clause-audit : goal.first-places_of-requires-clause-audit
 first-places_of-requires-clause-audit g t c =
-    (first-steps g.C.ChoiceView.choices c.args.self.now c.args.common.now c.in-Some.steps.now c.in-Some.rest.now c.in-Some.ensures.cases.0 c.args.query.now c.args.audit.now c.requires).1
+    (first-stages g.C.ChoiceView.choices c.args.self.now c.args.common.now c.in-Some.stages.now c.in-Some.rest.now c.in-Some.ensures.cases.0 c.args.query.now c.args.audit.now c.requires).1
 
 pub first-loop-place-init : goal.first-loop-place-init
 first-loop-place-init g t c = record { same_query = refl; same_audit = refl; so_far = λ k lower others share. absurd (omega arith) }
 
 pub first-returns-in-Some-2 : goal.first-returns-in-Some-2
 first-returns-in-Some-2 g t c =
-    first-made g.C.ChoiceView.choices c.args.self.now c.args.common.now c.in-Some.steps.now c.in-Some.rest.now c.in-Some.ensures.cases.0 c.args.query.now c.args.audit.now c.requires
+    first-made g.C.ChoiceView.choices c.args.self.now c.args.common.now c.in-Some.stages.now c.in-Some.rest.now c.in-Some.ensures.cases.0 c.args.query.now c.args.audit.now c.requires
     c.deref-place-items.result.now c.in_ok-places.places.items c.deref-place-items.ensures.value c.in_ok-places.ensures.order c.in_ok-places.ensures.reach
     c.loop-place.query c.loop-place.audit c.loop-place.invariant.same_query c.loop-place.invariant.same_audit c.in_ok-others.field-0 c.loop-place.place-index c.in_ok-others.ensures.first c.loop-place.invariant.so_far
     c.first_behind.new.query c.first_behind.new.audit c.in_ok-others.ensures.query c.in_ok-others.ensures.audit (omega (arith, c.loop-place-test.true)) c.in-Some-2.others c.in-Some-2.is c.in_ok-with_first.field-0 c.in_ok-with_first.ensures
@@ -35,7 +35,7 @@ first-loop-place-preserved g t c = record {
   same_query = c.in_ok-others.ensures.query ∙ c.loop-place.invariant.same_query;
   same_audit = c.in_ok-others.ensures.audit ∙ c.loop-place.invariant.same_audit;
   so_far =
-      none-more g.C.ChoiceView.choices c.args.self.now c.args.common.now c.in-Some.steps.now c.in-Some.rest.now c.in-Some.ensures.cases.0 c.args.query.now c.args.audit.now c.requires
+      none-more g.C.ChoiceView.choices c.args.self.now c.args.common.now c.in-Some.stages.now c.in-Some.rest.now c.in-Some.ensures.cases.0 c.args.query.now c.args.audit.now c.requires
       c.deref-place-items.result.now c.in_ok-places.places.items c.deref-place-items.ensures.value c.in_ok-places.ensures.order c.in_ok-places.ensures.reach
       c.loop-place.query c.loop-place.audit c.loop-place.invariant.same_query c.loop-place.invariant.same_audit c.in_ok-others.field-0 c.loop-place.place-index c.in_ok-others.ensures.first c.loop-place.invariant.so_far
       c.in_default-2.is;
@@ -46,36 +46,36 @@ first-returns g t c = record {
   same_query = c.loop-place.invariant.same_query;
   same_audit = c.loop-place.invariant.same_audit;
   first =
-      none-tried g.C.ChoiceView.choices c.args.self.now c.args.common.now c.in-Some.steps.now c.in-Some.rest.now c.in-Some.ensures.cases.0 c.args.query.now c.args.audit.now c.requires
+      none-tried g.C.ChoiceView.choices c.args.self.now c.args.common.now c.in-Some.stages.now c.in-Some.rest.now c.in-Some.ensures.cases.0 c.args.query.now c.args.audit.now c.requires
       c.deref-place-items.result.now c.in_ok-places.places.items c.deref-place-items.ensures.value c.in_ok-places.ensures.order c.in_ok-places.ensures.reach
       c.loop-place.place-index (omega (arith, c.loop-place-test.false)) c.loop-place.invariant.so_far;
 }
 
 pub first_behind-first-requires : goal.first_behind-first-requires
 first_behind-first-requires g t c κs within =
-    (omega arith, (within, ready-next g.C.ChoiceView.choices c.args.self.now c.args.steps.now c.args.rest.now c.args.query.now c.args.audit.now c.args.place c.requires))
+    (omega arith, (within, ready-next g.C.ChoiceView.choices c.args.self.now c.args.stages.now c.args.rest.now c.args.query.now c.args.audit.now c.args.place c.requires))
 
 pub first_behind-returns-clause-query : goal.first_behind-returns-clause-query
 first_behind-returns-clause-query g t c =
-    reset c.args.query.now c.if-branch.query c.args.steps.now.query.now.table c.args.place c.requires.query_open.0
-    (elim c.if-branch.branch as (λ _. c.if-branch.query ≡ slice_set c.args.query.now c.args.steps.now.query.now.table (Some c.args.place)) [
+    reset c.args.query.now c.if-branch.query c.args.stages.now.query.now.table c.args.place c.requires.query_open.0
+    (elim c.if-branch.branch as (λ _. c.if-branch.query ≡ slice_set c.args.query.now c.args.stages.now.query.now.table (Some c.args.place)) [
       | first_behind-then-branch+in_ok-found w ↦ w.query-is ∙ w.in_ok-found.ensures.same_query
       | first_behind-else-branch w ↦ w.query-is
     ])
 
 pub first_behind-returns-clause-audit : goal.first_behind-returns-clause-audit
 first_behind-returns-clause-audit g t c =
-    reset c.args.audit.now c.if-branch.audit c.args.steps.now.audit.now.table c.args.place c.requires.audit_open.0
-    (elim c.if-branch.branch as (λ _. c.if-branch.audit ≡ slice_set c.args.audit.now c.args.steps.now.audit.now.table (Some c.args.place)) [
+    reset c.args.audit.now c.if-branch.audit c.args.stages.now.audit.now.table c.args.place c.requires.audit_open.0
+    (elim c.if-branch.branch as (λ _. c.if-branch.audit ≡ slice_set c.args.audit.now c.args.stages.now.audit.now.table (Some c.args.place)) [
       | first_behind-then-branch+in_ok-found w ↦ w.audit-is ∙ w.in_ok-found.ensures.same_audit
       | first_behind-else-branch w ↦ w.audit-is
     ])
 
 pub first_behind-returns-clause-first : goal.first_behind-returns-clause-first
 first_behind-returns-clause-first g t c =
-    let query = slice_set c.args.query.now c.args.steps.now.query.now.table (Some c.args.place) in
-    let audit = slice_set c.args.audit.now c.args.steps.now.audit.now.table (Some c.args.place) in
-    let ready = ready-next g.C.ChoiceView.choices c.args.self.now c.args.steps.now c.args.rest.now c.args.query.now c.args.audit.now c.args.place c.requires in
+    let query = slice_set c.args.query.now c.args.stages.now.query.now.table (Some c.args.place) in
+    let audit = slice_set c.args.audit.now c.args.stages.now.audit.now.table (Some c.args.place) in
+    let ready = ready-next g.C.ChoiceView.choices c.args.self.now c.args.stages.now c.args.rest.now c.args.query.now c.args.audit.now c.args.place c.requires in
     elim c.if-branch.branch [
       | first_behind-then-branch+in_ok-found w ↦ first-same g.C.ChoiceView.choices c.args.self.now c.args.rest.now query audit c.if-branch.found _ w.found-is w.in_ok-found.ensures.first
       | first_behind-else-branch w ↦
@@ -89,7 +89,7 @@ first-first_behind-requires g t c κs within =
       omega arith,
       (
         within,
-        ready-same g.C.ChoiceView.choices c.args.self.now (c.in-Some.steps.now ∷ c.in-Some.rest.now) c.args.query.now c.loop-place.query c.args.audit.now c.loop-place.audit c.loop-place.invariant.same_query c.loop-place.invariant.same_audit
-            (split-ready g.C.ChoiceView.choices c.args.self.now c.args.common.now c.in-Some.steps.now c.in-Some.rest.now c.in-Some.ensures.cases.0 c.args.query.now c.args.audit.now c.requires),
+        ready-same g.C.ChoiceView.choices c.args.self.now (c.in-Some.stages.now ∷ c.in-Some.rest.now) c.args.query.now c.loop-place.query c.args.audit.now c.loop-place.audit c.loop-place.invariant.same_query c.loop-place.invariant.same_audit
+            (split-ready g.C.ChoiceView.choices c.args.self.now c.args.common.now c.in-Some.stages.now c.in-Some.rest.now c.in-Some.ensures.cases.0 c.args.query.now c.args.audit.now c.requires),
       ),
     )

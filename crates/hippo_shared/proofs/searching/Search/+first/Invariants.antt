@@ -13,5 +13,5 @@ abbrev pub invariant-first-loop-place : goal.invariant-first-loop-place
 invariant-first-loop-place g l = record {
   same_query : l.query ≡ l.initial.query;
   same_audit : l.audit ≡ l.initial.audit;
-  so_far : NoneSoFar g.C.ChoiceView.choices l.self (l.steps ∷ l.rest) l.initial.query l.initial.audit l.place-items l.place-index;
+  so_far : NoneSoFar g.C.ChoiceView.choices l.self (l.stages ∷ l.rest) l.initial.query l.initial.audit l.place-items l.place-index;
 }

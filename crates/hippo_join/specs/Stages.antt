@@ -1,11 +1,11 @@
--- The steps of a join: a table at a time, and which of its rows may follow those that are chosen.
+-- The stages of a join: a table at a time, and which of its rows may follow those that are chosen.
 use Rattle.std.specs.Prelude.{◌≡◌, true, List, map, slice_get, Option, Some, IfSome}
 use Rattle.std.specs.List.{All, Contains}
 use Rattle.hippo_model.specs.declared.query.Masked.{Masked}
 use Rattle.hippo_model.specs.Terms.{Place}
 use Rattle.hippo_model.specs.RowSets.{KeyedRows}
 use Rattle.hippo_model.specs.Masking.{Choices}
-use Rattle.hippo_join.specs.declared.steps.Step.{Step}
+use Rattle.hippo_join.specs.declared.stages.Stage.{Stage}
 use Rattle.hippo_join.specs.Places.{chosen, Fits, stands}
 use Rattle.hippo_join.specs.Lookups.{IsByColumn}
 use Rattle.hippo_join.specs.Ties.{AreEqual}
@@ -23,16 +23,16 @@ ReachesFrom choices query sets slots table some =
     (places : List Place) → Fits slots places → stands choices query sets places ≡ true
     → (place : Place) → slice_get places table ≡ Some place → Contains some place
 
--- a step has all places of its table that count and, where it has a tie, in the order of the tie's column
-pub record IsStep (choices : Choices) (query : Masked) (sets : List KeyedRows) (step : Step) : Type 0 where
-  pub reaches : Reaches choices query sets step.table step.places.items
-  pub tied : IfSome step.tie (λ tie. (places : List Place) → stands choices query sets places ≡ true
-      → AreEqual (chosen sets places) (record { table = step.table; column = tie.column }) tie.other)
-  pub ordered : IfSome step.tie (λ tie. (set : KeyedRows) → slice_get sets step.table ≡ Some set
-      → IsByColumn set tie.column step.places.items)
+-- a stage has all places of its table that count and, where it has a tie, in the order of the tie's column
+pub record IsStage (choices : Choices) (query : Masked) (sets : List KeyedRows) (stage : Stage) : Type 0 where
+  pub reaches : Reaches choices query sets stage.table stage.places.items
+  pub tied : IfSome stage.tie (λ tie. (places : List Place) → stands choices query sets places ≡ true
+      → AreEqual (chosen sets places) (record { table = stage.table; column = tie.column }) tie.other)
+  pub ordered : IfSome stage.tie (λ tie. (set : KeyedRows) → slice_get sets stage.table ≡ Some set
+      → IsByColumn set tie.column stage.places.items)
 
--- the steps of tables in an order
-pub record AreSteps
-    (choices : Choices) (query : Masked) (sets : List KeyedRows) (order : List Place) (steps : List Step) : Type 0 where
-  pub each : All (IsStep choices query sets) steps
-  pub tables : map (λ step. step.table) steps ≡ order
+-- the stages of tables in an order
+pub record AreStages
+    (choices : Choices) (query : Masked) (sets : List KeyedRows) (order : List Place) (stages : List Stage) : Type 0 where
+  pub each : All (IsStage choices query sets) stages
+  pub tables : map (λ stage. stage.table) stages ≡ order

@@ -4,13 +4,13 @@ use Rattle.std.proofs.lemmas.List.Sorted.{Contains-permutation}
 use Rattle.hippo_model.specs.RowSets.{KeyedRows}
 use Rattle.hippo_join.specs.Lookups.{IsByColumn}
 use Rattle.hippo_join.proofs.ReachLemmas.{tie-counts}
-use Rattle.hippo_join.proofs.sides.Side.listed_step.Goals as goal
+use Rattle.hippo_join.proofs.sides.Side.listed_stage.Goals as goal
 
 some_is : {A : Type 0} {a b : A} → Some a ≡ Some b → a ≡ b
 some_is e = cc
 
-pub returns-clause-step : goal.returns-clause-step
-returns-clause-step g c =
+pub returns-clause-stage : goal.returns-clause-stage
+returns-clause-stage g c =
     let choices = g.C.ChoiceView.choices c.args.self.now.choices.now in
     let query = c.args.self.now.query.now in
     let sets = c.args.self.now.sets.now in

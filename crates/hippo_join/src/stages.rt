@@ -1,9 +1,9 @@
-//! The steps of a join, a table at a time.
+//! The stages of a join, a table at a time.
 use crate::ties::Tie;
 
 /// A table, by its place in FROM, the tie of its rows to a row that is chosen before, and its rows that can count.
 #[derive(Drop)]
-pub struct Step {
+pub struct Stage {
     pub table: usize,
     pub tie: Option<Tie>,
     /// Whether equalities say the row's key, by the rows that are chosen before: then it is looked up.

@@ -1,9 +1,0 @@
--- The steps so far are those of the first places.
-use Rattle.std.proofs.Common.{◌≡◌, map, take}
-use Rattle.hippo_shared.proofs.commons.common_steps.Given as goal
-
-abbrev pub invariant-loop-place : goal.invariant-loop-place
-invariant-loop-place l = record {
-  of_query : map (λ steps. steps.query.now) l.common.items ≡ take l.place l.query;
-  of_audit : map (λ steps. steps.audit.now) l.common.items ≡ take l.place l.audit;
-}
