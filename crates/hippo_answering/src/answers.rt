@@ -100,9 +100,9 @@ fn formed<C: ChoiceView>(
 
 /// The answer of a query for a purpose and recipient at a moment: what it answers over the views of its tables, after
 /// the `n` entries that the book and the tables stand for. The rules in force are written into the query (LeFevre and
-/// others, Limiting Disclosure in Hippocratic Databases, VLDB 2004), and it is answered over the rows as they are. Wants
-/// a query whose tables are created, and which has no GROUP BY. TooManyRows exactly where the answer has more than
-/// 100,000 rows.
+/// others, Limiting Disclosure in Hippocratic Databases, VLDB 2004), and it is answered over the rows as they are.
+/// Wants a query whose tables are created, and which has no GROUP BY. TooManyRows exactly where the answer has more
+/// than 100,000 rows.
 pub fn answer(
     alloc: Global,
     book: &PolicyBook,

@@ -159,9 +159,9 @@ impl Engine {
         Ok(())
     }
 
-    /// Carries out a line and makes its reply whole in memory; what it adds to the history is kept when the call returns.
-    /// Answers `Keeper` only where the keeper's count of faults rose: the engine is then of no more use. Of the end of the
-    /// input it promises nothing.
+    /// Carries out a line and makes its reply whole in memory; what it adds to the history is kept when the call
+    /// returns. Answers `Keeper` only where the keeper's count of faults rose: the engine is then of no more use. Of
+    /// the end of the input it promises nothing.
     pub fn answer<P: Keeper>(
         &mut self,
         alloc: Global,
@@ -178,8 +178,8 @@ impl Engine {
         self.carry_out(alloc, keeper, found)
     }
 
-    /// Carries out a line, as `answer` does, and writes its reply. Answers `Write` only where the sink's count of faults
-    /// rose: a front of the reply is then written.
+    /// Carries out a line, as `answer` does, and writes its reply. Answers `Write` only where the sink's count of
+    /// faults rose: a front of the reply is then written.
     pub fn line<K: Sink, P: Keeper>(
         &mut self,
         alloc: Global,

@@ -33,6 +33,7 @@ pub record IsStage (choices : Choices) (query : Masked) (sets : List KeyedRows) 
 
 -- the stages of tables in an order
 pub record AreStages
-    (choices : Choices) (query : Masked) (sets : List KeyedRows) (order : List Place) (stages : List Stage) : Type 0 where
+    (choices : Choices) (query : Masked) (sets : List KeyedRows) (order : List Place) (stages : List Stage)
+    : Type 0 where
   pub each : All (IsStage choices query sets) stages
   pub tables : map (λ stage. stage.table) stages ≡ order

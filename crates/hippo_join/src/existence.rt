@@ -63,7 +63,8 @@ impl<'a, C: ChoiceView> Side<'a, C> {
         Ok(self.counts_seen(places.as_slice(), &rows, seen))
     }
 
-    // Whether some combination counts that has the rows that are chosen, where a place of a stage's table is chosen too.
+    // Whether some combination counts that has the rows that are chosen, where a place of a stage's table is chosen
+    // too.
     #[cycle(has)]
     fn has_with(
         &self,
@@ -148,7 +149,8 @@ impl<'a, C: ChoiceView> Side<'a, C> {
         slots: &mut [Option<usize>],
     ) -> Result<bool, Memory>
         requires long { length slots.old ≡ length self.now.sets.now }
-        requires stages { All (IsStage (C.choices self.now.choices.now) self.now.query.now self.now.sets.now) stages.now }
+        requires stages { All (IsStage (C.choices self.now.choices.now) self.now.query.now self.now.sets.now)
+            stages.now }
         requires covers { Covers stages.now slots.old }
         ensures slots { OnOk result (slots.new ≡ slots.old) }
         ensures one { Decides (HasOne (C.choices self.now.choices.now) self.now.query.now seen.now self.now.sets.now

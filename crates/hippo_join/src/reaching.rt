@@ -151,8 +151,8 @@ impl<'a, C: ChoiceView> Side<'a, C> {
         tests: Vec<usize>,
     ) -> Result<Stage, Memory>
         requires { table < length self.now.sets.now }
-        ensures stage { IfOk result (λ stage. IsStage (C.choices self.now.choices.now) self.now.query.now self.now.sets.now
-            stage) }
+        ensures stage { IfOk result (λ stage. IsStage (C.choices self.now.choices.now) self.now.query.now
+            self.now.sets.now stage) }
         ensures listed { IfOk result (λ stage. stage.by_key ≡ false) }
         ensures table { IfOk result (λ stage. stage.table ≡ table) }
     {
@@ -176,8 +176,8 @@ impl<'a, C: ChoiceView> Side<'a, C> {
         })
     }
 
-    // A table's stage behind those whose rows are chosen: with its places, if all stages are to list theirs or if its key
-    // is not said.
+    // A table's stage behind those whose rows are chosen: with its places, if all stages are to list theirs or if its
+    // key is not said.
     fn stage(
         &self,
         alloc: Global,

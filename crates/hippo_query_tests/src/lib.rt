@@ -1,5 +1,5 @@
-//! Tests of queries by their public calls: that ample memory suffices, also at the most rows. They stand here so that no
-//! crate is proved a second time with its tests.
+//! Tests of queries by their public calls: that ample memory suffices, also at the most rows. They stand here so that
+//! no crate is proved a second time with its tests.
 #![tactic(auto)]
 
 #[cfg(test)]

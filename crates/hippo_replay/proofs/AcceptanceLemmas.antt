@@ -61,6 +61,10 @@ made history table test schema found = ap (λ (found : Option Schema). option_ma
 named_so : (history : History) (table : Name) (schema : Schema) → schema_at history table ≡ Some schema → bytes_eq table schema.name ≡ true
 named_so history table schema found = nat_list_eq_equiv.symm table schema.name ∙ schema_at-named history table schema found
 
+-- both tests of a version agree with the definitions'
+pub both_are : {a b c d : Bool} → a ≡ b → c ≡ d → (a && c) ≡ (b && d)
+both_are first second = λ i. first i && second i
+
 -- a version of a table that is there
 module _ (history : History) (table : Name) (schema : Schema) (found : schema_at history table ≡ Some schema) where
   pub insert_is : (row : Row) → (row_fits schema row && not (is_live schema history (key_of schema.key row))) ≡ is_table_version history table (Insert table row)

@@ -1,6 +1,6 @@
 -- A load, from its start to its answer.
 use Rattle.std.proofs.Common.{◌≡◌, ◌∙◌, sym, ap, refl, arith, subst, ℕ, ◌+◌, ◌≤◌, Bool, true, false, not, ◌&&◌, List, map, Result, Ok, Err, IfOk}
-use Rattle.std.specs.Result.{result_map_both}
+use Rattle.std.specs.Result.{result_and}
 use Rattle.std.proofs.lemmas.Bool.{false≢true}
 use Rattle.std.proofs.lemmas.Result.{IfOk-weaker, IfOk-at_ok}
 use Rattle.hippo_model.specs.Terms.{History}
@@ -79,7 +79,7 @@ module _ (name : List ℕ) (before mid after : KeeperState) (steps_before steps_
       }
 
   -- what comes of reading all
-  pub Loads-started : (all : Result (Unit {0}) LoadFault) → ReadsAll all mid after state steps_before steps_after → Loads name (result_map_both (λ (done : Unit {0}). state) (λ (fault : LoadFault). fault) all) before after steps_before steps_after
+  pub Loads-started : (all : Result (Unit {0}) LoadFault) → ReadsAll all mid after state steps_before steps_after → Loads name (result_and all (Ok state)) before after steps_before steps_after
   Loads-started (Ok done) reads = record {
     call = call_by (Ok tt) true false before after (IsAfterCall-then false (well KeeperFault) (well KeeperFault) before mid after refl starts.call reads.call) refl;
     started = λ judged. reads.call.started_is;

@@ -1,6 +1,6 @@
 -- The kept entries read piece by piece.
 use Rattle.std.proofs.Common.{◌≡◌, ◌≢◌, ◌∙◌, sym, ap, refl, arith, subst, ℕ, ◌+◌, ◌^◌, ◌<◌, ◌↔◌, Bool, true, false, not, [], ◌∷◌, ◌++◌, map, length, take, drop, cond, Result, Ok, Err, IfOk, OnOk, IsTrue, length-append, append_assoc}
-use Rattle.std.specs.Result.{result_map_both}
+use Rattle.std.specs.Result.{result_and}
 use Rattle.std.proofs.lemmas.Bool.{false≢true}
 use Rattle.std.proofs.lemmas.List.{take-append-drop}
 use Rattle.std.proofs.lemmas.List.Sums.{sum_by-append}
@@ -110,11 +110,11 @@ module _ (max : ℕ) (before after : KeeperState) (old new : State) (steps_old s
   }
 
   -- what comes of a piece that was read
-  pub reads_on : (any : Bool) → 0 < max → old.count < 2 ^ 64 → IsSound old → (any ≡ false → piece ≡ []) → (any ≡ true → ¬ (piece ≡ [])) → (all : Result (Unit {0}) LoadFault) → TakesIn piece all old new → ReadsOn (result_map_both (λ (done : Unit {0}). any) (λ (fault : LoadFault). fault) all) before after old new steps_old steps_new
+  pub reads_on : (any : Bool) → 0 < max → old.count < 2 ^ 64 → IsSound old → (any ≡ false → piece ≡ []) → (any ≡ true → ¬ (piece ≡ [])) → (all : Result (Unit {0}) LoadFault) → TakesIn piece all old new → ReadsOn (result_and all (Ok any)) before after old new steps_old steps_new
   reads_on any some room sound none more (Ok done) taken = reads_on-ok any some room sound none more taken
   reads_on any some room sound none more (Err fault) taken = reads_on-err fault taken
 
-pub sound_by : (any : Bool) (state : State) (all : Result (Unit {0}) LoadFault) → OnOk all (IsSound state) → IfOk (result_map_both (λ (done : Unit {0}). any) (λ (fault : LoadFault). fault) all) (λ any. IsSound state)
+pub sound_by : (any : Bool) (state : State) (all : Result (Unit {0}) LoadFault) → OnOk all (IsSound state) → IfOk (result_and all (Ok any)) (λ any. IsSound state)
 sound_by any state (Ok done) sound = sound
 sound_by any state (Err fault) sound = tt
 

@@ -1,4 +1,5 @@
 pub mod Standing
+pub mod NamedPairs
 pub mod TakingIn
 pub mod Loading
 pub mod Reading

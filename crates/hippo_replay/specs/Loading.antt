@@ -55,7 +55,8 @@ pub record IsLoaded (state : State) (keeper : KeeperState) (steps_before steps_a
 pub record Loads (name : List ℕ) (result : Result State LoadFault) (before after : KeeperState)
     (steps_before steps_after : ℕ) : Type 0 where
   -- only want of memory at the start closes the keeper, and only a keeper's fault leaves it spent
-  pub call : IsAfterCall after.started (not after.started && wants_memory (as_call result)) (as_call result) before after
+  pub call : IsAfterCall after.started (not after.started && wants_memory (as_call result)) (as_call result)
+      before after
   pub started : judges result ≡ true → after.started ≡ true
   -- whatever is answered, a keeper that was started keeps what it found
   pub found : after.started ≡ true → after.tells → KeepsFound (before.finds name) after

@@ -9,10 +9,11 @@ ghost use Rattle.hippo_model.specs.Keepable.{is_keepable};
 ghost use Rattle.hippo_model.specs.Rows.{key_of};
 ghost use Rattle.hippo_model.specs.Rules.{authorized_at};
 ghost use Rattle.hippo_model.specs.Versions.{is_live};
-ghost use Rattle.hippo_model.specs.Validity.{is_purpose, is_recipient, pair_exists, create_fits, has_columns, table_passes, has_subject, item_fits, rule_fits, is_table_version, is_authorized, is_acceptable, keeps_order, may_follow};
+ghost use Rattle.hippo_model.specs.Validity.{is_purpose, is_recipient, pair_exists, create_fits, has_columns, table_passes, has_subject, item_fits, is_table_version, is_authorized, is_acceptable, keeps_order, may_follow};
 ghost use Rattle.hippo_catalog.specs.Catalogs.{table_of};
 ghost use Rattle.hippo_typing.specs.Meanings.{meaning};
 ghost use Rattle.hippo_replay.specs.Standing.{StandsFor};
+ghost use Rattle.hippo_replay.specs.NamedPairs.{named_pair_exists};
 
 use crate::rows::{key_fits, row_fits};
 use crate::schemas::{days_fit, has_columns, is_well_formed};
@@ -140,12 +141,42 @@ impl State {
         }
     }
 
-    // Whether a rule's pair, table and columns are there.
-    fn may_rule(&self, purpose: &Name, recipient: &Name, table: &Name, columns: &Places) -> bool
+    // Whether the purpose and recipient that a grant or a rule names are there.
+    fn has_named_pair(&self, act: &Act) -> bool
         ensures { (history : History) → StandsFor self.now history
-            → result ≡ rule_fits history purpose.now recipient.now table.now columns.now }
+            → result ≡ named_pair_exists history act.now }
     {
-        self.has_pair(purpose, recipient) && self.has_columns(table, columns)
+        match act {
+            Act::Authorize {
+                purpose,
+                recipient,
+                ..
+            }
+            | Act::Deauthorize {
+                purpose,
+                recipient,
+                ..
+            }
+            | Act::Allow {
+                purpose,
+                recipient,
+                ..
+            }
+            | Act::Revoke {
+                purpose,
+                recipient,
+                ..
+            } => self.has_pair(purpose, recipient),
+            _ => true,
+        }
+    }
+
+    // Whether a rule's pair, table and columns are there.
+    fn may_rule(&self, rule: &Act, table: &Name, columns: &Places) -> bool
+        ensures { (history : History) → StandsFor self.now history → result
+            ≡ (named_pair_exists history rule.now && table_passes history (has_columns columns.now) table.now) }
+    {
+        self.has_named_pair(rule) && self.has_columns(table, columns)
     }
 
     // Whether a rule's item, where it has one, is there and suits the table.
@@ -207,34 +238,20 @@ impl State {
             Act::Purpose(purpose) => Ok(!self.has_purpose(purpose)),
             Act::Recipient(recipient) => Ok(!self.has_recipient(recipient)),
             Act::Item { item, .. } => Ok(!self.has_item(item)),
-            Act::Authorize {
-                purpose,
-                recipient,
-                ..
-            } => Ok(self.has_pair(purpose, recipient)),
-            Act::Deauthorize {
-                purpose,
-                recipient,
-                ..
-            } => Ok(self.has_pair(purpose, recipient)),
+            Act::Authorize { .. } => Ok(self.has_named_pair(act)),
+            Act::Deauthorize { .. } => Ok(self.has_named_pair(act)),
             Act::Allow {
-                purpose,
-                recipient,
                 table,
                 columns,
                 item,
                 days,
+                ..
             } => Ok(
-                self.may_rule(purpose, recipient, table, columns)
+                self.may_rule(act, table, columns)
                     && self.item_fits(table, item)
                     && days_fit(*days),
             ),
-            Act::Revoke {
-                purpose,
-                recipient,
-                table,
-                columns,
-            } => Ok(self.may_rule(purpose, recipient, table, columns)),
+            Act::Revoke { table, columns, .. } => Ok(self.may_rule(act, table, columns)),
             Act::Choice { item, .. } => Ok(self.has_item(item)),
             Act::Asked {
                 user,
@@ -259,8 +276,8 @@ impl State {
         self.last.seconds() <= moment.seconds()
     }
 
-    /// Whether an entry that can be kept may come next: its number is the next one, its moment no earlier than that of the
-    /// last entry, and its act acceptable. The only error is want of memory.
+    /// Whether an entry that can be kept may come next: its number is the next one, its moment no earlier than that of
+    /// the last entry, and its act acceptable. The only error is want of memory.
     pub fn accepts(&self, alloc: Global, entry: &Entry) -> Result<bool, Memory>
         requires keepable { is_keepable entry.now ≡ true }
         ensures { (history : History) → StandsFor self.now history

@@ -1,6 +1,5 @@
 //! Loading a kept history from its keeper, piece by piece.
 ghost use Rattle.std.specs.Prelude.{◌≡◌, true, false, [], IfOk};
-ghost use Rattle.std.specs.Result.{result_map_both};
 ghost use Rattle.hippo_keeper.specs.Keeping.{RisesAbove, IsReady};
 ghost use Rattle.hippo_replay.specs.Standing.{StandsFor, IsSound};
 ghost use Rattle.hippo_replay.specs.Loading.{Loads};
@@ -8,7 +7,6 @@ ghost use Rattle.hippo_replay.specs.Reading.{fault_of, ReadsOn, ReadsAll};
 
 use crate::faults::LoadFault;
 use crate::state::State;
-use crate::taking_in::let_fall;
 use hippo_keeper::{Keeper, KeeperFault, Steps};
 use std::alloc::Global;
 use std::sync::ledger::Ledger;
@@ -22,16 +20,6 @@ fn fault_of(fault: KeeperFault) -> LoadFault
     match fault {
         KeeperFault::Failed => LoadFault::Keeper,
         KeeperFault::Memory => LoadFault::Memory,
-    }
-}
-
-// The value, where all was taken in.
-fn only_if<T: Drop>(taken: Result<(), LoadFault>, value: T) -> Result<T, LoadFault>
-    ensures { result ≡ result_map_both (λ _. value) (λ fault. fault) taken }
-{
-    match taken {
-        Ok(()) => Ok(value),
-        Err(fault) => Err(fault),
     }
 }
 
@@ -51,8 +39,8 @@ fn read_on<P: Keeper, L: Ledger>(
         Ok(piece) => {
             let any = !piece.is_empty();
             let taken = state.take_in_all(alloc, piece.as_slice());
-            let_fall(piece);
-            only_if(taken, any)
+            drop(piece);
+            taken.and(Ok(any))
         }
         Err(fault) => Err(fault_of(fault)),
     }
@@ -79,12 +67,14 @@ fn read_all<P: Keeper, L: Ledger>(
     }
 }
 
-/// Starts a keeper, which must be neither started nor spent nor closed, and loads the history that it keeps under this name.
+/// Starts a keeper, which must be neither started nor spent nor closed, and loads the history that it keeps under this
+/// name.
 ///
 /// Ok gives the state of a valid history, which is the kept one where the keeper tells what it keeps, and the keeper is
-/// then started. `Damaged` gives the place, counted from 1, of the first entry up to which the kept entries are those of no
-/// valid history. `Keeper` comes only where the keeper's count of faults rose; it is then spent. Whatever the answer, the
-/// kept entries stay as they were found. A load that answers Ok takes as many steps as there are versions in the history.
+/// then started. `Damaged` gives the place, counted from 1, of the first entry up to which the kept entries are those
+/// of no valid history. `Keeper` comes only where the keeper's count of faults rose; it is then spent. Whatever the
+/// answer, the kept entries stay as they were found. A load that answers Ok takes as many steps as there are versions
+/// in the history.
 pub fn load<P: Keeper, L: Ledger>(
     keeper: &mut P,
     alloc: Global,
@@ -98,7 +88,7 @@ pub fn load<P: Keeper, L: Ledger>(
         Ok(()) => {
             let mut state = State::new(alloc);
             let all = read_all(keeper, alloc, &mut state, steps);
-            only_if(all, state)
+            all.and(Ok(state))
         }
         Err(fault) => Err(fault_of(fault)),
     }

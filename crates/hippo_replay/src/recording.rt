@@ -13,7 +13,6 @@ ghost use Rattle.hippo_replay.specs.TakingIn.{HasLoaded};
 ghost use Rattle.hippo_replay.specs.Recording.{Keeps, Records};
 
 use crate::state::State;
-use crate::taking_in::let_fall;
 use hippo_entry::{Keepable, encode};
 use hippo_keeper::{Keeper, KeeperFault};
 use hippo_model::{Act, Entry};
@@ -44,7 +43,7 @@ fn append<P: Keeper>(alloc: Global, keeper: &mut P, entry: &Entry) -> Result<(),
     match encode(alloc, entry) {
         Ok(kept) => {
             let result = keeper.append(alloc, &kept);
-            let_fall(kept);
+            drop(kept);
             result
         }
         Err(Memory) => Err(KeeperFault::Memory),

@@ -104,7 +104,8 @@ impl State {
         requires next { IsNext self.old entry.now }
         ensures stands { OnOk result ((history : History) → StandsFor self.old history
             → may_follow meaning history entry.now ≡ true → StandsFor self.new (history ++ entry.now ∷ [])) }
-        ensures remembers { OnOk result (is_delete entry.now.act ≡ false → (history : History) → StandsFor self.old history
+        ensures remembers { OnOk result (is_delete entry.now.act ≡ false
+            → (history : History) → StandsFor self.old history
             → may_follow meaning history entry.now ≡ true → Remembers self.new history entry.now) }
         ensures count { OnOk result (self.new.count ≡ entry.now.seq) }
         ensures err { OnErr result ((history : History) → StandsFor self.old history

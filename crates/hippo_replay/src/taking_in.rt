@@ -13,9 +13,6 @@ use hippo_model::{Entry, StoredEntry};
 use hippo_values::Memory;
 use std::alloc::Global;
 
-/// Lets what was used fall.
-pub(crate) fn let_fall<T: Drop>(_used: T) {}
-
 impl State {
     // The place of the damage, where the next entry, whose number is above that of the last one, may not follow.
     fn damage(&self, _number: u64) -> LoadFault
@@ -54,7 +51,7 @@ impl State {
         match decode(alloc, kept) {
             Ok(Some(entry)) => {
                 let result = self.follow(alloc, &entry);
-                let_fall(entry);
+                drop(entry);
                 result
             }
             Ok(None) => Err(self.damage(kept.seq)),

@@ -116,7 +116,8 @@ impl<'a, C: ChoiceView> Search<'a, C> {
         ensures audit { OnOk result (audit.new ≡ audit.old) }
         ensures first { IfOk result (λ found. IsFirst (Shared C.choices self.now rest.now
             (slice_set query.old stages.now.query.now.table (Some place))
-            (slice_set audit.old stages.now.audit.now.table (Some place))) (option_map (λ places. places.items) found)) }
+            (slice_set audit.old stages.now.audit.now.table (Some place)))
+            (option_map (λ places. places.items) found)) }
     {
         query[stages.query.table] = Some(place);
         audit[stages.audit.table] = Some(place);

@@ -358,8 +358,8 @@ fn the_example_and_its_broken_forms(rt: HostRuntime) -> Result<(), Fail> {
     Ok(())
 }
 
-// The kind, the table, and the bytes behind the kind: a front, a piece so many times, and what stands behind; whether an
-// entry has this form.
+// The kind, the table, and the bytes behind the kind: a front, a piece so many times, and what stands behind; whether
+// an entry has this form.
 type Large = (
     u8,
     &'static str,

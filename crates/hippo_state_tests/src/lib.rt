@@ -1,5 +1,5 @@
-//! Tests of what is kept and of what stands for a history, by public calls: stored forms against bytes that were written by
-//! hand from the format, the largest uses, and faults one at a time.
+//! Tests of what is kept and of what stands for a history, by public calls: stored forms against bytes that were
+//! written by hand from the format, the largest uses, and faults one at a time.
 #![tactic(auto)]
 
 #[cfg(test)]

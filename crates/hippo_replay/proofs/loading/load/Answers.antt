@@ -14,7 +14,7 @@ read_all-all-requires g c = record {
 }
 
 pub returns-in-Ok : goal.returns-in-Ok
-returns-in-Ok g c = rw c.only_if.ensures (record { loads = Loads-started c.args.name.now (g.P.Keeper.state c.args.keeper.now) (g.P.Keeper.state c.start.new.self) (g.P.Keeper.state c.read_all-all.new.keeper) c.args.steps.now c.read_all-all.new.steps c.read_all-all.new.state c.in-Ok.ensures.starts c.read_all-all.result c.read_all-all.ensures.reads })
+returns-in-Ok g c = rw c.and.ensures (record { loads = Loads-started c.args.name.now (g.P.Keeper.state c.args.keeper.now) (g.P.Keeper.state c.start.new.self) (g.P.Keeper.state c.read_all-all.new.keeper) c.args.steps.now c.read_all-all.new.steps c.read_all-all.new.state c.in-Ok.ensures.starts c.read_all-all.result c.read_all-all.ensures.reads })
 
 pub returns-in-Err : goal.returns-in-Err
 returns-in-Err g c = rw c.fault_of.ensures (record { loads = Loads-unstarted c.args.name.now (g.P.Keeper.state c.args.keeper.now) (g.P.Keeper.state c.start.new.self) c.args.steps.now c.in-Err.fault c.in-Err.ensures.starts })

@@ -9,7 +9,7 @@ returns-in-Ok g c =
     let after = g.P.Keeper.state c.read_all.new.self in
     let empty = c.is_empty-any.result in
     let taken = rw c.as_slice.ensures at c.take_in_all-taken.ensures.taken in
-    rw c.only_if.ensures (record {
+    rw c.and.ensures (record {
       reads = reads_on 1000 before after c.args.state.now c.take_in_all-taken.new.self c.args.steps.now c.read_all.new.steps c.in-Ok.piece c.in-Ok.ensures.reads c.in-Ok.ensures.steps
           (not empty) (omega arith) (omega arith) c.requires.sound (none_by empty c.in-Ok.piece c.is_empty-any.ensures) (some_by empty c.in-Ok.piece c.is_empty-any.ensures) c.take_in_all-taken.result taken;
       sound = sound_by (not empty) c.take_in_all-taken.new.self c.take_in_all-taken.result c.take_in_all-taken.ensures.sound;

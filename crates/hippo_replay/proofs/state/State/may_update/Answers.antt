@@ -1,13 +1,11 @@
-use Rattle.std.proofs.Common.{◌≡◌, ◌∙◌, ap, sym, ◌&&◌, Some}
+-- The table's schema tells, where there is one.
+use Rattle.std.proofs.Common.{◌≡◌, ◌∙◌, sym, Some}
 use Rattle.hippo_model.specs.Histories.{schema_at}
-use Rattle.hippo_model.specs.Versions.{row_fits}
-use Rattle.hippo_replay.proofs.AcceptanceLemmas.{update_is}
+use Rattle.hippo_replay.proofs.AcceptanceLemmas.{both_are, update_is}
 use Rattle.hippo_replay.proofs.state.State.may_update.Goals as goal
 
 pub returns-then-row_fits : goal.returns-then-row_fits
 returns-then-row_fits c history stands =
-    let schema = c.in-Some.schema.now in
-    let found : schema_at history c.args.table.now ≡ Some schema = sym (c.in-Some.ensures history stands.tables) in
-    ap (λ fits. fits && c.is_live_like.result) (sym c.if-row_fits.true ∙ c.row_fits.ensures)
-    ∙ ap (λ lives. row_fits schema c.args.row.now && lives) (c.is_live_like.ensures history schema stands found)
-    ∙ update_is history c.args.table.now schema found c.args.row.now
+    let found : schema_at history c.args.table.now ≡ Some c.in-Some.schema.now = sym (c.in-Some.ensures history stands.tables) in
+    both_are (sym c.if-row_fits.true ∙ c.row_fits.ensures) (c.is_live_like.ensures history c.in-Some.schema.now stands found)
+    ∙ update_is history c.args.table.now c.in-Some.schema.now found c.args.row.now
