@@ -47,7 +47,8 @@ pub record IsQuiet (command : Command) (old new : Engine) : Type 0 where
 
 -- a command has its effect after a history: the engine shows the reply and holds the world, stands for the history with
 -- what was added, and its keeper keeps that
-pub record HasEffect (history : History) (command : Command) (old new : Engine) (before after : KeeperState) : Type 0 where
+pub record HasEffect (history : History) (command : Command) (old new : Engine) (before after : KeeperState)
+    : Type 0 where
   pub effect : Effect
   pub is : IsEffect history (world_of old.world) command effect
   pub reply : new.reply ≡ effect.reply
@@ -63,7 +64,8 @@ pub record BreaksOff (history : History) (command : Command) (old : Engine) (bef
   pub kept : after.tells → MayHaveOneMore (stored entry) before after
 
 -- a command is carried out, or the keeper fails
-pub record Carries {A : Type 0} (command : Command) (result : Result A EngineFault) (old new : Engine) (before after : KeeperState) : Type 0 where
+pub record Carries {A : Type 0} (command : Command) (result : Result A EngineFault) (old new : Engine)
+    (before after : KeeperState) : Type 0 where
   pub call : IsAfterCall true false (as_call result) before after
   pub sound : has_failed (as_call result) ≡ false → IsSound new.state
   pub carried : has_failed (as_call result) ≡ false → (history : History) → StandsFor old.state history
@@ -72,6 +74,7 @@ pub record Carries {A : Type 0} (command : Command) (result : Result A EngineFau
       → BreaksOff history command old before after
 
 -- a line, where it is not the end of the input, is carried out, or the keeper fails
-abbrev pub Answers : {A : Type 0} → Option LineText → Result A EngineFault → Engine → Engine → KeeperState → KeeperState → Type 0
+abbrev pub Answers : {A : Type 0} → Option LineText → Result A EngineFault → Engine → Engine → KeeperState → KeeperState
+    → Type 0
 Answers line result old new before after =
     (text : LineText) → line ≡ Some text → Carries (command_of text) result old new before after

@@ -67,13 +67,15 @@ within_limit number rows reply =
 abbrev pub alarm_line : History → Entry → ℕ → Audit → Txt
 alarm_line history entry number audit =
     let says : List SharedRow → Txt =
-    λ tuple. codes "0 alarm " ++ (decimal number ++ (codes " " ++ (decimal entry.seq ++ (tuple_text tuple ++ codes "\n")))) in
+    λ tuple. codes "0 alarm " ++ (decimal number
+    ++ (codes " " ++ (decimal entry.seq ++ (tuple_text tuple ++ codes "\n")))) in
     option_map_or says (shared meaning history audit entry) []
 
 -- what the watches say of an entry, in the order of their numbers
 abbrev pub alarms : History → World → Entry → Txt
 alarms history world entry =
-    flat_map (λ (number, held). option_map_or (alarm_line history entry number) held []) (enumerate_from 1 world.watches)
+    flat_map (λ (number, held). option_map_or (alarm_line history entry number) held [])
+    (enumerate_from 1 world.watches)
 
 -- a question is logged; its reply is followed by what the watches say of it
 abbrev pub asked : History → World → Question → Txt → World → Effect
@@ -85,7 +87,8 @@ asked history world question reply after =
 abbrev pub answered : History → World → Question → (ℕ → ShownRow → Txt) → Effect
 answered history world question line =
     let rows : List ShownRow = question_rows history world question in
-    asked history world question (within_limit question.session rows (listed question.session (line question.session) rows)) world
+    asked history world question
+    (within_limit question.session rows (listed question.session (line question.session) rows)) world
 
 -- the answer is kept, and handed out from its first row on
 abbrev pub opened : World → Session → ℕ → Question → List ShownRow → World
@@ -97,7 +100,8 @@ opened world session number question rows =
 abbrev pub cursor_opened : History → World → Session → ℕ → Question → Effect
 cursor_opened history world session number question =
     let rows : List ShownRow = question_rows history world question in
-    asked history world question (within_limit question.session rows (number_line question.session (codes "cursor") number))
+    asked history world question
+    (within_limit question.session rows (number_line question.session (codes "cursor") number))
     (opened world session number question rows)
 
 -- how many rows were handed out, while there are more; else how many there are
@@ -161,7 +165,8 @@ denial_line denial = denied_line denial.table denial.key denial.column denial.ru
 abbrev pub explained : History → World → Entry → Effect
 explained history world entry =
     let cells : List Denial = denials meaning history entry in
-    only_reply world (if nat_lt row_limit (length cells) then refusal_line (Some 0) TooManyRows else listed 0 denial_line cells)
+    only_reply world
+    (if nat_lt row_limit (length cells) then refusal_line (Some 0) TooManyRows else listed 0 denial_line cells)
 
 -- a job at its beginning
 abbrev pub new_job : History → Audit → Job
@@ -205,13 +210,15 @@ abbrev pub effect_of : History → World → Command → Effect
 effect_of history world command = carried_out history world (who_commands command) (judged history world command)
 
 -- a reply that says that memory was short, and the entry of a question is there or not
-pub record IsShortAnswer (history : History) (world : World) (reply : Txt) (question : Question) (effect : Effect) : Type 0 where
+pub record IsShortAnswer (history : History) (world : World) (reply : Txt) (question : Question) (effect : Effect)
+    : Type 0 where
   pub said : effect.reply ≡ reply
   pub kept : (effect.added ≡ []) ⊎ (effect.added ≡ next_entry history world (asked_by question) ∷ [])
   pub same : effect.world ≡ world
 
 -- a reply that says that memory was short, and the job stands at some number up to the step's end
-pub record IsShortStep (history : History) (world : World) (reply : Txt) (number : ℕ) (job : Job) (count : ℕ) (effect : Effect) : Type 0 where
+pub record IsShortStep (history : History) (world : World) (reply : Txt) (number : ℕ) (job : Job) (count : ℕ)
+    (effect : Effect) : Type 0 where
   pub upto : ℕ
   pub from : job.place ≤ upto
   pub to : upto ≤ step_end job count
@@ -220,9 +227,11 @@ pub record IsShortStep (history : History) (world : World) (reply : Txt) (number
 -- what may stand in the place of what is done, where memory is short
 abbrev pub IsShort : History → World → Txt → Checked Deed → Effect → Type 0
 IsShort history world reply (Ok (deeds.answer question)) effect = IsShortAnswer history world reply question effect
-IsShort history world reply (Ok (deeds.open_cursor session number question)) effect = IsShortAnswer history world reply question effect
+IsShort history world reply (Ok (deeds.open_cursor session number question)) effect =
+    IsShortAnswer history world reply question effect
 IsShort history world reply (Ok (deeds.extract question)) effect = IsShortAnswer history world reply question effect
-IsShort history world reply (Ok (deeds.step_job number job count)) effect = IsShortStep history world reply number job count effect
+IsShort history world reply (Ok (deeds.step_job number job count)) effect =
+    IsShortStep history world reply number job count effect
 IsShort history world reply judgement effect = effect ≡ only_reply world reply
 
 -- a line may be answered by want of memory, unless it takes none

@@ -93,14 +93,16 @@ judged_change history world number statement = do
 -- the name of the first column whose field is not of its form
 abbrev pub bad_field : Schema → List (Option Value) → Checked (Unit {0})
 bad_field schema values =
-    option_map_or (λ place. option_map_or (λ column. Err (BadField column.name)) (slice_get schema.columns place) (Ok tt))
+    option_map_or
+    (λ place. option_map_or (λ column. Err (BadField column.name)) (slice_get schema.columns place) (Ok tt))
     (position is_none values) (Ok tt)
 
 -- a record for a table: its fields, their number and forms, and then what an INSERT of the values is refused for
 abbrev pub loaded_row : Schema → Txt → Checked Row
 loaded_row schema text = do
   fields ← ok_or (record_fields text) BadRecord
-  counted ← refused_if (not (length fields == length schema.columns)) (Meaningless (faults.WrongCount (length schema.columns)))
+  counted ← refused_if (not (length fields == length schema.columns))
+      (Meaningless (faults.WrongCount (length schema.columns)))
   formed ← bad_field schema (field_values schema fields)
   meant (insert_refused (filter_map (λ value. value) (field_values schema fields)) schema)
       (filter_map (λ value. value) (field_values schema fields))

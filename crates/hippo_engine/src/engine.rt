@@ -138,7 +138,8 @@ impl Engine {
         requires ready { IsReady true (P.state keeper.old) }
         requires told { (P.state keeper.old).tells → HasLoaded self.old.state (P.state keeper.old).kept }
         requires of_line { IsOfLine (command found) }
-        ensures carries { Carries (command found.entry) result self.old self.new (P.state keeper.old) (P.state keeper.new) }
+        ensures carries { Carries (command found.entry) result self.old self.new
+            (P.state keeper.old) (P.state keeper.new) }
         ensures unwritten { result ≢ Err WriteFailed }
     {
         match found {
@@ -171,7 +172,8 @@ impl Engine {
         requires sound { IsSound self.old.state }
         requires ready { IsReady true (P.state keeper.old) }
         requires told { (P.state keeper.old).tells → HasLoaded self.old.state (P.state keeper.old).kept }
-        ensures answers { Answers (line_text line.entry) result self.old self.new (P.state keeper.old) (P.state keeper.new) }
+        ensures answers { Answers (line_text line.entry) result self.old self.new
+            (P.state keeper.old) (P.state keeper.new) }
         ensures unwritten { result ≢ Err WriteFailed }
     {
         let found = command_in(alloc, line);
@@ -190,7 +192,8 @@ impl Engine {
         requires sound { IsSound self.old.state }
         requires ready { IsReady true (P.state keeper.old) }
         requires told { (P.state keeper.old).tells → HasLoaded self.old.state (P.state keeper.old).kept }
-        ensures answers { Answers (line_text line.entry) result self.old self.new (P.state keeper.old) (P.state keeper.new) }
+        ensures answers { Answers (line_text line.entry) result self.old self.new
+            (P.state keeper.old) (P.state keeper.new) }
         ensures written { OnOk result (Appends (K.written sink.old) (K.written sink.new) self.new.reply) }
         ensures cut { result ≡ Err WriteFailed → AppendsFront (K.written sink.old) (K.written sink.new) self.new.reply
             × HasRisen (K.faults sink.old) (K.faults sink.new) }

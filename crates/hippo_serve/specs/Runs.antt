@@ -134,7 +134,8 @@ Turn (Some KeeperFault) command old new before after written_before written_afte
     Carries {A = Unit {0}} command (Err Keeper) old new before after × (written_after ≡ written_before)
 Turn (Some ReadFault) command old new before after written_before written_after = ⊥
 Turn (Some WriteFault) command old new before after written_before written_after =
-    Carries {A = Unit {0}} command (Err Write) old new before after × AppendsFront written_before written_after new.reply
+    Carries {A = Unit {0}} command (Err Write) old new before after
+    × AppendsFront written_before written_after new.reply
 Turn (Some Damaged) command old new before after written_before written_after = ⊥
 Turn (Some NoMemory) command old new before after written_before written_after = ⊥
 Turn (Some TooMuch) command old new before after written_before written_after = ⊥
