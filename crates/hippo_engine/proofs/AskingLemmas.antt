@@ -1,6 +1,7 @@
 -- What the checks of a question come to.
 use Rattle.std.proofs.Common.{◌≡◌, ◌≢◌, ◌⊎◌, ◌∙◌, inl, inr, refl, sym, ap, subst, Bool, true, false, ◌&&◌, List, [], ◌∷◌, ◌++◌, Option, Some, None, Ok, Err}
-use Rattle.std.specs.Prelude.{is_none, is_some, flat_map, unwrap_or, slice_get}
+use Rattle.std.specs.Prelude.{ℕ, length, is_none, is_some, flat_map, unwrap_or, slice_get}
+use Rattle.hippo_values.specs.Texts.{Txt}
 use Rattle.hippo_values.specs.declared.names.Name.{Name}
 use Rattle.hippo_model.specs.declared.name_fault.NameFault.{NameFault}
 use Rattle.hippo_model.specs.declared.name_fault.NameFault.TheVariants.{UnknownTable, Memory as NoRoom}
@@ -18,13 +19,20 @@ use Rattle.hippo_typing.specs.Meanings.{meaning}
 use Rattle.hippo_typing.specs.ResolutionLaws.{NamesAreThoseOf}
 use Rattle.hippo_typing.proofs.CatalogTheorem.{valid_names}
 use Rattle.hippo_report.specs.declared.refusal.Refusal.{Refusal}
-use Rattle.hippo_report.specs.declared.refusal.Refusal.TheVariants.{Memory, Meaningless}
+use Rattle.hippo_report.specs.declared.refusal.Refusal.TheVariants.{Memory, Meaningless, NotBuilt}
 use Rattle.hippo_answering.specs.States.{are_created, is_grouped}
+use Rattle.hippo_commands.specs.Commands as commands
+use Rattle.hippo_world.specs.Worlds.{World}
 use Rattle.hippo_replay.specs.declared.state.State.{State}
 use Rattle.hippo_replay.specs.Standing.{StandsFor}
-use Rattle.hippo_engine.specs.Checks.{meant}
-use Rattle.hippo_engine.specs.Judging.{is_plain}
-use Rattle.hippo_engine.specs.Asking.{IsAnswerable}
+use Rattle.hippo_world.specs.declared.sessions.Session.{Session}
+use Rattle.hippo_engine.specs.Deeds.{Deed, Question}
+use Rattle.hippo_engine.specs.Checks.{Checked, Finds, ◌>>=◌, open_session, authorized, meant, has_room}
+use Rattle.hippo_engine.specs.declared.asking.Asking.{Asking}
+use Rattle.hippo_engine.specs.declared.asking.Handing.{Handing}
+use Rattle.hippo_engine.specs.declared.asking.Handing.TheVariants.{Rows, Cursor}
+use Rattle.hippo_engine.specs.Judging.{is_plain, text_between, cursor_wanted, deed_for, judged_question, judged}
+use Rattle.hippo_engine.specs.Asking.{statement_asked, cursor_in_room, asking_with, deed_asked, IsAnswerable}
 
 -- where nothing is refused, the form is meant
 pub meant_so : {A : Type 0} (faults : List NameFault) (form made : A) → faults ≡ [] → made ≡ form → meant faults form ≡ Ok made
@@ -40,6 +48,19 @@ meant_not (head ∷ more) form fault refusal first (inl (other, is)) =
     let same : head ≡ fault = ap (λ (found : Option NameFault). unwrap_or found head) (first other) in
     let told : Meaningless head ≡ refusal = ap Meaningless same ∙ sym is in
     inl (λ i. Err (told i))
+
+-- a SELECT or an OPEN is judged as a question where it is plain, and else is not built
+pub judged_plain : (handing : Handing) (history : History) (world : World) (session : ℕ) (select : RawSelect) (start end : ℕ) (text : Txt)
+    → is_plain select.form ≡ true
+    → judged history world (commands.state session (statement_asked handing select start end) text)
+    ≡ judged_question handing history world session select (text_between text start end)
+judged_plain Rows history world session select start end text plain = rw plain refl
+judged_plain Cursor history world session select start end text plain = rw plain refl
+
+pub judged_unbuilt : (handing : Handing) (history : History) (world : World) (session : ℕ) (select : RawSelect) (start end : ℕ) (text : Txt)
+    → is_plain select.form ≡ false → judged history world (commands.state session (statement_asked handing select start end) text) ≡ Err NotBuilt
+judged_unbuilt Rows history world session select start end text unbuilt = rw unbuilt refl
+judged_unbuilt Cursor history world session select start end text unbuilt = rw unbuilt refl
 
 front_none : {A : Type 0} (front rest : List A) → front ++ rest ≡ [] → front ≡ []
 front_none [] rest none = refl
@@ -88,3 +109,52 @@ answerable state history select query stands none is plain =
       };
       form = ap (λ (q : Query). is_grouped q.form) is ∙ ungrouped _ select.form plain;
     }
+
+-- a cursor and then room, or both at once
+cursor_then_room : (wanted : Checked (Option ℕ)) (room : Checked (Unit {0})) (deed : Option ℕ → Deed)
+    → (wanted >>= λ cursor. room >>= λ free. Ok (deed cursor)) ≡ ((wanted >>= λ cursor. room >>= λ free. Ok cursor) >>= λ cursor. Ok (deed cursor))
+cursor_then_room (Ok cursor) (Ok free) deed = refl
+cursor_then_room (Ok cursor) (Err refusal) deed = refl
+cursor_then_room (Err refusal) room deed = refl
+
+with_found : (session : ℕ) (asking : Asking) (checked wanted : Checked (Option ℕ)) → Finds (λ cursor. cursor) checked wanted
+    → Finds (deed_asked session) (checked >>= λ cursor. Ok (deed_asked session (record asking { cursor = cursor }))) (asking_with asking wanted)
+with_found session asking checked (Ok cursor) is = ap (λ (c : Checked (Option ℕ)). c >>= λ cursor. Ok (deed_asked session (record asking { cursor = cursor }))) is
+with_found session asking checked (Err refusal) (inl is) = inl (ap (λ (c : Checked (Option ℕ)). c >>= λ cursor. Ok (deed_asked session (record asking { cursor = cursor }))) is)
+with_found session asking checked (Err refusal) (inr short) = inr short
+
+module _ (handing : Handing) (history : History) (world : World) (session : ℕ) (select : RawSelect) (asking : Asking) where
+  -- what follows once it is known who asks, that the asker is authorized, and what is meant
+  left_asker : Checked Session → Checked Question → Checked Deed
+  left_asker opened found = found >>= λ question. opened >>= λ asker. cursor_wanted handing asker >>= λ cursor. has_room history world >>= λ room. Ok (deed_for asker question cursor)
+
+  from_meant : Session → Checked Query → Checked Question
+  from_meant asker meaning = meaning >>= λ query. Ok (record { session = session; user = asker.user; pair = asker.pair; text = asking.text.now; query = query })
+
+  from_opened : Checked Session → Checked Deed
+  from_opened opened = left_asker opened (opened >>= λ asker. authorized history asker.user asker.pair
+      >>= λ allowed. from_meant asker (meant (select_refused (known_at history) select) (query_of (known_at history) select)))
+
+  judged_found : (allowed : Unit {0}) → open_session world session ≡ Ok asking.asker.now
+      → authorized history asking.asker.now.user asking.asker.now.pair ≡ Ok allowed
+      → meant (select_refused (known_at history) select) (query_of (known_at history) select) ≡ Ok asking.query
+      → judged_question handing history world session select asking.text.now
+      ≡ (cursor_in_room handing asking.asker.now (length history) world.limit >>= λ cursor. Ok (deed_asked session (record asking { cursor = cursor })))
+  unfolding left_asker from_meant from_opened
+  judged_found allowed opened may means =
+      let asker : Session = asking.asker.now in
+      ap from_opened opened
+      ∙ ap (λ (may : Checked (Unit {0})). left_asker (Ok asker) (may >>= λ allowed. from_meant asker (meant (select_refused (known_at history) select) (query_of (known_at history) select)))) may
+      ∙ ap (λ (meaning : Checked Query). left_asker (Ok asker) (from_meant asker meaning)) means
+      ∙ cursor_then_room (cursor_wanted handing asker) (has_room history world) (λ cursor. deed_asked session (record asking { cursor = cursor }))
+
+  -- a question is found as the checks say
+  pub question_found : (allowed : Unit {0}) (count : ℕ) (wanted : Checked (Option ℕ)) → open_session world session ≡ Ok asking.asker.now
+      → authorized history asking.asker.now.user asking.asker.now.pair ≡ Ok allowed
+      → meant (select_refused (known_at history) select) (query_of (known_at history) select) ≡ Ok asking.query
+      → count ≡ length history → Finds (λ cursor. cursor) (cursor_in_room handing asking.asker.now count world.limit) wanted
+      → Finds (deed_asked session) (judged_question handing history world session select asking.text.now) (asking_with asking wanted)
+  question_found allowed count wanted opened may means counted found =
+      let at_length = subst (λ (n : ℕ). Finds (λ cursor. cursor) (cursor_in_room handing asking.asker.now n world.limit) wanted) counted found in
+      subst (λ (judged : Checked Deed). Finds (deed_asked session) judged (asking_with asking wanted)) (sym (judged_found allowed opened may means))
+      (with_found session asking (cursor_in_room handing asking.asker.now (length history) world.limit) wanted at_length)

@@ -1,19 +1,14 @@
 -- What holds of the command of each line.
-use Rattle.std.proofs.Common.{◌≡◌, ◌≢◌, ℕ, refl, arith, codes, Option, Some, None, Result, Ok, Err}
+use Rattle.std.proofs.Common.{ℕ, arith, codes, Option, Some, None, Result, Ok, Err}
 use Rattle.hippo_values.specs.Texts.{Txt}
 use Rattle.hippo_values.specs.declared.moments.Moment.{Moment}
-use Rattle.std.specs.Option.{IfSome}
-use Rattle.hippo_io.specs.declared.lines.Line.{Line}
-use Rattle.hippo_io.specs.declared.lines.Line.TheVariants.{Text, TooLong, NotUtf8, End}
-use Rattle.hippo_io.specs.LineTexts.{line_text}
 use Rattle.hippo_io.specs.Lines.{LineText, text_line, too_long_line, not_utf8_line}
 use Rattle.hippo_model.specs.declared.statement.Stmt.{Stmt}
 use Rattle.hippo_report.specs.declared.refusal.Refusal.{Refusal}
 use Rattle.hippo_lines.specs.Forms.{Form, says_nothing, sets_clock, asks, states, line_form}
-use Rattle.hippo_commands.specs.Commands.{Command, clock_command, state_command, statement_in, command_by, command_of, IsCommand}
+use Rattle.hippo_commands.specs.Commands.{Command, clock_command, state_command, statement_in, command_by, command_of, commanded}
 use Rattle.hippo_commands.specs.Moments.{moment_in}
 use Rattle.hippo_engine.specs.Carrying.{IsOfLine}
-use Rattle.hippo_engine.proofs.CarryingLemmas.{IsOfLine-found}
 use Rattle.hippo_engine.proofs.LengthLemmas.{plain_fits}
 
 clock : (moment : Option Moment) → IsOfLine (clock_command moment)
@@ -32,14 +27,11 @@ by_form (Some (asks session request)) = tt
 by_form (Some (states session text)) = statement session text (statement_in text)
 
 -- a refusal of nobody's line is short
-pub IsOfLine-line : (line : LineText) → IsOfLine (command_of line)
+IsOfLine-line : (line : LineText) → IsOfLine (command_of line)
 IsOfLine-line (text_line text) = by_form (line_form text)
 IsOfLine-line too_long_line = plain_fits None (codes "11 LineTooLong") tt (omega arith)
 IsOfLine-line not_utf8_line = plain_fits None (codes "10 BadLine") tt (omega arith)
 
--- what is found for a line that is not the end of the input
-pub IsOfLine-lent : (line : Line) (found : Command) → line ≢ End → IfSome (line_text line) (λ text. IsCommand (command_of text) found) → IsOfLine found
-IsOfLine-lent (Text text) found more held = IsOfLine-found (command_of (text_line text.now)) found (IsOfLine-line (text_line text.now)) held
-IsOfLine-lent TooLong found more held = IsOfLine-found (command_of too_long_line) found (IsOfLine-line too_long_line) held
-IsOfLine-lent NotUtf8 found more held = IsOfLine-found (command_of not_utf8_line) found (IsOfLine-line not_utf8_line) held
-IsOfLine-lent End found more held = absurd (more refl)
+pub IsOfLine-commanded : (line : Option LineText) → IsOfLine (commanded line)
+IsOfLine-commanded None = tt
+IsOfLine-commanded (Some line) = IsOfLine-line line

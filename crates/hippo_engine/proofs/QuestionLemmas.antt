@@ -1,16 +1,13 @@
 -- From keeping and answering a question to what carrying out its command does.
 use Rattle.std.proofs.Common.{◌≡◌, ◌⊎◌, ◌∙◌, ◌+◌, inl, inr, refl, sym, ap, subst, ℕ, Bool, true, false, List, [], ◌∷◌, ◌++◌, Option, Some, None, Result, Ok, Err, length, append-nil}
-use Rattle.std.specs.Prelude.{◌==◌, ok_or, codes}
+use Rattle.std.specs.Prelude.{◌==◌, ok_or}
 use Rattle.std.proofs.lemmas.Bool.{false≢true}
 use Rattle.hippo_values.specs.Texts.{Txt}
 use Rattle.hippo_model.specs.declared.entry.Entry.{Entry}
-use Rattle.hippo_model.specs.declared.statement.RawSelect.{RawSelect}
-use Rattle.hippo_model.specs.declared.statement.Stmt.TheVariants as stmt
+use Rattle.hippo_model.specs.declared.statement.Stmt.{Stmt}
 use Rattle.hippo_model.specs.Terms.{History, ShownRow}
 use Rattle.hippo_report.specs.declared.refusal.Refusal.{Refusal}
 use Rattle.hippo_report.specs.declared.refusal.Refusal.TheVariants.{SessionsOnly, NoSession, Memory}
-use Rattle.hippo_report.specs.Cells.{answer_line}
-use Rattle.hippo_report.specs.Notices.{number_line}
 use Rattle.hippo_report.specs.Refusals.{refusal_line}
 use Rattle.hippo_keeper.specs.declared.faults.KeeperFault.{KeeperFault}
 use Rattle.hippo_keeper.specs.declared.faults.KeeperFault.TheVariants.{Failed, Memory as KeeperMemory}
@@ -31,13 +28,12 @@ use Rattle.hippo_engine.specs.declared.engine.Engine.{Engine}
 use Rattle.hippo_engine.specs.declared.faults.EngineFault.{EngineFault}
 use Rattle.hippo_engine.specs.declared.faults.EngineFault.TheVariants.{Keeper}
 use Rattle.hippo_engine.specs.declared.asking.Asking.{Asking}
-use Rattle.hippo_engine.specs.declared.asking.Opening.{Opening}
 use Rattle.hippo_engine.specs.Checks.{Checked, ◌>>=◌, refused_if, open_session}
 use Rattle.hippo_engine.specs.Deeds.{Deed, Question, asked_by}
-use Rattle.hippo_engine.specs.Judging.{judged}
-use Rattle.hippo_engine.specs.Effects.{Effect, only_reply, next_entry, row_limit, question_rows, within_limit, listed, alarms, asked, done, effect_of, IsShortAnswer, IsShort, IsEffect}
+use Rattle.hippo_engine.specs.Judging.{deed_for, judged}
+use Rattle.hippo_engine.specs.Effects.{Effect, only_reply, next_entry, row_limit, question_rows, within_limit, alarms, asked, done, effect_of, IsShortAnswer, IsShort, IsEffect}
 use Rattle.hippo_engine.specs.Carrying.{Carries}
-use Rattle.hippo_engine.specs.Asking.{question_of, answers, opens, entry_of, KeptAnswer, Asks, RepliesRows, RepliesCursor, with_answer}
+use Rattle.hippo_engine.specs.Asking.{question_of, deed_asked, entry_of, KeptAnswer, Asks, answer_said, world_left, Replies}
 use Rattle.hippo_engine.specs.Asking as asking
 use Rattle.hippo_engine.proofs.ShortLemmas.{short, refused, done_for}
 
@@ -169,43 +165,6 @@ module _ (command : Command) (deed : Deed) (question : Question) (said : List Sh
     };
   }
 
-module _ (session : ℕ) (select : RawSelect) (start end : ℕ) (text : Txt) (old new : Engine) (before after : KeeperState) (sound : IsSound old.state) where
-  -- a SELECT that is not refused
-  module _ (asked_for : Asking) where
-    abbrev selects : Command
-    selects = state session (stmt.Select select start end) text
-
-    abbrev question : Question
-    question = question_of session asked_for
-
-    abbrev rows_said : List ShownRow → Txt
-    rows_said rows = within_limit session rows (listed session (answer_line session) rows)
-
-    is_select : IsQuestion (world_of old.world) (answers session asked_for) question rows_said (λ rows. world_of old.world)
-    is_select = record { effect = λ history. refl; short = λ history reply result answer. answer }
-
-    says_rows : world_of new.world ≡ world_of old.world → (rows : List ShownRow)
-        → (new.reply ≡ rows_said rows) ⊎ (new.reply ≡ asking.short_line session)
-        → SaysSo new rows_said (λ rows. world_of old.world) rows ⊎ SaysShort selects old new
-    says_rows same rows (inl said) = inl (record { reply = said; world = same })
-    says_rows same rows (inr said) = inr (record { said = said; same = same })
-
-    pub Carries-select : world_of new.world ≡ world_of old.world
-        → ((history : History) → StandsFor old.state history → judged history (world_of old.world) selects ≡ Ok (answers session asked_for))
-        → (kept : KeptAnswer) → Asks (entry_of old.state old.world.clock question) (world_of old.world) question kept old.state new.state before after
-        → (result : Result (Unit {0}) EngineFault) → RepliesRows session kept result new.reply → Carries selects result old new before after
-    Carries-select same judged_is (Ok answer) asks result replies =
-        subst (λ (r : Result (Unit {0}) EngineFault). Carries selects r old new before after) (sym replies.0)
-        (Carries-kept selects (answers session asked_for) question rows_said (λ rows. world_of old.world) old new before after refl sound judged_is is_select answer asks
-        (λ rows answered. says_rows same rows (replies.1 rows answered)))
-    Carries-select same judged_is (Err KeeperMemory) asks result replies =
-        subst (λ (r : Result (Unit {0}) EngineFault). Carries selects r old new before after) (sym replies.0)
-        (Carries-short selects (answers session asked_for) question rows_said (λ rows. world_of old.world) old new before after refl sound judged_is is_select asks
-        (record { said = replies.1; same = same }))
-    Carries-select same judged_is (Err Failed) asks result replies =
-        subst (λ (r : Result (Unit {0}) EngineFault). Carries selects r old new before after) (sym replies)
-        (Carries-failed selects (answers session asked_for) question rows_said (λ rows. world_of old.world) old new before after refl sound judged_is is_select asks)
-
 -- a session that is open is there
 found_session : (console : Bool) (held : Option Session) (session : Session) → (refused_if console SessionsOnly >>= λ _. ok_or held NoSession) ≡ Ok session → held ≡ Some session
 found_session true held session is = absurd cc
@@ -216,43 +175,45 @@ found_session false (Some one) session is = ap (λ (c : Checked Session). found 
     found (Ok one) = Some one
     found (Err refusal) = None
 
-module _ (session : ℕ) (select : RawSelect) (start end : ℕ) (text : Txt) (old new : Engine) (before after : KeeperState) (sound : IsSound old.state) (opening : Opening) where
-  -- an OPEN that is not refused
-  abbrev opens_select : Command
-  opens_select = state session (stmt.Ask select start end) text
+module _ (session : ℕ) (statement : Stmt) (text : Txt) (asked_for : Asking) (old new : Engine) (before after : KeeperState) (sound : IsSound old.state) where
+  -- a question that is not refused
+  abbrev asks_it : Command
+  asks_it = state session statement text
 
-  abbrev opened_question : Question
-  opened_question = question_of session opening.asking
+  abbrev question : Question
+  question = question_of session asked_for
 
-  abbrev cursor_said : List ShownRow → Txt
-  cursor_said rows = within_limit session rows (number_line session (codes "cursor") opening.cursor)
+  abbrev is_said : List ShownRow → Txt
+  is_said rows = within_limit session rows (answer_said session asked_for.cursor rows)
 
-  abbrev world_left : List ShownRow → World
-  world_left rows = with_answer (world_of old.world) session opening.asking.asker.now opening.cursor rows
+  abbrev is_left : List ShownRow → World
+  is_left rows = world_left (world_of old.world) session asked_for.asker.now asked_for.cursor rows
 
-  is_open : IsQuestion (world_of old.world) (opens session opening) opened_question cursor_said world_left
-  is_open = record { effect = λ history. refl; short = λ history reply result answer. answer }
+  is_question : (cursor : Option ℕ) → IsQuestion (world_of old.world) (deed_for asked_for.asker.now question cursor) question
+      (λ rows. within_limit session rows (answer_said session cursor rows)) (λ rows. world_left (world_of old.world) session asked_for.asker.now cursor rows)
+  is_question None = record { effect = λ history. refl; short = λ history reply result answer. answer }
+  is_question (Some cursor) = record { effect = λ history. refl; short = λ history reply result answer. answer }
 
-  says_cursor : session_at (world_of old.world) session ≡ Some opening.asking.asker.now → (rows : List ShownRow)
-      → asking.IsOpened session opening.cursor rows new.reply (world_of old.world) (world_of new.world) ⊎ asking.IsShort session new.reply (world_of old.world) (world_of new.world)
-      → SaysSo new cursor_said world_left rows ⊎ SaysShort opens_select old new
-  says_cursor there rows (inl opened) = inl (record { reply = opened.said; world = opened.held opening.asking.asker.now there })
-  says_cursor there rows (inr none) = inr (record { said = none.said; same = none.same })
+  says : session_at (world_of old.world) session ≡ Some asked_for.asker.now → (rows : List ShownRow)
+      → asking.IsHandedOut session asked_for.cursor rows new.reply (world_of old.world) (world_of new.world) ⊎ asking.IsShort session new.reply (world_of old.world) (world_of new.world)
+      → SaysSo new is_said is_left rows ⊎ SaysShort asks_it old new
+  says there rows (inl out) = inl (record { reply = out.said; world = out.left asked_for.asker.now there })
+  says there rows (inr none) = inr (record { said = none.said; same = none.same })
 
-  pub Carries-open : open_session (world_of old.world) session ≡ Ok opening.asking.asker.now
-      → ((history : History) → StandsFor old.state history → judged history (world_of old.world) opens_select ≡ Ok (opens session opening))
-      → (kept : KeptAnswer) → Asks (entry_of old.state old.world.clock opened_question) (world_of old.world) opened_question kept old.state new.state before after
-      → (result : Result (Unit {0}) EngineFault) → RepliesCursor session opening.cursor kept result new.reply (world_of old.world) (world_of new.world)
-      → Carries opens_select result old new before after
-  Carries-open there judged_is (Ok answer) asks result replies =
-      let at = found_session (session == 0) (session_at (world_of old.world) session) opening.asking.asker.now there in
-      subst (λ (r : Result (Unit {0}) EngineFault). Carries opens_select r old new before after) (sym replies.0)
-      (Carries-kept opens_select (opens session opening) opened_question cursor_said world_left old new before after refl sound judged_is is_open answer asks
-      (λ rows answered. says_cursor at rows (replies.1 rows answered)))
-  Carries-open there judged_is (Err KeeperMemory) asks result replies =
-      subst (λ (r : Result (Unit {0}) EngineFault). Carries opens_select r old new before after) (sym replies.0.0)
-      (Carries-short opens_select (opens session opening) opened_question cursor_said world_left old new before after refl sound judged_is is_open asks
+  pub Carries-question : open_session (world_of old.world) session ≡ Ok asked_for.asker.now
+      → ((history : History) → StandsFor old.state history → judged history (world_of old.world) asks_it ≡ Ok (deed_asked session asked_for))
+      → (kept : KeptAnswer) → Asks (entry_of old.state old.world.clock question) (world_of old.world) question kept old.state new.state before after
+      → (result : Result (Unit {0}) EngineFault) → Replies session asked_for.cursor kept result new.reply (world_of old.world) (world_of new.world)
+      → Carries asks_it result old new before after
+  Carries-question there judged_is (Ok answer) asks result replies =
+      let at = found_session (session == 0) (session_at (world_of old.world) session) asked_for.asker.now there in
+      subst (λ (r : Result (Unit {0}) EngineFault). Carries asks_it r old new before after) (sym replies.0)
+      (Carries-kept asks_it (deed_asked session asked_for) question is_said is_left old new before after refl sound judged_is (is_question asked_for.cursor) answer asks
+      (λ rows answered. says at rows (replies.1 rows answered)))
+  Carries-question there judged_is (Err KeeperMemory) asks result replies =
+      subst (λ (r : Result (Unit {0}) EngineFault). Carries asks_it r old new before after) (sym replies.0.0)
+      (Carries-short asks_it (deed_asked session asked_for) question is_said is_left old new before after refl sound judged_is (is_question asked_for.cursor) asks
       (record { said = replies.0.1; same = replies.1 }))
-  Carries-open there judged_is (Err Failed) asks result replies =
-      subst (λ (r : Result (Unit {0}) EngineFault). Carries opens_select r old new before after) (sym replies.0)
-      (Carries-failed opens_select (opens session opening) opened_question cursor_said world_left old new before after refl sound judged_is is_open asks)
+  Carries-question there judged_is (Err Failed) asks result replies =
+      subst (λ (r : Result (Unit {0}) EngineFault). Carries asks_it r old new before after) (sym replies.0)
+      (Carries-failed asks_it (deed_asked session asked_for) question is_said is_left old new before after refl sound judged_is (is_question asked_for.cursor) asks)

@@ -1,5 +1,5 @@
 -- A line that takes memory may be answered by want of it.
-use Rattle.std.proofs.Common.{◌≡◌, inl, inr, refl, ap, sym, true, Bool, false, Option, Ok, Err, List}
+use Rattle.std.proofs.Common.{◌≡◌, inl, inr, refl, ap, sym, true, Bool, false, Option, Some, None, Ok, Err, List}
 use Rattle.std.specs.Prelude.{ℕ, int_lt, ok_or, if◌then◌else◌}
 use Rattle.hippo_model.specs.declared.audit.Pair.{Pair}
 use Rattle.hippo_model.specs.declared.entry.Act.{Act}
@@ -16,18 +16,20 @@ use Rattle.hippo_catalog.specs.ChangesRefused.{change_refused}
 use Rattle.hippo_catalog.specs.ChangesWanted.{wanted_by}
 use Rattle.hippo_tables.specs.Finished.{finished}
 use Rattle.hippo_report.specs.declared.refusal.Refusal.{Refusal}
-use Rattle.hippo_report.specs.declared.refusal.Refusal.TheVariants.{Memory, NotBuilt, BadSyntax, CursorLimit, NoCursor, MomentBack}
+use Rattle.hippo_report.specs.declared.refusal.Refusal.TheVariants.{Memory, NotBuilt, BadSyntax, NoCursor, MomentBack}
 use Rattle.hippo_report.specs.Refusals.{refusal_line}
-use Rattle.hippo_world.specs.declared.cursors.Cursor.{Cursor}
+use Rattle.hippo_world.specs.declared.cursors.Cursor.{Cursor as HeldCursor}
 use Rattle.hippo_world.specs.declared.sessions.Session.{Session}
-use Rattle.hippo_world.specs.Worlds.{World, at_number, free_number}
+use Rattle.hippo_world.specs.Worlds.{World, at_number}
 use Rattle.hippo_lines.specs.Forms.{logs_in, logs_out, fetches, closes, steps, drops, unwatches, loads}
 use Rattle.hippo_commands.specs.Commands.{Command, nothing, wrong, ask, state, who_commands, takes_memory}
 use Rattle.hippo_commands.specs.Commands as commands
+use Rattle.hippo_engine.specs.declared.asking.Handing.{Handing}
+use Rattle.hippo_engine.specs.declared.asking.Handing.TheVariants.{Rows, Cursor}
 use Rattle.hippo_engine.specs.Deeds.{Deed, Question}
 use Rattle.hippo_engine.specs.Deeds as deeds
 use Rattle.hippo_engine.specs.Checks.{Checked, ◌>>=◌, refused_if, by_console, open_session, may_log_in, meant, act_made, has_room}
-use Rattle.hippo_engine.specs.Judging.{judged, judged_login, judged_fetch, judged_close, judged_wanted, judged_change, text_between, question_in, judged_select, judged_open, is_plain}
+use Rattle.hippo_engine.specs.Judging.{judged, judged_login, judged_fetch, judged_close, judged_wanted, judged_change, text_between, question_in, cursor_wanted, deed_for, judged_question, is_plain}
 use Rattle.hippo_engine.specs.Effects.{only_reply, carried_out, effect_of, IsShort, IsEffect}
 
 -- a judgement is no step of a job
@@ -59,23 +61,24 @@ change history world number statement =
     (λ console. meant refusals wanted >>= λ found. ok_or found BadSyntax >>= λ one. judged_wanted history world one)
     (λ console. check {A = Option Wanted} (meant refusals wanted) (λ found. ok_or found BadSyntax >>= λ one. judged_wanted history world one) (λ found. named history world found))
 
-select : (history : History) (world : World) (number : ℕ) (written : RawSelect) (text : Txt) → Stepless (judged_select history world number written text)
-select history world number written text =
-    check {A = Question} (question_in history world number written text) (λ question. has_room history world >>= λ room. Ok (deeds.answer question))
-    (λ question. check {A = Unit {0}} (has_room history world) (λ room. Ok (deeds.answer question)) (λ room. tt))
+cursor_step : (session : Session) (question : Question) (cursor : Option ℕ) → Stepless (Ok (deed_for session question cursor))
+cursor_step session question None = tt
+cursor_step session question (Some cursor) = tt
 
-free : (history : History) (world : World) (session : Session) (question : Question) → Stepless (ok_or (free_number session.cursors) CursorLimit >>= λ number. has_room history world >>= λ room. Ok (deeds.open_cursor session number question))
-free history world session question =
-    check {A = ℕ} (ok_or (free_number session.cursors) CursorLimit) (λ number. has_room history world >>= λ room. Ok (deeds.open_cursor session number question))
-    (λ number. check {A = Unit {0}} (has_room history world) (λ room. Ok (deeds.open_cursor session number question)) (λ room. tt))
+cursor : (history : History) (world : World) (handing : Handing) (session : Session) (question : Question)
+    → Stepless (cursor_wanted handing session >>= λ cursor. has_room history world >>= λ room. Ok (deed_for session question cursor))
+cursor history world handing session question =
+    check {A = Option ℕ} (cursor_wanted handing session) (λ cursor. has_room history world >>= λ room. Ok (deed_for session question cursor))
+    (λ cursor. check {A = Unit {0}} (has_room history world) (λ room. Ok (deed_for session question cursor)) (λ room. cursor_step session question cursor))
 
-opens : (history : History) (world : World) (number : ℕ) (written : RawSelect) (text : Txt) → Stepless (judged_open history world number written text)
-opens history world number written text =
+question : (history : History) (world : World) (handing : Handing) (number : ℕ) (written : RawSelect) (text : Txt)
+    → Stepless (judged_question handing history world number written text)
+question history world handing number written text =
     check {A = Question} (question_in history world number written text)
-    (λ question. open_session world number >>= λ session. ok_or (free_number session.cursors) CursorLimit >>= λ place. has_room history world >>= λ room. Ok (deeds.open_cursor session place question))
+    (λ question. open_session world number >>= λ session. cursor_wanted handing session >>= λ cursor. has_room history world >>= λ room. Ok (deed_for session question cursor))
     (λ question. check {A = Session} (open_session world number)
-    (λ session. ok_or (free_number session.cursors) CursorLimit >>= λ place. has_room history world >>= λ room. Ok (deeds.open_cursor session place question))
-    (λ session. free history world session question))
+    (λ session. cursor_wanted handing session >>= λ cursor. has_room history world >>= λ room. Ok (deed_for session question cursor))
+    (λ session. cursor history world handing session question))
 
 login : (history : History) (world : World) (number : ℕ) (user : Name) (pair : Pair) → Stepless (judged_login history world number user pair)
 login history world number user pair =
@@ -84,12 +87,12 @@ login history world number user pair =
 fetch : (world : World) (number at count : ℕ) → Stepless (judged_fetch world number at count)
 fetch world number at count =
     check {A = Session} (open_session world number) (λ session. ok_or (at_number session.cursors at) (NoCursor at) >>= λ cursor. Ok (deeds.hand_out number session at cursor count))
-    (λ session. check {A = Cursor} (ok_or (at_number session.cursors at) (NoCursor at)) (λ cursor. Ok (deeds.hand_out number session at cursor count)) (λ cursor. tt))
+    (λ session. check {A = HeldCursor} (ok_or (at_number session.cursors at) (NoCursor at)) (λ cursor. Ok (deeds.hand_out number session at cursor count)) (λ cursor. tt))
 
 close : (world : World) (number at : ℕ) → Stepless (judged_close world number at)
 close world number at =
     check {A = Session} (open_session world number) (λ session. ok_or (at_number session.cursors at) (NoCursor at) >>= λ cursor. Ok (deeds.close_cursor number session at))
-    (λ session. check {A = Cursor} (ok_or (at_number session.cursors at) (NoCursor at)) (λ cursor. Ok (deeds.close_cursor number session at)) (λ cursor. tt))
+    (λ session. check {A = HeldCursor} (ok_or (at_number session.cursors at) (NoCursor at)) (λ cursor. Ok (deeds.close_cursor number session at)) (λ cursor. tt))
 
 -- no command that is carried out is a step of a job
 stepless : (history : History) (world : World) (command : Command) → Stepless (judged history world command)
@@ -107,9 +110,11 @@ stepless history world (ask number (drops job)) = tt
 stepless history world (ask number (unwatches watch)) = tt
 stepless history world (ask number (loads table text)) = tt
 stepless history world (state number (stmt.Select written start end) text) =
-    built (is_plain written.form) (judged_select history world number written (text_between text start end)) (select history world number written (text_between text start end))
+    built (is_plain written.form) (judged_question Rows history world number written (text_between text start end))
+    (question history world Rows number written (text_between text start end))
 stepless history world (state number (stmt.Ask written start end) text) =
-    built (is_plain written.form) (judged_open history world number written (text_between text start end)) (opens history world number written (text_between text start end))
+    built (is_plain written.form) (judged_question Cursor history world number written (text_between text start end))
+    (question history world Cursor number written (text_between text start end))
 stepless history world (state number (stmt.Extract written start end) text) = tt
 stepless history world (state number (stmt.Explain question) text) = tt
 stepless history world (state number (stmt.Audit audit) text) = tt

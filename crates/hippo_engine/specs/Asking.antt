@@ -1,11 +1,14 @@
 -- What is found where a question may be asked, and what keeping and answering it does.
-use Rattle.std.specs.Prelude.{◌≡◌, ◌⊎◌, ℕ, ◌+◌, false, nat_le, nat_lt, length, if◌then◌else◌, List, [], ◌∷◌, ◌++◌, Some, Result, Ok, Err, ok_or, IfOk, OnOk, OnErr, codes}
+use Rattle.std.specs.Prelude.{◌≡◌, ◌⊎◌, ℕ, ◌+◌, false, nat_le, nat_lt, length, if◌then◌else◌, List, [], ◌∷◌, ◌++◌, Option, Some, None, Result, Ok, Err, IfOk, OnOk, OnErr, codes}
 use Rattle.hippo_values.specs.Texts.{Txt}
 use Rattle.hippo_values.specs.declared.moments.Moment.{Moment}
 use Rattle.hippo_model.specs.declared.entry.Entry.{Entry}
 use Rattle.hippo_model.specs.declared.query.Query.{Query}
+use Rattle.hippo_model.specs.declared.statement.RawSelect.{RawSelect}
+use Rattle.hippo_model.specs.declared.statement.Stmt.{Stmt}
+use Rattle.hippo_model.specs.declared.statement.Stmt.TheVariants as stmt
 use Rattle.hippo_model.specs.Terms.{History, ShownRow}
-use Rattle.hippo_report.specs.declared.refusal.Refusal.TheVariants.{CursorLimit, HistoryFull, Memory}
+use Rattle.hippo_report.specs.declared.refusal.Refusal.TheVariants.{HistoryFull, Memory}
 use Rattle.hippo_report.specs.Cells.{answer_line}
 use Rattle.hippo_report.specs.Notices.{number_line}
 use Rattle.hippo_report.specs.Refusals.{refusal_line}
@@ -19,20 +22,16 @@ use Rattle.hippo_replay.specs.declared.state.State.{State}
 use Rattle.hippo_replay.specs.Standing.{StandsFor}
 use Rattle.hippo_replay.specs.Recording.{Keeps}
 use Rattle.hippo_world.specs.declared.sessions.Session.{Session}
-use Rattle.hippo_world.specs.Worlds.{World, free_number, session_at, with_session, with_cursor, new_cursor}
+use Rattle.hippo_world.specs.Worlds.{World, session_at, with_session, with_cursor, new_cursor}
 use Rattle.hippo_engine.specs.declared.asking.Asking.{Asking}
-use Rattle.hippo_engine.specs.declared.asking.Opening.{Opening}
+use Rattle.hippo_engine.specs.declared.asking.Handing.{Handing}
+use Rattle.hippo_engine.specs.declared.asking.Handing.TheVariants.{Rows, Cursor}
 use Rattle.hippo_engine.specs.declared.faults.EngineFault.{EngineFault}
 use Rattle.hippo_engine.specs.declared.faults.EngineFault.TheVariants.{Keeper}
 use Rattle.hippo_engine.specs.Checks.{Checked, ◌>>=◌, refused_if}
 use Rattle.hippo_engine.specs.Deeds.{Deed, Question, asked_by}
-use Rattle.hippo_engine.specs.Deeds as deeds
+use Rattle.hippo_engine.specs.Judging.{cursor_wanted, deed_for}
 use Rattle.hippo_engine.specs.Effects.{row_limit, question_rows, within_limit, listed}
-
--- a value, and what was found behind it
-abbrev pub with_found : {A B : Type 0} → A → Checked B → Checked (A × B)
-with_found value (Ok other) = Ok (value, other)
-with_found value (Err refusal) = Err refusal
 
 -- the question that is asked in a session, whose asker and text are lent
 abbrev pub question_of : ℕ → Asking → Question
@@ -44,23 +43,25 @@ question_of session asking = record {
   query = asking.query;
 }
 
--- the number that a session's next cursor gets, where there is room for one entry more
-abbrev pub cursor_in : Session → ℕ → ℕ → Checked ℕ
-cursor_in session count limit = do
-  free ← ok_or (free_number session.cursors) CursorLimit
+-- the statement that asks so
+abbrev pub statement_asked : Handing → RawSelect → ℕ → ℕ → Stmt
+statement_asked Rows select start end = stmt.Select select start end
+statement_asked Cursor select start end = stmt.Ask select start end
+
+-- the cursor that a question wants, where there is room for one entry more
+abbrev pub cursor_in_room : Handing → Session → ℕ → ℕ → Checked (Option ℕ)
+cursor_in_room handing session count limit = do
+  cursor ← cursor_wanted handing session
   room ← refused_if (nat_le limit count) HistoryFull
-  Ok free
+  Ok cursor
 
-abbrev pub opening_of : Asking → Checked ℕ → Checked Opening
-opening_of asking (Ok cursor) = Ok (record { asking = asking; cursor = cursor })
-opening_of asking (Err refusal) = Err refusal
+abbrev pub asking_with : Asking → Checked (Option ℕ) → Checked Asking
+asking_with asking (Ok cursor) = Ok (record asking { cursor = cursor })
+asking_with asking (Err refusal) = Err refusal
 
--- a question is to be answered, or to be answered by a cursor
-abbrev pub answers : ℕ → Asking → Deed
-answers session asking = deeds.answer (question_of session asking)
-
-abbrev pub opens : ℕ → Opening → Deed
-opens session opening = deeds.open_cursor opening.asking.asker.now opening.cursor (question_of session opening.asking)
+-- what is to be done for a question that was found
+abbrev pub deed_asked : ℕ → Asking → Deed
+deed_asked session asking = deed_for asking.asker.now (question_of session asking) asking.cursor
 
 -- a query that a state can answer: its tables are kept, and it has no GROUP BY
 pub record IsAnswerable (state : State) (query : Query) : Type 0 where
@@ -94,32 +95,33 @@ abbrev pub IsUnkept : KeeperFault → ℕ → Result (Unit {0}) EngineFault → 
 IsUnkept Failed session result reply = result ≡ Err Keeper
 IsUnkept KeeperMemory session result reply = (result ≡ Ok tt) × (reply ≡ short_line session)
 
--- a SELECT is replied its rows, or that memory was short
-abbrev pub RepliesRows : ℕ → KeptAnswer → Result (Unit {0}) EngineFault → Txt → Type 0
-RepliesRows session (Ok answer) result reply =
-    (result ≡ Ok tt) × ((rows : List ShownRow) → IsAnswered row_limit rows answer
-    → (reply ≡ within_limit session rows (listed session (answer_line session) rows)) ⊎ (reply ≡ short_line session))
-RepliesRows session (Err fault) result reply = IsUnkept fault session result reply
+-- what is said of an answer: its rows, or the number of the cursor that holds them
+abbrev pub answer_said : ℕ → Option ℕ → List ShownRow → Txt
+answer_said number None rows = listed number (answer_line number) rows
+answer_said number (Some cursor) rows = number_line number (codes "cursor") cursor
 
--- a cursor of a session gets an answer, which has not too many rows
-abbrev pub with_answer : World → ℕ → Session → ℕ → List ShownRow → World
-with_answer world number session cursor rows =
+-- the world behind it: a cursor of the session holds an answer that has not too many rows, if one is to hold it
+abbrev pub world_left : World → ℕ → Session → Option ℕ → List ShownRow → World
+world_left world number session None rows = world
+world_left world number session (Some cursor) rows =
     if nat_lt row_limit (length rows) then world
     else with_session world number (Some (with_cursor session cursor (Some (new_cursor rows))))
 
--- an OPEN is replied its cursor's number, and the cursor holds the answer; or memory was short, and nothing changes
-pub record IsOpened (number cursor : ℕ) (rows : List ShownRow) (reply : Txt) (old new : World) : Type 0 where
-  pub said : reply ≡ within_limit number rows (number_line number (codes "cursor") cursor)
-  pub held : (session : Session) → session_at old number ≡ Some session
-      → new ≡ with_answer old number session cursor rows
+-- an answer is handed out; or memory was short, and nothing changes
+pub record IsHandedOut (number : ℕ) (cursor : Option ℕ) (rows : List ShownRow) (reply : Txt)
+    (old new : World) : Type 0 where
+  pub said : reply ≡ within_limit number rows (answer_said number cursor rows)
+  pub left : (session : Session) → session_at old number ≡ Some session
+      → new ≡ world_left old number session cursor rows
 
 pub record IsShort (number : ℕ) (reply : Txt) (old new : World) : Type 0 where
   pub said : reply ≡ short_line number
   pub same : new ≡ old
 
-abbrev pub RepliesCursor : ℕ → ℕ → KeptAnswer → Result (Unit {0}) EngineFault → Txt → World → World → Type 0
-RepliesCursor number cursor (Ok answer) result reply old new =
+-- the reply to a question, by what keeping and answering it came to
+abbrev pub Replies : ℕ → Option ℕ → KeptAnswer → Result (Unit {0}) EngineFault → Txt → World → World → Type 0
+Replies number cursor (Ok answer) result reply old new =
     (result ≡ Ok tt) × ((rows : List ShownRow) → IsAnswered row_limit rows answer
-    → IsOpened number cursor rows reply old new ⊎ IsShort number reply old new)
-RepliesCursor number cursor (Err fault) result reply old new =
+    → IsHandedOut number cursor rows reply old new ⊎ IsShort number reply old new)
+Replies number cursor (Err fault) result reply old new =
     IsUnkept fault number result reply × (new ≡ old)

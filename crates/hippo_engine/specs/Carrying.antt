@@ -1,6 +1,5 @@
 -- What carrying out a command does to an engine and its keeper.
-use Rattle.std.specs.Prelude.{◌≡◌, ◌≤◌, ℕ, false, true, [], ◌∷◌, ◌++◌, length, Option, Some, None, Result, Ok, Err}
-use Rattle.hippo_io.specs.Lines.{LineText}
+use Rattle.std.specs.Prelude.{◌≡◌, ◌≤◌, ℕ, false, true, [], ◌∷◌, ◌++◌, length, None, Result, Ok, Err}
 use Rattle.hippo_model.specs.declared.entry.Entry.{Entry}
 use Rattle.hippo_model.specs.StoredForms.{stored}
 use Rattle.hippo_model.specs.Terms.{History}
@@ -8,17 +7,26 @@ use Rattle.hippo_model.specs.Validity.{may_follow}
 use Rattle.hippo_keeper.specs.declared.faults.KeeperFault.{KeeperFault}
 use Rattle.hippo_keeper.specs.declared.faults.KeeperFault.TheVariants.{Failed}
 use Rattle.hippo_keeper.specs.Answering.{has_failed}
-use Rattle.hippo_keeper.specs.Keeping.{KeeperState, IsAfterCall, MayHaveOneMore}
+use Rattle.hippo_keeper.specs.Keeping.{KeeperState, IsReady, IsAfterCall, MayHaveOneMore}
 use Rattle.hippo_typing.specs.Meanings.{meaning}
 use Rattle.hippo_replay.specs.Standing.{StandsFor, IsSound}
+use Rattle.hippo_replay.specs.declared.state.State.{State}
 use Rattle.hippo_replay.specs.Recording.{HasKept}
+use Rattle.hippo_replay.specs.TakingIn.{HasLoaded}
 use Rattle.hippo_report.specs.Refusals.{refusal_line}
 use Rattle.hippo_world.specs.Holding.{world_of}
-use Rattle.hippo_commands.specs.Commands.{Command, wrong, command_of}
+use Rattle.hippo_commands.specs.Commands.{Command, wrong}
 use Rattle.hippo_engine.specs.declared.engine.Engine.{Engine}
 use Rattle.hippo_engine.specs.declared.faults.EngineFault.{EngineFault}
 use Rattle.hippo_engine.specs.declared.faults.EngineFault.TheVariants.{Keeper, Write}
 use Rattle.hippo_engine.specs.Effects.{Effect, only_reply, effect_of, IsEffect}
+
+-- what carrying out asks of a state and its keeper: there is a history for which the state stands, and the keeper,
+-- which is started and neither spent nor closed, keeps that where it tells
+pub record AtWork (state : State) (keeper : KeeperState) : Type 0 where
+  pub sound : IsSound state
+  pub ready : IsReady true keeper
+  pub told : keeper.tells → HasLoaded state keeper.kept
 
 -- a line as one call of its keeper
 abbrev pub as_call : {A : Type 0} → Result A EngineFault → Result (Unit {0}) KeeperFault
@@ -47,8 +55,8 @@ pub record IsQuiet (command : Command) (old new : Engine) : Type 0 where
 
 -- a command has its effect after a history: the engine shows the reply and holds the world, stands for the history with
 -- what was added, and its keeper keeps that
-pub record HasEffect (history : History) (command : Command) (old new : Engine) (before after : KeeperState)
-    : Type 0 where
+pub record HasEffect (history : History) (command : Command) (old new : Engine)
+    (before after : KeeperState) : Type 0 where
   pub effect : Effect
   pub is : IsEffect history (world_of old.world) command effect
   pub reply : new.reply ≡ effect.reply
@@ -72,9 +80,3 @@ pub record Carries {A : Type 0} (command : Command) (result : Result A EngineFau
       → HasEffect history command old new before after
   pub failed : has_failed (as_call result) ≡ true → (history : History) → StandsFor old.state history
       → BreaksOff history command old before after
-
--- a line, where it is not the end of the input, is carried out, or the keeper fails
-abbrev pub Answers : {A : Type 0} → Option LineText → Result A EngineFault → Engine → Engine → KeeperState → KeeperState
-    → Type 0
-Answers line result old new before after =
-    (text : LineText) → line ≡ Some text → Carries (command_of text) result old new before after

@@ -66,9 +66,8 @@ within_limit number rows reply =
 -- what a watch says of an entry, where its audit flags it
 abbrev pub alarm_line : History → Entry → ℕ → Audit → Txt
 alarm_line history entry number audit =
-    let says : List SharedRow → Txt =
-    λ tuple. codes "0 alarm " ++ (decimal number
-    ++ (codes " " ++ (decimal entry.seq ++ (tuple_text tuple ++ codes "\n")))) in
+    let which : Txt = decimal number ++ (codes " " ++ decimal entry.seq) in
+    let says : List SharedRow → Txt = λ tuple. codes "0 alarm " ++ (which ++ (tuple_text tuple ++ codes "\n")) in
     option_map_or says (shared meaning history audit entry) []
 
 -- what the watches say of an entry, in the order of their numbers
@@ -86,9 +85,9 @@ asked history world question reply after =
 -- the answer's rows, each as a line
 abbrev pub answered : History → World → Question → (ℕ → ShownRow → Txt) → Effect
 answered history world question line =
+    let number : ℕ = question.session in
     let rows : List ShownRow = question_rows history world question in
-    asked history world question
-    (within_limit question.session rows (listed question.session (line question.session) rows)) world
+    asked history world question (within_limit number rows (listed number (line number) rows)) world
 
 -- the answer is kept, and handed out from its first row on
 abbrev pub opened : World → Session → ℕ → Question → List ShownRow → World
@@ -100,9 +99,8 @@ opened world session number question rows =
 abbrev pub cursor_opened : History → World → Session → ℕ → Question → Effect
 cursor_opened history world session number question =
     let rows : List ShownRow = question_rows history world question in
-    asked history world question
-    (within_limit question.session rows (number_line question.session (codes "cursor") number))
-    (opened world session number question rows)
+    let said : Txt = number_line question.session (codes "cursor") number in
+    asked history world question (within_limit question.session rows said) (opened world session number question rows)
 
 -- how many rows were handed out, while there are more; else how many there are
 abbrev pub handed_line : ℕ → Cursor → Txt
@@ -210,8 +208,8 @@ abbrev pub effect_of : History → World → Command → Effect
 effect_of history world command = carried_out history world (who_commands command) (judged history world command)
 
 -- a reply that says that memory was short, and the entry of a question is there or not
-pub record IsShortAnswer (history : History) (world : World) (reply : Txt) (question : Question) (effect : Effect)
-    : Type 0 where
+pub record IsShortAnswer (history : History) (world : World) (reply : Txt) (question : Question)
+    (effect : Effect) : Type 0 where
   pub said : effect.reply ≡ reply
   pub kept : (effect.added ≡ []) ⊎ (effect.added ≡ next_entry history world (asked_by question) ∷ [])
   pub same : effect.world ≡ world

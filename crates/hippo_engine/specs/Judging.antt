@@ -1,5 +1,5 @@
 -- What is to be done for a command, or the first refusal that holds.
-use Rattle.std.specs.Prelude.{ℕ, ◌-◌, ◌==◌, ℤ, Bool, true, false, not, int_lt, List, take, drop, length, filter_map, position, slice_get, Option, is_some, is_none, Ok, Err, ok_or, if◌then◌else◌}
+use Rattle.std.specs.Prelude.{ℕ, ◌-◌, ◌==◌, ℤ, Bool, true, false, not, int_lt, List, take, drop, length, filter_map, position, slice_get, Option, Some, None, option_map, option_and_then, is_some, is_none, Ok, Err, ok_or, if◌then◌else◌}
 use Rattle.std.specs.Option.{option_map_or}
 use Rattle.hippo_values.specs.Texts.{Txt}
 use Rattle.hippo_values.specs.declared.names.Name.{Name}
@@ -7,6 +7,7 @@ use Rattle.hippo_values.specs.declared.values.Value.{Value}
 use Rattle.hippo_model.specs.declared.audit.Audit.{Audit}
 use Rattle.hippo_model.specs.declared.audit.Pair.{Pair}
 use Rattle.hippo_model.specs.declared.name_fault.NameFault.TheVariants as faults
+use Rattle.hippo_model.specs.declared.schema.Column.{Column}
 use Rattle.hippo_model.specs.declared.schema.Schema.{Schema}
 use Rattle.hippo_model.specs.declared.statement.RawAudit.{RawAudit}
 use Rattle.hippo_model.specs.declared.statement.RawForm.{RawForm}
@@ -23,11 +24,14 @@ use Rattle.hippo_catalog.specs.ChangesRefused.{change_refused, insert_refused}
 use Rattle.hippo_catalog.specs.ChangesWanted.{wanted_by}
 use Rattle.hippo_tables.specs.Finished.{finished}
 use Rattle.hippo_report.specs.declared.refusal.Refusal.TheVariants.{BadSyntax, MomentBack, Meaningless, CursorLimit, NoCursor, JobLimit, NoJob, NoSuchQuery, BadRecord, BadField, WatchLimit, NoWatch, NotBuilt}
+use Rattle.hippo_world.specs.declared.sessions.Session.{Session}
 use Rattle.hippo_world.specs.Worlds.{World, at_number, free_number}
 use Rattle.hippo_commands.specs.Moments.{period_in}
 use Rattle.hippo_lines.specs.Forms.{Request, logs_in, logs_out, fetches, closes, steps, drops, unwatches, loads}
 use Rattle.hippo_commands.specs.Commands.{Command, nothing, wrong, ask, state}
 use Rattle.hippo_commands.specs.Commands as commands
+use Rattle.hippo_engine.specs.declared.asking.Handing.{Handing}
+use Rattle.hippo_engine.specs.declared.asking.Handing.TheVariants.{Rows, Cursor}
 use Rattle.hippo_engine.specs.Deeds.{Deed, Question}
 use Rattle.hippo_engine.specs.Deeds as deeds
 use Rattle.hippo_engine.specs.Checks.{Checked, ◌>>=◌, refused_if, by_console, open_session, may_log_in, authorized, meant, act_made, has_room, question_at}
@@ -93,16 +97,19 @@ judged_change history world number statement = do
 -- the name of the first column whose field is not of its form
 abbrev pub bad_field : Schema → List (Option Value) → Checked (Unit {0})
 bad_field schema values =
-    option_map_or
-    (λ place. option_map_or (λ column. Err (BadField column.name)) (slice_get schema.columns place) (Ok tt))
-    (position is_none values) (Ok tt)
+    let refuse : Column → Checked (Unit {0}) = λ column. Err (BadField column.name) in
+    option_map_or refuse (option_and_then (slice_get schema.columns) (position is_none values)) (Ok tt)
+
+abbrev pub right_count : Schema → List Txt → Checked (Unit {0})
+right_count schema fields =
+    let columns : ℕ = length schema.columns in
+    refused_if (not (length fields == columns)) (Meaningless (faults.WrongCount columns))
 
 -- a record for a table: its fields, their number and forms, and then what an INSERT of the values is refused for
 abbrev pub loaded_row : Schema → Txt → Checked Row
 loaded_row schema text = do
   fields ← ok_or (record_fields text) BadRecord
-  counted ← refused_if (not (length fields == length schema.columns))
-      (Meaningless (faults.WrongCount (length schema.columns)))
+  counted ← right_count schema fields
   formed ← bad_field schema (field_values schema fields)
   meant (insert_refused (filter_map (λ value. value) (field_values schema fields)) schema)
       (filter_map (λ value. value) (field_values schema fields))
@@ -126,19 +133,23 @@ question_in history world number select text = do
   query ← meant (select_refused (known_at history) select) (query_of (known_at history) select)
   Ok (record { session = number; user = session.user; pair = session.pair; text = text; query = query })
 
-abbrev pub judged_select : History → World → ℕ → RawSelect → Txt → Checked Deed
-judged_select history world number select text = do
-  question ← question_in history world number select text
-  room ← has_room history world
-  Ok (deeds.answer question)
+-- the number of the cursor that is to hold an answer: an OPEN wants one of its session, a SELECT none
+abbrev pub cursor_wanted : Handing → Session → Checked (Option ℕ)
+cursor_wanted Rows session = Ok None
+cursor_wanted Cursor session = ok_or (option_map Some (free_number session.cursors)) CursorLimit
 
-abbrev pub judged_open : History → World → ℕ → RawSelect → Txt → Checked Deed
-judged_open history world number select text = do
+abbrev pub deed_for : Session → Question → Option ℕ → Deed
+deed_for session question None = deeds.answer question
+deed_for session question (Some cursor) = deeds.open_cursor session cursor question
+
+-- a SELECT or an OPEN
+abbrev pub judged_question : Handing → History → World → ℕ → RawSelect → Txt → Checked Deed
+judged_question handing history world number select text = do
   question ← question_in history world number select text
   session ← open_session world number
-  free ← ok_or (free_number session.cursors) CursorLimit
+  cursor ← cursor_wanted handing session
   room ← has_room history world
-  Ok (deeds.open_cursor session free question)
+  Ok (deed_for session question cursor)
 
 abbrev pub judged_extract : History → World → ℕ → RawSelect → Txt → Checked Deed
 judged_extract history world number select text = do
@@ -175,9 +186,9 @@ judged_watch history world number written = do
 
 abbrev pub judged_statement : History → World → ℕ → Stmt → Txt → Checked Deed
 judged_statement history world number (stmt.Select select start end) text =
-    judged_select history world number select (text_between text start end)
+    judged_question Rows history world number select (text_between text start end)
 judged_statement history world number (stmt.Ask select start end) text =
-    judged_open history world number select (text_between text start end)
+    judged_question Cursor history world number select (text_between text start end)
 judged_statement history world number (stmt.Extract select start end) text =
     judged_extract history world number select (text_between text start end)
 judged_statement history world number (stmt.Explain question) text = judged_explain history number question

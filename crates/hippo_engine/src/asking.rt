@@ -1,9 +1,8 @@
 //! Questions of sessions: what is asked, or why it may not be.
-ghost use Rattle.std.specs.Prelude.{◌≡◌, ◌⊎◌, ◌≢◌, ◌+◌, ◌<◌, ◌^◌, true, nat_le, ok_or, Ok as Good, Err as Bad};
-ghost use Rattle.std.specs.Prelude.{MatchResult, IfOk, OnOk};
+ghost use Rattle.std.specs.Prelude.{◌≡◌, ◌⊎◌, ◌≢◌, ◌+◌, ◌<◌, ◌^◌, true, nat_le, ok_or, option_map, Some as Has};
+ghost use Rattle.std.specs.Prelude.{MatchResult, IfOk, OnOk, Ok as Good, Err as Bad};
 ghost use Rattle.hippo_model.specs.Terms.{History};
 ghost use Rattle.hippo_model.specs.declared.name_fault.NameFault.TheVariants.{Memory as NoRoom};
-ghost use Rattle.hippo_model.specs.declared.statement.Stmt.TheVariants as stmt;
 ghost use Rattle.hippo_report.specs.declared.refusal.Refusal.TheVariants.{Memory as NoMemory};
 ghost use Rattle.hippo_report.specs.declared.refusal.Refusal.TheVariants.{Meaningless as MeansNothing};
 ghost use Rattle.hippo_report.specs.declared.refusal.Refusal.TheVariants.{CursorLimit as NoFreeCursor};
@@ -15,9 +14,8 @@ ghost use Rattle.hippo_world.specs.Worlds.{free_number};
 ghost use Rattle.hippo_world.specs.Holding.{world_of};
 ghost use Rattle.hippo_commands.specs.Commands.{state as command};
 ghost use Rattle.hippo_engine.specs.Checks.{Finds, refused_if, open_session, meant};
-ghost use Rattle.hippo_engine.specs.Judging.{is_plain, text_between, question_in, judged_select, judged_open, judged};
-ghost use Rattle.hippo_engine.specs.Asking.{question_of, answers, opens, IsAnswerable};
-ghost use Rattle.hippo_engine.specs.Asking.{with_found, opening_of, cursor_in};
+ghost use Rattle.hippo_engine.specs.Judging.{is_plain, text_between, question_in, cursor_wanted, judged_question, judged};
+ghost use Rattle.hippo_engine.specs.Asking.{IsAnswerable, statement_asked, cursor_in_room, asking_with, deed_asked};
 
 use crate::refusals::{check_room, name_refusal};
 use crate::session_checks::{check_allowed, open_session};
@@ -28,19 +26,21 @@ use hippo_typing::resolve_select;
 use hippo_world::{Session, World};
 use std::alloc::Global;
 
-/// A question that may be asked: by whom, its text, and the query that it means.
+/// How the answer of a question is handed out: its rows are the reply, or a cursor holds them.
+#[derive(Clone, Copy, Debug, PartialEq, Eq)]
+pub enum Handing {
+    Rows,
+    Cursor,
+}
+
+/// A question that may be asked: by whom, its text, the query that it means, and the number of the cursor that is to
+/// hold its answer, if one is.
 #[derive(Drop)]
 pub struct Asking<'a> {
     pub asker: &'a Session,
     pub text: &'a str,
     pub query: Query,
-}
-
-/// A question whose answer a cursor is to hand out, and the number that the cursor gets.
-#[derive(Drop)]
-pub struct Opening<'a> {
-    pub asking: Asking<'a>,
-    pub cursor: u8,
+    pub cursor: Option<u8>,
 }
 
 fn is_plain(form: &RawForm) -> bool
@@ -72,30 +72,18 @@ fn meaning(alloc: Global, state: &State, select: &RawSelect) -> Result<Query, Re
     }
 }
 
-// What a plain question asks, whatever room there is.
-fn question<'a>(
-    alloc: Global,
-    state: &State,
-    world: &'a World,
-    session: u8,
-    select: &RawSelect,
-    text: &'a str,
-) -> Result<Asking<'a>, Refusal>
-    requires sound { IsSound state.now }
-    requires plain { is_plain select.now.form ≡ true }
-    ensures found { (history : History) → StandsFor state.now history
-        → Finds (question_of session) (question_in history (world_of world.now) session select.now text.now) result }
-    ensures asker { IfOk result (λ asking. open_session (world_of world.now) session ≡ Good asking.asker.now) }
-    ensures answerable { IfOk result (λ asking. IsAnswerable state.now asking.query) }
+// A number that a cursor may have; one that none has is answered by want of memory.
+fn cursor_number(number: usize) -> Result<Option<u8>, Refusal>
+    ensures { MatchResult result (λ cursor. cursor ≡ Has number) (λ refusal. refusal ≡ NoMemory) }
 {
-    let asker = asker(world, session)?;
-    check_allowed(state, &asker.user, &asker.pair)?;
-    let query = meaning(alloc, state, select)?;
-    Ok(Asking { asker, text, query })
+    match u8::try_from(number) {
+        Ok(number) => Ok(Some(number)),
+        Err(_) => Err(Refusal::Memory),
+    }
 }
 
-fn free_cursor(asker: &Session) -> Result<u8, Refusal>
-    ensures { Finds (λ number. number) (ok_or (free_number asker.now.cursors) NoFreeCursor) result }
+fn free_cursor(asker: &Session) -> Result<Option<u8>, Refusal>
+    ensures { Finds (λ cursor. cursor) (cursor_wanted Handing.Cursor asker.now) result }
 {
     match asker.cursors.free() {
         Some(number) => cursor_number(number),
@@ -103,87 +91,72 @@ fn free_cursor(asker: &Session) -> Result<u8, Refusal>
     }
 }
 
-// A number that a cursor may have; one that none has is answered by want of memory.
-fn cursor_number(number: usize) -> Result<u8, Refusal>
-    ensures { MatchResult result (λ found. found ≡ number) (λ refusal. refusal ≡ NoMemory) }
+// The number of the cursor that is to hold an answer, if one is.
+fn cursor_wanted(handing: Handing, asker: &Session) -> Result<Option<u8>, Refusal>
+    ensures { Finds (λ cursor. cursor) (cursor_wanted handing asker.now) result }
 {
-    match u8::try_from(number) {
-        Ok(number) => Ok(number),
-        Err(_) => Err(Refusal::Memory),
+    match handing {
+        Handing::Rows => Ok(None),
+        Handing::Cursor => free_cursor(asker),
     }
 }
 
-// The number of a cursor that is to be opened, where there is room.
-fn cursor_to_open(asker: &Session, count: u64, limit: u32) -> Result<u8, Refusal>
-    ensures found { Finds (λ number. number) (cursor_in asker.now count limit) result }
+// The same, where the history has room for an entry more.
+fn cursor_in_room(
+    handing: Handing,
+    asker: &Session,
+    count: u64,
+    limit: u32,
+) -> Result<Option<u8>, Refusal>
+    ensures found { Finds (λ cursor. cursor) (cursor_in_room handing asker.now count limit) result }
     ensures below { OnOk result (count + 1 < 2 ^ 63) }
 {
-    let number = free_cursor(asker)?;
+    let cursor = cursor_wanted(handing, asker)?;
     check_room(count, limit)?;
-    Ok(number)
+    Ok(cursor)
 }
 
-// A value and what was found behind it; the value falls where that is refused.
-fn with_found<A: Drop, B: Drop>(value: A, found: Result<B, Refusal>) -> Result<(A, B), Refusal>
-    ensures { result ≡ with_found value found }
+// A question with its cursor's number; it falls where that is refused.
+fn with_cursor(
+    asking: Asking<'_>,
+    cursor: Result<Option<u8>, Refusal>,
+) -> Result<Asking<'_>, Refusal>
+    ensures { result ≡ asking_with asking.entry cursor }
 {
-    match found {
-        Ok(other) => Ok((value, other)),
+    match cursor {
+        Ok(cursor) => Ok(Asking { cursor, ..asking }),
         Err(refusal) => Err(refusal),
     }
 }
 
-// A plain question that is to be answered.
-fn plain_select<'a>(
+// What a plain question asks.
+fn question<'a>(
     alloc: Global,
     state: &State,
     world: &'a World,
     session: u8,
+    handing: Handing,
     select: &RawSelect,
     text: &'a str,
 ) -> Result<Asking<'a>, Refusal>
     requires sound { IsSound state.now }
     requires plain { is_plain select.now.form ≡ true }
-    ensures found { (history : History) → StandsFor state.now history
-        → Finds (answers session) (judged_select history (world_of world.now) session select.now text.now) result }
+    ensures found { (history : History) → StandsFor state.now history → Finds (deed_asked session)
+        (judged_question handing history (world_of world.now) session select.now text.now) result }
+    ensures asker { IfOk result (λ asking. open_session (world_of world.now) session ≡ Good asking.asker.now) }
     ensures answerable { IfOk result (λ asking. IsAnswerable state.now asking.query) }
     ensures below { OnOk result (state.now.count + 1 < 2 ^ 63) }
 {
-    let asking = question(alloc, state, world, session, select, text)?;
-    let (asking, _) = with_found(asking, check_room(state.count, world.limit))?;
-    Ok(asking)
-}
-
-// A question with its cursor's number; it falls where that is refused.
-fn with_cursor(asking: Asking<'_>, cursor: Result<u8, Refusal>) -> Result<Opening<'_>, Refusal>
-    ensures { result ≡ opening_of asking.entry cursor }
-{
-    match cursor {
-        Ok(cursor) => Ok(Opening { asking, cursor }),
-        Err(refusal) => Err(refusal),
-    }
-}
-
-// A plain question whose answer a cursor is to hand out.
-fn plain_open<'a>(
-    alloc: Global,
-    state: &State,
-    world: &'a World,
-    session: u8,
-    select: &RawSelect,
-    text: &'a str,
-) -> Result<Opening<'a>, Refusal>
-    requires sound { IsSound state.now }
-    requires plain { is_plain select.now.form ≡ true }
-    ensures found { (history : History) → StandsFor state.now history
-        → Finds (opens session) (judged_open history (world_of world.now) session select.now text.now) result }
-    ensures asker { IfOk result (λ opening.
-        open_session (world_of world.now) session ≡ Good opening.asking.asker.now) }
-    ensures answerable { IfOk result (λ opening. IsAnswerable state.now opening.asking.query) }
-    ensures below { OnOk result (state.now.count + 1 < 2 ^ 63) }
-{
-    let asking = question(alloc, state, world, session, select, text)?;
-    let cursor = cursor_to_open(asking.asker, state.count, world.limit);
+    let asker = asker(world, session)?;
+    check_allowed(state, &asker.user, &asker.pair)?;
+    let query = meaning(alloc, state, select)?;
+    let cursor = cursor_in_room(handing, asker, state.count, world.limit);
+    let asking = Asking {
+        asker,
+        text,
+        query,
+        cursor: None,
+    };
     with_cursor(asking, cursor)
 }
 
@@ -197,21 +170,25 @@ fn cut(text: &str, start: usize, end: usize) -> Result<&str, Refusal>
     }
 }
 
-/// What a SELECT asks, or why it may not be asked: its session has to be open, its user still authorized, its names and
-/// types have to mean something, and the history has to have room. Want of memory may refuse it, too.
-pub fn select_asks<'a>(
+/// What a SELECT or an OPEN asks, or why it may not be asked: its session has to be open, its user still authorized,
+/// its names and types have to mean something, an OPEN's session has to have a cursor left, and the history has to have
+/// room. Want of memory may refuse it, too.
+pub fn asks<'a>(
     alloc: Global,
     state: &State,
     world: &'a World,
     session: u8,
+    handing: Handing,
     select: &RawSelect,
     text: &'a str,
     start: usize,
     end: usize,
 ) -> Result<Asking<'a>, Refusal>
     requires sound { IsSound state.now }
-    ensures found { (history : History) → StandsFor state.now history → Finds (answers session)
-        (judged history (world_of world.now) (command session (stmt.Select select.now start end) text.now)) result }
+    ensures found { (history : History) → StandsFor state.now history → Finds (deed_asked session)
+        (judged history (world_of world.now)
+        (command session (statement_asked handing select.now start end) text.now)) result }
+    ensures asker { IfOk result (λ asking. open_session (world_of world.now) session ≡ Good asking.asker.now) }
     ensures answerable { IfOk result (λ asking. IsAnswerable state.now asking.query) }
     ensures below { OnOk result (state.now.count + 1 < 2 ^ 63) }
 {
@@ -219,32 +196,5 @@ pub fn select_asks<'a>(
         return Err(Refusal::NotBuilt);
     }
     let text = cut(text, start, end)?;
-    plain_select(alloc, state, world, session, select, text)
-}
-
-/// What an OPEN asks, and the number that its cursor gets; or why it may not be asked, as for a SELECT, and where the
-/// session has no cursor left.
-pub fn open_asks<'a>(
-    alloc: Global,
-    state: &State,
-    world: &'a World,
-    session: u8,
-    select: &RawSelect,
-    text: &'a str,
-    start: usize,
-    end: usize,
-) -> Result<Opening<'a>, Refusal>
-    requires sound { IsSound state.now }
-    ensures found { (history : History) → StandsFor state.now history → Finds (opens session)
-        (judged history (world_of world.now) (command session (stmt.Ask select.now start end) text.now)) result }
-    ensures asker { IfOk result (λ opening.
-        open_session (world_of world.now) session ≡ Good opening.asking.asker.now) }
-    ensures answerable { IfOk result (λ opening. IsAnswerable state.now opening.asking.query) }
-    ensures below { OnOk result (state.now.count + 1 < 2 ^ 63) }
-{
-    if !is_plain(&select.form) {
-        return Err(Refusal::NotBuilt);
-    }
-    let text = cut(text, start, end)?;
-    plain_open(alloc, state, world, session, select, text)
+    question(alloc, state, world, session, handing, select, text)
 }

@@ -6,16 +6,14 @@ ghost use Rattle.hippo_model.specs.Terms.{History};
 ghost use Rattle.hippo_catalog.specs.ChangesWanted.{changes_something};
 ghost use Rattle.hippo_tables.specs.Finished.{finished};
 ghost use Rattle.hippo_tables.specs.Standing.{StandsFor as TablesStandFor};
-ghost use Rattle.hippo_keeper.specs.Keeping.{IsReady};
-ghost use Rattle.hippo_replay.specs.Standing.{StandsFor, IsSound};
-ghost use Rattle.hippo_replay.specs.TakingIn.{HasLoaded};
+ghost use Rattle.hippo_replay.specs.Standing.{StandsFor};
 ghost use Rattle.hippo_report.specs.declared.refusal.Refusal.TheVariants as refusals;
 ghost use Rattle.hippo_world.specs.Holding.{world_of};
 ghost use Rattle.hippo_commands.specs.Commands.{Command, state};
 ghost use Rattle.hippo_engine.specs.declared.faults.EngineFault.TheVariants.{Write as WriteFailed};
 ghost use Rattle.hippo_engine.specs.Checks.{Finds, by_console, rows_refusal, act_made};
 ghost use Rattle.hippo_engine.specs.Judging.{judged_wanted, judged_change};
-ghost use Rattle.hippo_engine.specs.Carrying.{IsQuiet, Carries};
+ghost use Rattle.hippo_engine.specs.Carrying.{AtWork, IsQuiet, Carries};
 ghost use Rattle.hippo_engine.specs.Changing.{FindsChange, Changes, IsRefused, wanted_in, change_in_room};
 
 use crate::engine::Engine;
@@ -139,9 +137,7 @@ impl Engine {
         keeper: &mut P,
         entry: &Entry,
     ) -> Result<(), EngineFault>
-        requires sound { IsSound self.old.state }
-        requires ready { IsReady true (P.state keeper.old) }
-        requires told { (P.state keeper.old).tells → HasLoaded self.old.state (P.state keeper.old).kept }
+        requires at_work { AtWork self.old.state (P.state keeper.old) }
         requires number { entry.now.seq < 2 ^ 63 }
         ensures carries { (command : Command) → Changes command entry.now self.old
             → Carries command result self.old self.new (P.state keeper.old) (P.state keeper.new) }
@@ -167,9 +163,7 @@ impl Engine {
         session: u8,
         statement: &Stmt,
     ) -> Result<(), EngineFault>
-        requires sound { IsSound self.old.state }
-        requires ready { IsReady true (P.state keeper.old) }
-        requires told { (P.state keeper.old).tells → HasLoaded self.old.state (P.state keeper.old).kept }
+        requires at_work { AtWork self.old.state (P.state keeper.old) }
         requires changes { changes_something statement.now ≡ true }
         ensures carries { (text : Text) → Carries (state session statement.now text) result self.old self.new
             (P.state keeper.old) (P.state keeper.new) }

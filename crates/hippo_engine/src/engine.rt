@@ -1,18 +1,16 @@
 //! The engine: each line of the input is carried out, and has its reply.
-ghost use Rattle.std.specs.Prelude.{◌≡◌, ◌≢◌, true, [], Err, IfOk, IfSome, OnOk};
+ghost use Rattle.std.specs.Prelude.{◌≡◌, ◌≢◌, [], Err, IfOk, OnOk};
 ghost use Rattle.hippo_io.specs.Faults.{HasRisen};
 ghost use Rattle.hippo_io.specs.LineTexts.{line_text};
 ghost use Rattle.hippo_io.specs.Told.{Appends, AppendsFront};
-ghost use Rattle.hippo_keeper.specs.Keeping.{IsReady};
 ghost use Rattle.hippo_world.specs.Worlds.{opening};
 ghost use Rattle.hippo_world.specs.Holding.{world_of};
-ghost use Rattle.hippo_replay.specs.Standing.{IsSound};
-ghost use Rattle.hippo_replay.specs.TakingIn.{HasLoaded};
-ghost use Rattle.hippo_commands.specs.Commands.{state, command_of, IsCommand};
+ghost use Rattle.hippo_commands.specs.Commands.{state, commanded};
 ghost use Rattle.hippo_commands.specs.Lent.{command};
 ghost use Rattle.hippo_engine.specs.declared.faults.EngineFault.TheVariants.{Keeper as KeeperFailed, Write as WriteFailed};
-ghost use Rattle.hippo_engine.specs.Carrying.{IsOfLine, Carries, Answers};
+ghost use Rattle.hippo_engine.specs.Carrying.{IsOfLine, AtWork, Carries};
 
+use crate::asking::Handing;
 use crate::faults::EngineFault;
 use hippo_commands::{Command, command_of};
 use hippo_io::{Line, Sink};
@@ -53,17 +51,6 @@ fn at_beginning(
     Ok((world, reply))
 }
 
-// What a line commands; the end of the input commands nothing.
-fn command_in<'a>(alloc: Global, line: Line<'a>) -> Command<'a>
-    ensures found { IfSome (line_text line.entry) (λ text. IsCommand (command_of text) (command result)) }
-    ensures of_line { IsOfLine (command result) }
-{
-    match line {
-        Line::End => Command::Nothing,
-        _ => command_of(alloc, line),
-    }
-}
-
 impl Engine {
     /// An engine that begins where a history ends: the clock stands at its last entry's moment, no session is open, and
     /// the history may have so many entries. Or want of memory.
@@ -101,19 +88,35 @@ impl Engine {
         statement: &Stmt,
         text: &str,
     ) -> Result<(), EngineFault>
-        requires sound { IsSound self.old.state }
-        requires ready { IsReady true (P.state keeper.old) }
-        requires told { (P.state keeper.old).tells → HasLoaded self.old.state (P.state keeper.old).kept }
+        requires at_work { AtWork self.old.state (P.state keeper.old) }
         ensures carries { Carries (state session statement.now text.now) result self.old self.new
             (P.state keeper.old) (P.state keeper.new) }
         ensures unwritten { result ≢ Err WriteFailed }
     {
         match statement {
             Stmt::Select { select, start, end } => {
-                self.select(alloc, keeper, session, select, *start, *end, text)
+                self.question(
+                    alloc,
+                    keeper,
+                    session,
+                    Handing::Rows,
+                    select,
+                    *start,
+                    *end,
+                    text,
+                )
             }
             Stmt::Ask { select, start, end } => {
-                self.open(alloc, keeper, session, select, *start, *end, text)
+                self.question(
+                    alloc,
+                    keeper,
+                    session,
+                    Handing::Cursor,
+                    select,
+                    *start,
+                    *end,
+                    text,
+                )
             }
             Stmt::Extract { .. }
             | Stmt::Explain(_)
@@ -134,9 +137,7 @@ impl Engine {
         keeper: &mut P,
         found: Command<'_>,
     ) -> Result<(), EngineFault>
-        requires sound { IsSound self.old.state }
-        requires ready { IsReady true (P.state keeper.old) }
-        requires told { (P.state keeper.old).tells → HasLoaded self.old.state (P.state keeper.old).kept }
+        requires at_work { AtWork self.old.state (P.state keeper.old) }
         requires of_line { IsOfLine (command found) }
         ensures carries { Carries (command found.entry) result self.old self.new
             (P.state keeper.old) (P.state keeper.new) }
@@ -161,22 +162,20 @@ impl Engine {
     }
 
     /// Carries out a line and makes its reply whole in memory; what it adds to the history is kept when the call
-    /// returns. Answers `Keeper` only where the keeper's count of faults rose: the engine is then of no more use. Of
-    /// the end of the input it promises nothing.
+    /// returns. Answers `Keeper` only where the keeper's count of faults rose: the engine is then of no more use. The
+    /// end of the input commands nothing.
     pub fn answer<P: Keeper>(
         &mut self,
         alloc: Global,
         line: Line<'_>,
         keeper: &mut P,
     ) -> Result<(), EngineFault>
-        requires sound { IsSound self.old.state }
-        requires ready { IsReady true (P.state keeper.old) }
-        requires told { (P.state keeper.old).tells → HasLoaded self.old.state (P.state keeper.old).kept }
-        ensures answers { Answers (line_text line.entry) result self.old self.new
+        requires at_work { AtWork self.old.state (P.state keeper.old) }
+        ensures carries { Carries (commanded (line_text line.entry)) result self.old self.new
             (P.state keeper.old) (P.state keeper.new) }
         ensures unwritten { result ≢ Err WriteFailed }
     {
-        let found = command_in(alloc, line);
+        let found = command_of(alloc, line);
         self.carry_out(alloc, keeper, found)
     }
 
@@ -189,10 +188,8 @@ impl Engine {
         keeper: &mut P,
         sink: &mut K,
     ) -> Result<(), EngineFault>
-        requires sound { IsSound self.old.state }
-        requires ready { IsReady true (P.state keeper.old) }
-        requires told { (P.state keeper.old).tells → HasLoaded self.old.state (P.state keeper.old).kept }
-        ensures answers { Answers (line_text line.entry) result self.old self.new
+        requires at_work { AtWork self.old.state (P.state keeper.old) }
+        ensures carries { Carries (commanded (line_text line.entry)) result self.old self.new
             (P.state keeper.old) (P.state keeper.new) }
         ensures written { OnOk result (Appends (K.written sink.old) (K.written sink.new) self.new.reply) }
         ensures cut { result ≡ Err WriteFailed → AppendsFront (K.written sink.old) (K.written sink.new) self.new.reply

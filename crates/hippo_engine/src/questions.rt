@@ -1,24 +1,21 @@
 //! Questions: each is kept before it is answered.
 ghost use Rattle.std.specs.Prelude.{◌≡◌, ◌≢◌, ◌⊎◌, ℕ, ◌+◌, ◌<◌, ◌^◌, List, [], ◌∷◌, ◌++◌, true, Ok as Good, Err as Bad, IfOk, OnOk};
 ghost use Rattle.hippo_model.specs.declared.entry.Act.TheVariants.{Asked};
-ghost use Rattle.hippo_model.specs.declared.statement.Stmt.TheVariants as stmt;
 ghost use Rattle.hippo_model.specs.Terms.{History, ShownRow};
 ghost use Rattle.hippo_model.specs.Validity.{may_follow};
 ghost use Rattle.hippo_report.specs.Cells.{answer_line};
-ghost use Rattle.hippo_keeper.specs.Keeping.{IsReady};
 ghost use Rattle.hippo_eval.specs.Answering.{IsAnswered};
 ghost use Rattle.hippo_typing.specs.Meanings.{meaning};
-ghost use Rattle.hippo_replay.specs.Standing.{StandsFor, IsSound, IsNext, takes_no_memory};
-ghost use Rattle.hippo_replay.specs.TakingIn.{HasLoaded};
+ghost use Rattle.hippo_replay.specs.Standing.{StandsFor, IsNext, takes_no_memory};
 ghost use Rattle.hippo_world.specs.Holding.{world_of};
 ghost use Rattle.hippo_commands.specs.Commands.{state};
 ghost use Rattle.hippo_engine.specs.declared.faults.EngineFault.TheVariants.{Write as WriteFailed};
-ghost use Rattle.hippo_engine.specs.Carrying.{Carries};
-ghost use Rattle.hippo_engine.specs.Effects.{row_limit, question_rows, within_limit, listed};
-ghost use Rattle.hippo_engine.specs.Asking.{question_of, IsAnswerable, entry_of, Asks};
-ghost use Rattle.hippo_engine.specs.Asking.{short_line, IsUnkept, RepliesRows, IsOpened, IsShort, RepliesCursor};
+ghost use Rattle.hippo_engine.specs.Carrying.{AtWork, Carries};
+ghost use Rattle.hippo_engine.specs.Effects.{row_limit, question_rows, listed};
+ghost use Rattle.hippo_engine.specs.Asking.{question_of, statement_asked, IsAnswerable, entry_of, Asks};
+ghost use Rattle.hippo_engine.specs.Asking.{short_line, IsUnkept, IsHandedOut, IsShort, Replies};
 
-use crate::asking::{Asking, Opening, open_asks, select_asks};
+use crate::asking::{Asking, Handing, asks};
 use crate::engine::{Engine, Reply};
 use crate::faults::EngineFault;
 use crate::replies::{refuse, say_number};
@@ -107,9 +104,7 @@ fn keep_entry<P: Keeper>(
     asking: &Asking<'_>,
     entry: &Entry,
 ) -> Result<Result<Answer, EvalFault>, KeeperFault>
-    requires sound { IsSound state.old }
-    requires ready { IsReady true (P.state keeper.old) }
-    requires told { (P.state keeper.old).tells → HasLoaded state.old (P.state keeper.old).kept }
+    requires at_work { AtWork state.old (P.state keeper.old) }
     requires number { entry.now.seq < 2 ^ 63 }
     requires room { takes_no_memory entry.now.act ≡ true }
     requires answerable { IsAnswerable state.old asking.now.query }
@@ -134,9 +129,7 @@ fn keep_and_answer<P: Keeper>(
     world: &World,
     asking: &Asking<'_>,
 ) -> Result<Result<Answer, EvalFault>, KeeperFault>
-    requires sound { IsSound state.old }
-    requires ready { IsReady true (P.state keeper.old) }
-    requires told { (P.state keeper.old).tells → HasLoaded state.old (P.state keeper.old).kept }
+    requires at_work { AtWork state.old (P.state keeper.old) }
     requires number { state.old.count + 1 < 2 ^ 63 }
     requires answerable { IsAnswerable state.old asking.now.query }
     ensures asks { (session : ℕ) → Asks (entry_of state.old world.now.clock (question_of session asking.now))
@@ -170,19 +163,6 @@ fn say_rows(session: u8, rows: &Answer, reply: &mut Reply)
     }
 }
 
-// Says what a SELECT answers.
-fn say_answer(session: u8, answer: &Result<Answer, EvalFault>, reply: &mut Reply)
-    ensures { (rows : List ShownRow) → IsAnswered row_limit rows answer.now
-        → (reply.new ≡ within_limit session rows (listed session (answer_line session) rows))
-        ⊎ (reply.new ≡ short_line session) }
-{
-    match answer {
-        Ok(rows) => say_rows(session, rows, reply),
-        Err(EvalFault::TooManyRows) => refuse(Some(session), &Refusal::TooManyRows, reply),
-        Err(EvalFault::Memory) => refuse(Some(session), &Refusal::Memory, reply),
-    }
-}
-
 // What follows where a question is not kept.
 fn say_unkept(session: u8, fault: KeeperFault, reply: &mut Reply) -> Result<(), EngineFault>
     ensures said { IsUnkept fault session result reply.new }
@@ -197,61 +177,49 @@ fn say_unkept(session: u8, fault: KeeperFault, reply: &mut Reply) -> Result<(), 
     }
 }
 
-// The reply to a SELECT.
-fn reply_rows(
+// Hands out an answer: says its rows, or opens a cursor over them; or says that they are too many, or that memory was
+// short.
+fn hand_out(
     session: u8,
-    kept: Result<Result<Answer, EvalFault>, KeeperFault>,
-    reply: &mut Reply,
-) -> Result<(), EngineFault>
-    ensures said { RepliesRows session kept result reply.new }
-    ensures unwritten { result ≢ Bad WriteFailed }
-{
-    match kept {
-        Ok(answer) => {
-            say_answer(session, &answer, reply);
-            drop(answer);
-            Ok(())
-        }
-        Err(fault) => say_unkept(session, fault, reply),
-    }
-}
-
-// Opens a cursor over rows, or says that they are too many, or that memory was short.
-fn open_answer(
-    session: u8,
-    cursor: u8,
+    cursor: Option<u8>,
     answer: Result<Answer, EvalFault>,
     world: &mut World,
     reply: &mut Reply,
 )
     ensures { (rows : List ShownRow) → IsAnswered row_limit rows answer
-        → IsOpened session cursor rows reply.new (world_of world.old) (world_of world.new)
+        → IsHandedOut session cursor rows reply.new (world_of world.old) (world_of world.new)
         ⊎ IsShort session reply.new (world_of world.old) (world_of world.new) }
 {
     match answer {
-        Ok(rows) => {
-            say_number(session, "cursor", u64::from(cursor), reply);
-            world.open_cursor(session, cursor, rows);
-        }
+        Ok(rows) => match cursor {
+            None => {
+                say_rows(session, &rows, reply);
+                drop(rows);
+            }
+            Some(cursor) => {
+                say_number(session, "cursor", u64::from(cursor), reply);
+                world.open_cursor(session, cursor, rows);
+            }
+        },
         Err(EvalFault::TooManyRows) => refuse(Some(session), &Refusal::TooManyRows, reply),
         Err(EvalFault::Memory) => refuse(Some(session), &Refusal::Memory, reply),
     }
 }
 
-// The reply to an OPEN.
-fn reply_cursor(
+// The reply to a question.
+fn reply_to(
     session: u8,
-    cursor: u8,
+    cursor: Option<u8>,
     kept: Result<Result<Answer, EvalFault>, KeeperFault>,
     world: &mut World,
     reply: &mut Reply,
 ) -> Result<(), EngineFault>
-    ensures said { RepliesCursor session cursor kept result reply.new (world_of world.old) (world_of world.new) }
+    ensures said { Replies session cursor kept result reply.new (world_of world.old) (world_of world.new) }
     ensures unwritten { result ≢ Bad WriteFailed }
 {
     match kept {
         Ok(answer) => {
-            open_answer(session, cursor, answer, world, reply);
+            hand_out(session, cursor, answer, world, reply);
             Ok(())
         }
         Err(fault) => say_unkept(session, fault, reply),
@@ -259,82 +227,40 @@ fn reply_cursor(
 }
 
 impl Engine {
-    /// Answers a plain SELECT of a session: the question is kept first, and then answered over the history before it.
-    /// Answers `Keeper` only where the keeper failed.
-    pub(crate) fn select<P: Keeper>(
+    /// Answers a plain question of a session, by its rows or by a cursor over them: it is kept first, and then answered
+    /// over the history before it. Answers `Keeper` only where the keeper failed.
+    pub(crate) fn question<P: Keeper>(
         &mut self,
         alloc: Global,
         keeper: &mut P,
         session: u8,
+        handing: Handing,
         select: &RawSelect,
         start: usize,
         end: usize,
         text: &str,
     ) -> Result<(), EngineFault>
-        requires sound { IsSound self.old.state }
-        requires ready { IsReady true (P.state keeper.old) }
-        requires told { (P.state keeper.old).tells → HasLoaded self.old.state (P.state keeper.old).kept }
-        ensures carries { Carries (state session (stmt.Select select.now start end) text.now) result self.old self.new
-            (P.state keeper.old) (P.state keeper.new) }
+        requires at_work { AtWork self.old.state (P.state keeper.old) }
+        ensures carries { Carries (state session (statement_asked handing select.now start end) text.now) result
+            self.old self.new (P.state keeper.old) (P.state keeper.new) }
         ensures unwritten { result ≢ Bad WriteFailed }
     {
-        match select_asks(
+        match asks(
             alloc,
             &self.state,
             &self.world,
             session,
+            handing,
             select,
             text,
             start,
             end,
         ) {
             Ok(asking) => {
+                let cursor = asking.cursor;
                 let kept = keep_and_answer(alloc, keeper, &mut self.state, &self.world, &asking);
                 drop(asking);
-                reply_rows(session, kept, &mut self.reply)
-            }
-            Err(refusal) => {
-                refuse(Some(session), &refusal, &mut self.reply);
-                drop(refusal);
-                Ok(())
-            }
-        }
-    }
-
-    /// Opens a cursor over the answer of a plain OPEN of a session, which is kept and answered as a SELECT is. Answers
-    /// `Keeper` only where the keeper failed.
-    pub(crate) fn open<P: Keeper>(
-        &mut self,
-        alloc: Global,
-        keeper: &mut P,
-        session: u8,
-        select: &RawSelect,
-        start: usize,
-        end: usize,
-        text: &str,
-    ) -> Result<(), EngineFault>
-        requires sound { IsSound self.old.state }
-        requires ready { IsReady true (P.state keeper.old) }
-        requires told { (P.state keeper.old).tells → HasLoaded self.old.state (P.state keeper.old).kept }
-        ensures carries { Carries (state session (stmt.Ask select.now start end) text.now) result self.old self.new
-            (P.state keeper.old) (P.state keeper.new) }
-        ensures unwritten { result ≢ Bad WriteFailed }
-    {
-        match open_asks(
-            alloc,
-            &self.state,
-            &self.world,
-            session,
-            select,
-            text,
-            start,
-            end,
-        ) {
-            Ok(opening) => {
-                let Opening { asking, cursor } = opening;
-                let kept = keep_and_answer(alloc, keeper, &mut self.state, &self.world, &asking);
-                drop(asking);
-                reply_cursor(session, cursor, kept, &mut self.world, &mut self.reply)
+                reply_to(session, cursor, kept, &mut self.world, &mut self.reply)
             }
             Err(refusal) => {
                 refuse(Some(session), &refusal, &mut self.reply);

@@ -81,8 +81,8 @@ impl<'a, C: ChoiceView, G: Gatherer> Visitor for Finder<'a, C, G> {
 
 /// These rows as an answer, unless they are more than the limit.
 pub fn limited(rows: Answer, limit: usize) -> Result<Answer, EvalFault>
-    ensures { (whole : List ShownRow) → (length rows ≤ limit → rows ≡ whole)
-        → (limit < length rows → limit < length whole) → IsAnswered limit whole result }
+    ensures { (whole : List ShownRow) → (length rows ≤ limit → rows ≡ whole) → (limit < length rows → limit < length whole)
+        → IsAnswered limit whole result }
 {
     if rows.len() > limit {
         Err(EvalFault::TooManyRows)

@@ -23,7 +23,7 @@ fn many_rows(alloc: Global) -> Result<RowSet, Memory> {
     let mut set = RowSet::new(alloc, first_column(alloc)?);
     let born = Moment::new(0).unwrap();
     for number in 0..ROWS {
-        set.put(one_cell(alloc, number * 3_001 % ROWS)?, born)?;
+        set.put(one_cell(alloc, number.wrapping_mul(3_001) % ROWS)?, born)?;
     }
     Ok(set)
 }

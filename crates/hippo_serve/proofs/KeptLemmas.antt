@@ -1,5 +1,5 @@
 -- What is kept after a line.
-use Rattle.std.proofs.Common.{◌≡◌, ◌∙◌, sym, ap, refl, subst, arith, Bool, true, false, [], ◌∷◌, ◌++◌, map, inl, inr, Result, append-nil}
+use Rattle.std.proofs.Common.{◌≡◌, ◌∙◌, sym, ap, subst, true, [], ◌∷◌, ◌++◌, map, inl, inr, append-nil}
 use mathlib.Core.Logic.{∥∥₁_map}
 use Rattle.std.proofs.lemmas.Bool.{and_from}
 use Rattle.std.proofs.lemmas.List.{map-append}
@@ -9,13 +9,10 @@ use Rattle.hippo_model.specs.StoredForms.{stored}
 use Rattle.hippo_model.specs.Stores.{IsStoreOf}
 use Rattle.hippo_model.specs.Validity.{may_follow, is_valid}
 use Rattle.hippo_laws.proofs.ValidFronts.{is_valid-append}
-use Rattle.hippo_keeper.specs.declared.faults.KeeperFault.{KeeperFault as Fault}
-use Rattle.hippo_keeper.specs.Answering.{has_failed}
-use Rattle.hippo_keeper.specs.Keeping.{Store, Survivors, KeeperState, IsAfterCall, MayHaveOneMore}
+use Rattle.hippo_keeper.specs.Keeping.{Store, Survivors, KeeperState, MayHaveOneMore}
 use Rattle.hippo_typing.specs.Meanings.{meaning}
 use Rattle.hippo_replay.specs.Loading.{KeepsFound}
 use Rattle.hippo_replay.specs.Recording.{HasKept}
-use Rattle.hippo_io.specs.Faults.{HasRisen}
 use Rattle.hippo_serve.specs.Keeping.{KeepsHistory, KeepsEither}
 
 -- the stored forms of a history with what was added are kept
@@ -74,36 +71,4 @@ KeepsHistory-found finds keeper history found is = record {
   kept = is;
   alone = λ store survives. store_as history store keeper.kept (found.alone store survives) is;
   survives_stop = found.survives_stop;
-}
-
--- a call that did not fail, and then others, as one call
-pub calls : {A B : Type 0} (is_started is_closed was_started was_closed : Bool) (first : Result A Fault) (second : Result B Fault) (before mid after : KeeperState) → has_failed first ≡ false → IsAfterCall is_started is_closed first before mid → IsAfterCall was_started was_closed second mid after → IsAfterCall after.started after.closed second before after
-calls is_started is_closed was_started was_closed first second before mid after good one other =
-    let same : mid.faults ≡ before.faults = one.faults.unfailed good in
-    record {
-      is_sound = other.is_sound;
-      started_is = refl;
-      closed_is = refl;
-      spent_is = other.spent_is;
-      told = λ tells. one.told (other.told tells);
-      faults = record {
-        cause = λ failed. subst (λ n. HasRisen n after.faults) same (other.faults.cause failed);
-        unfailed = λ fine. other.faults.unfailed fine ∙ same;
-        rises = omega (arith, same, other.faults.rises);
-      };
-    }
-
--- a call's answer counts as another, where both failed or neither
-pub call_as : {A B : Type 0} (is_started is_closed : Bool) (one : Result A Fault) (other : Result B Fault) (before after : KeeperState) → has_failed other ≡ has_failed one → IsAfterCall is_started is_closed one before after → IsAfterCall after.started after.closed other before after
-call_as is_started is_closed one other before after same call = record {
-  is_sound = call.is_sound;
-  started_is = refl;
-  closed_is = refl;
-  spent_is = call.spent_is ∙ sym same;
-  told = call.told;
-  faults = record {
-    cause = λ failed. call.faults.cause (sym same ∙ failed);
-    unfailed = λ fine. call.faults.unfailed (sym same ∙ fine);
-    rises = call.faults.rises;
-  };
 }

@@ -6,7 +6,7 @@ use Rattle.hippo_io.specs.declared.lines.Line.{Line}
 use Rattle.hippo_io.specs.declared.lines.LineFault.{LineFault}
 use Rattle.hippo_io.specs.declared.lines.LineFault.TheVariants.{TooMuch}
 use Rattle.hippo_io.specs.Position.{Position}
-use Rattle.hippo_io.specs.HandingOut.{HasHandedOut, HasGivenUp, input_limit}
+use Rattle.hippo_io.specs.HandingOut.{HasHandedOut, input_limit}
 use Rattle.hippo_io.specs.Told.{Appends, AppendsFront}
 use Rattle.hippo_model.specs.Terms.{History}
 use Rattle.hippo_keeper.specs.Answering.{has_failed}
@@ -23,7 +23,7 @@ use Rattle.hippo_engine.specs.Carrying.{as_call, Carries, HasEffect, BreaksOff}
 use Rattle.hippo_engine.specs.Effects.{Effect, IsEffect, effect_of}
 use Rattle.hippo_engine.specs.Runs.{IsRun, replies, history_after, world_after}
 use Rattle.hippo_serve.specs.Keeping.{KeepsHistory}
-use Rattle.hippo_serve.specs.Runs.{opening_after, IsServed, IsCutOff, IsUnwritten, IsBrokenOff, HasServed}
+use Rattle.hippo_serve.specs.Runs.{opening_after, IsServed, IsTakenFrom, IsUnwritten, IsBrokenOff, HasServed}
 use Rattle.hippo_serve.proofs.KeptLemmas.{kept_forms, KeepsHistory-after, KeepsEither-after}
 
 flat_map-last : {A B : Type 0} (f : A → List B) (front : List A) (last : A) → flat_map f (front ++ last ∷ []) ≡ flat_map f front ++ f last
@@ -97,6 +97,9 @@ module _ (history : History) (input before : Txt) (reader reader' : Position) (l
   here = history_after history served.effects
 
   module _ (line : LineText) (handing : HasHandedOut input (served.handed ++ line ∷ []) reader' left') where
+    taken_from : reader'.taken ≤ input_limit → IsTakenFrom input left'
+    taken_from limit = record { count = reader'.taken; within = handing.within; left = handing.told; limit = limit }
+
     module _ (result : Result (Unit {0}) EngineFault) (carries : Carries (command_of line) result engine engine' keeper keeper') (good : has_failed (as_call result) ≡ false) where
       abbrev done : HasEffect here (command_of line) engine engine' keeper keeper'
       done = carries.carried good here served.stands
@@ -138,14 +141,11 @@ module _ (history : History) (input before : Txt) (reader reader' : Position) (l
         replied = served.handed ++ line ∷ [];
         others = lines (reader'.waiting ++ drop reader'.taken input);
         front = front.0;
-        taken = reader'.taken;
+        taken = taken_from limit;
         order = handing.others;
         run = run_on;
         written = front.1 (before ++ replies served.effects) served.written
             ∙ ap (λ (reply : Txt). Some (before ++ replies served.effects ++ take front.0 reply)) done.reply;
-        within = handing.within;
-        left = handing.told;
-        limit = limit;
         kept = kept_on tells;
       }
 
@@ -158,17 +158,16 @@ module _ (history : History) (input before : Txt) (reader reader' : Position) (l
           replied = served.handed;
           next = line;
           others = lines (reader'.waiting ++ drop reader'.taken input);
-          entry = breaks.entry;
-          taken = reader'.taken;
+          taken = taken_from limit;
           order = handing.others ∙ append_assoc served.handed (line ∷ []) (lines (reader'.waiting ++ drop reader'.taken input));
           run = served.run;
           written = same ∙ served.written;
-          within = handing.within;
-          left = handing.told;
-          limit = limit;
-          adds = subst (λ (w : World). (effect_of here w (command_of line)).added ≡ breaks.entry ∷ []) served.world breaks.adds;
-          follows = breaks.follows;
-          kept = KeepsEither-after here breaks.entry keeper keeper' breaks.follows (served.kept (carries.call.told tells)) (breaks.kept tells);
+          kept = record {
+            entry = breaks.entry;
+            adds = subst (λ (w : World). (effect_of here w (command_of line)).added ≡ breaks.entry ∷ []) served.world breaks.adds;
+            follows = breaks.follows;
+            kept = KeepsEither-after here breaks.entry keeper keeper' breaks.follows (served.kept (carries.call.told tells)) (breaks.kept tells);
+          };
         }
 
   -- the input has ended
@@ -186,14 +185,3 @@ module _ (history : History) (input before : Txt) (reader reader' : Position) (l
     where
       drop_told : (rest : Txt) → ◌≡◌ {A = Option Txt} (Some rest) (Some []) → rest ≡ []
       drop_told rest e = cc
-
-  -- nothing more can be read
-  pub cut_off : HasGivenUp input served.handed reader' left' → keeper.tells → IsCutOff history input before left' output keeper reader'.taken
-  cut_off given tells = record {
-    effects = served.effects;
-    within = given.within;
-    left = given.told;
-    run = rw (← given.whole) served.run;
-    written = served.written;
-    kept = served.kept tells;
-  }

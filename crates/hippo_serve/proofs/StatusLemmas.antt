@@ -1,32 +1,8 @@
 -- Each status is that of one ending.
-use Rattle.std.proofs.Common.{◌≡◌, ℕ, ◌∷◌, [], ◌==◌, if◌then◌else◌, Any, arith, refl, ap, sym, ◌∙◌}
+use Rattle.std.proofs.Common.{◌≡◌, ℕ, ◌∷◌, [], Any, arith, refl}
 use Rattle.hippo_serve.specs.declared.endings.Ending.{Ending}
 use Rattle.hippo_serve.specs.declared.endings.Ending.TheVariants.{Served, Refused, KeeperFault, ReadFault, WriteFault, Damaged, NoMemory, TooMuch}
 use Rattle.hippo_serve.specs.Endings.{status_of}
-
-abbrev ending_of : ℕ → Ending
-ending_of status =
-    if status == 0 then Served
-    else if status == 2 then Refused
-    else if status == 3 then KeeperFault
-    else if status == 4 then ReadFault
-    else if status == 5 then WriteFault
-    else if status == 6 then Damaged
-    else if status == 7 then NoMemory
-    else TooMuch
-
-again : (ending : Ending) → ending_of (status_of ending) ≡ ending
-again Served = refl
-again Refused = refl
-again KeeperFault = refl
-again ReadFault = refl
-again WriteFault = refl
-again Damaged = refl
-again NoMemory = refl
-again TooMuch = refl
-
-pub one_ending : (one other : Ending) → status_of one ≡ status_of other → one ≡ other
-one_ending one other e = sym (again one) ∙ ap ending_of e ∙ again other
 
 -- an ending's status is one of eight
 pub status-listed : (ending : Ending) (status : ℕ) → status ≡ status_of ending → Any (λ listed. status ≡ listed) (0 ∷ 2 ∷ 3 ∷ 4 ∷ 5 ∷ 6 ∷ 7 ∷ 8 ∷ [])

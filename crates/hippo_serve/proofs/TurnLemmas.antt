@@ -1,27 +1,30 @@
 -- What a call with a line makes of a run.
-use Rattle.std.proofs.Common.{◌≡◌, ◌≢◌, ◌≤◌, ◌++◌, ◌∷◌, [], true, false, Option, Some, None, IfNone, MatchOption, Ok, Err, refl, sym, subst}
+use Rattle.std.proofs.Common.{◌≡◌, ◌≢◌, ◌≤◌, ◌++◌, ◌∷◌, [], true, false, Option, Some, None, IfNone, MatchOption, Ok, Err, refl, sym, subst, ◌∙◌}
 use Rattle.hippo_values.specs.Texts.{Txt}
 use Rattle.hippo_io.specs.Lines.{LineText, lines}
 use Rattle.hippo_io.specs.Position.{Position}
 use Rattle.hippo_io.specs.HandingOut.{HasHandedOut, input_limit}
 use Rattle.hippo_io.specs.Told.{Appends, AppendsFront}
 use Rattle.hippo_model.specs.Terms.{History}
+use Rattle.hippo_keeper.specs.declared.faults.KeeperFault.{KeeperFault as Fault}
 use Rattle.hippo_keeper.specs.Keeping.{KeeperState, IsReady, IsAfterCall}
-use Rattle.hippo_replay.specs.Standing.{IsSound}
-use Rattle.hippo_replay.specs.TakingIn.{HasLoaded}
-use Rattle.hippo_replay.proofs.KeeperLemmas.{IsAfterCall-none}
-use Rattle.hippo_commands.specs.Commands.{Command, command_of}
+use Rattle.hippo_replay.proofs.KeeperLemmas.{IsAfterCall-none, IsReady-after}
+use Rattle.hippo_replay.proofs.Results.{well}
+use Rattle.hippo_commands.specs.Commands.{Command, command_of, commanded}
 use Rattle.hippo_engine.specs.declared.engine.Engine.{Engine}
 use Rattle.hippo_engine.specs.declared.faults.EngineFault.TheVariants.{Keeper, Write}
-use Rattle.hippo_engine.specs.Carrying.{Carries}
+use Rattle.hippo_engine.specs.Carrying.{AtWork, Carries}
 use Rattle.hippo_serve.specs.declared.endings.Ending.{Ending}
-use Rattle.hippo_serve.specs.declared.endings.Ending.TheVariants.{Served, Refused, KeeperFault, ReadFault, WriteFault, Damaged, NoMemory, TooMuch}
+use Rattle.hippo_serve.specs.declared.endings.Ending.TheVariants.{Served, Refused, KeeperFault, ReadFault, WriteFault, Damaged, NoMemory}
 use Rattle.hippo_serve.specs.Endings.{as_line_call}
 use Rattle.hippo_serve.specs.Runs.{IsServed, LinesEnd, HasServed, Turn}
 use Rattle.hippo_serve.proofs.RunLemmas.{loaded_after, served_more, unwritten, broken_off, all_served}
 
+some_line : (text : LineText) → Some text ≢ None
+some_line text e = cc
+
 module _ (line : Option LineText) (result : Option Ending) (engine engine' : Engine) (keeper keeper' : KeeperState) (output output' : Option Txt)
-    (turn : (text : LineText) → line ≡ Some text → Turn result (command_of text) engine engine' keeper keeper' output output')
+    (turn : line ≢ None → Turn result (commanded line) engine engine' keeper keeper' output output')
     (end : line ≡ None → (result ≡ Some Served) × (engine' ≡ engine) × (output' ≡ output))
     (same : line ≡ None → keeper' ≡ keeper) where
   by_turn : (Q : Option Ending → Type 0) (command : Command)
@@ -30,14 +33,9 @@ module _ (line : Option LineText) (result : Option Ending) (engine engine' : Eng
       → (Carries {A = Unit {0}} command (Err Write) engine engine' keeper keeper' → AppendsFront output output' engine'.reply → Q (Some WriteFault))
       → (r : Option Ending) → Turn r command engine engine' keeper keeper' output output' → Q r
   by_turn Q command on broken cut None turned = on turned.0 turned.1
-  by_turn Q command on broken cut (Some Served) turned = absurd turned
-  by_turn Q command on broken cut (Some Refused) turned = absurd turned
   by_turn Q command on broken cut (Some KeeperFault) turned = broken turned.0 turned.1
-  by_turn Q command on broken cut (Some ReadFault) turned = absurd turned
   by_turn Q command on broken cut (Some WriteFault) turned = cut turned.0 turned.1
-  by_turn Q command on broken cut (Some Damaged) turned = absurd turned
-  by_turn Q command on broken cut (Some NoMemory) turned = absurd turned
-  by_turn Q command on broken cut (Some TooMuch) turned = absurd turned
+  by_turn Q command on broken cut (Some ending) turned = absurd turned
 
   by_line : (Q : Option Ending → Type 0) → (line ≡ None → Q (Some Served))
       → ((text : LineText) → line ≡ Some text → Carries {A = Unit {0}} (command_of text) (Ok tt) engine engine' keeper keeper' → Appends output output' engine'.reply → Q None)
@@ -48,7 +46,8 @@ module _ (line : Option LineText) (result : Option Ending) (engine engine' : Eng
     where
       at : (l : Option LineText) → line ≡ l → Q result
       at None is = subst Q (sym (end is).0) (done is)
-      at (Some text) is = by_turn Q (command_of text) (on text is) (broken text is) (cut text is) result (turn text is)
+      at (Some text) is = by_turn Q (command_of text) (on text is) (broken text is) (cut text is) result
+          (subst (λ (l : Option LineText). Turn result (commanded l) engine engine' keeper keeper' output output') is (turn (λ none. some_line text (sym is ∙ none))))
 
   pub status_of_turn : (result ≢ Some Refused) × (result ≢ Some Damaged) × (result ≢ Some NoMemory)
   status_of_turn = by_line (λ r. (r ≢ Some Refused) × (r ≢ Some Damaged) × (r ≢ Some NoMemory))
@@ -67,25 +66,14 @@ module _ (line : Option LineText) (result : Option Ending) (engine engine' : Eng
       (λ text is carries writes. carries.call)
       (λ text is carries writes. carries.call)
 
-  pub sound_after_turn : IfNone result (IsSound engine'.state)
-  sound_after_turn = by_line (λ r. IfNone r (IsSound engine'.state))
+  pub at_work_after_turn : AtWork engine.state keeper → IfNone result (AtWork engine'.state keeper')
+  at_work_after_turn at_work = by_line (λ r. IfNone r (AtWork engine'.state keeper'))
       (λ is. tt)
-      (λ text is carries writes. carries.sound refl)
-      (λ text is carries writes. tt)
-      (λ text is carries writes. tt)
-
-  pub loaded_after_turn : (keeper.tells → HasLoaded engine.state keeper.kept) → IfNone result (keeper'.tells → HasLoaded engine'.state keeper'.kept)
-  loaded_after_turn loaded = by_line (λ r. IfNone r (keeper'.tells → HasLoaded engine'.state keeper'.kept))
-      (λ is. tt)
-      (λ text is carries writes. loaded_after (command_of text) engine engine' keeper keeper' carries loaded)
-      (λ text is carries writes. tt)
-      (λ text is carries writes. tt)
-
-  -- it goes on only behind a line
-  pub goes_on_after_turn : (P : LineText → Type 0) (Goes : Type 0) → MatchOption line (Unit {0}) P → ((text : LineText) → P text → Goes) → IfNone result Goes
-  goes_on_after_turn P Goes moves goes = by_line (λ r. IfNone r Goes)
-      (λ is. tt)
-      (λ text is carries writes. goes text (subst (λ (l : Option LineText). MatchOption l (Unit {0}) P) is moves))
+      (λ text is carries writes. record {
+        sound = carries.sound refl;
+        ready = IsReady-after (well Fault) keeper keeper' refl carries.call;
+        told = loaded_after (command_of text) engine engine' keeper keeper' carries at_work.told;
+      })
       (λ text is carries writes. tt)
       (λ text is carries writes. tt)
 

@@ -21,13 +21,14 @@ whole_and_front old mid new first second whole front =
 pub both_whole : (old mid new : Option Txt) (first second : Txt) → Appends old mid first → Appends mid new second → Appends old new (first ++ second)
 both_whole old mid new first second one other told is = other (told ++ first) (one told is) ∙ ap Some (append_assoc told first second)
 
-pub ok_then : {T E P Q : Type 0} (result : Result T E) → (P → Q) → OnOk result P → OnOk result Q
-ok_then (Ok value) more p = more p
-ok_then (Err fault) more p = tt
-
-pub err_then : {T E P Q : Type 0} (result : Result T E) → (P → Q) → OnErr result P → OnErr result Q
-err_then (Ok value) more p = tt
-err_then (Err fault) more p = more p
+-- two pieces are written, and then a third, or a front of it
+pub three_written : {T E : Type 0} (result : Result T E) (old one two new : Option Txt) (first second third : Txt) → Appends old one first → Appends one two second
+    → OnOk result (Appends two new third) → OnErr result (AppendsFront two new third)
+    → OnOk result (Appends old new (first ++ (second ++ third))) × OnErr result (AppendsFront old new (first ++ (second ++ third)))
+three_written (Ok value) old one two new first second third whole next ok failed =
+    (both_whole old one new first (second ++ third) whole (both_whole one two new second third next ok), tt)
+three_written (Err fault) old one two new first second third whole next ok failed =
+    (tt, whole_and_front old one new first (second ++ third) whole (whole_and_front one two new second third next failed))
 
 -- what holds anyway holds of an error
 pub err_so : {T E : Type 0} (result : Result T E) (P : Type 0) → P → OnErr result P

@@ -17,14 +17,8 @@ status_of TooMuch = 8
 
 -- all that a program did with its keeper, as one call of it
 abbrev pub as_call : Ending → Result (Unit {0}) Fault
-as_call Served = Ok tt
-as_call Refused = Ok tt
 as_call KeeperFault = Err Failed
-as_call ReadFault = Ok tt
-as_call WriteFault = Ok tt
-as_call Damaged = Ok tt
-as_call NoMemory = Ok tt
-as_call TooMuch = Ok tt
+as_call ending = Ok tt
 
 -- what a line did with it, where the run may end there
 abbrev pub as_line_call : Option Ending → Result (Unit {0}) Fault

@@ -88,15 +88,13 @@ Counts finds keeper steps_before steps holds =
 abbrev pub CheckEnds : Ending → Type 0 → Survivors → Option Txt → Option Txt → KeeperState → ℕ → ℕ → Type 0
 CheckEnds Served unwritten finds written written' keeper steps steps' =
     Counts finds keeper steps steps' (λ count. Appends written written' (entries_line count))
-CheckEnds Refused unwritten finds written written' keeper steps steps' = ⊥
 CheckEnds KeeperFault unwritten finds written written' keeper steps steps' = unwritten × IsIdle finds keeper
-CheckEnds ReadFault unwritten finds written written' keeper steps steps' = ⊥
 CheckEnds WriteFault unwritten finds written written' keeper steps steps' =
     BeginsDamaged finds written written' keeper
     ⊎ Counts finds keeper steps steps' (λ count. AppendsFront written written' (entries_line count))
 CheckEnds Damaged unwritten finds written written' keeper steps steps' = SaysDamaged finds written written' keeper
 CheckEnds NoMemory unwritten finds written written' keeper steps steps' = unwritten × IsIdle finds keeper
-CheckEnds TooMuch unwritten finds written written' keeper steps steps' = ⊥
+CheckEnds ending unwritten finds written written' keeper steps steps' = ⊥
 
 -- how the program ends where what is kept was not loaded: the keeper failed or memory was short, and nothing is
 -- written; or the place of damage is said

@@ -22,7 +22,7 @@ use Rattle.hippo_engine.specs.Carrying.{Carries}
 use Rattle.hippo_engine.specs.Effects.{Effect, effect_of}
 use Rattle.hippo_engine.specs.Runs.{IsRun, replies, history_after, world_after}
 use Rattle.hippo_serve.specs.declared.endings.Ending.{Ending}
-use Rattle.hippo_serve.specs.declared.endings.Ending.TheVariants.{Served, Refused, KeeperFault, ReadFault, WriteFault, Damaged, NoMemory, TooMuch}
+use Rattle.hippo_serve.specs.declared.endings.Ending.TheVariants.{Served, KeeperFault, ReadFault, WriteFault, TooMuch}
 use Rattle.hippo_serve.specs.Keeping.{KeepsHistory, KeepsEither}
 
 -- how many entries a history may have
@@ -54,6 +54,13 @@ pub record IsCutOff (history : History) (input before : Txt) (rest output : Opti
   pub written : output ≡ Some (before ++ replies effects)
   pub kept : KeepsHistory (history_after history effects) keeper
 
+-- some bytes of the input were taken, within the limit, and the others are left
+pub record IsTakenFrom (input : Txt) (rest : Option Txt) : Type 0 where
+  pub count : ℕ
+  pub within : count ≤ length input
+  pub left : rest ≡ Some (drop count input)
+  pub limit : count ≤ input_limit
+
 -- the first lines have their replies, and then a front of the next line's reply is written; what that line left is kept
 pub record IsUnwritten (history : History) (input before : Txt) (rest output : Option Txt)
     (keeper : KeeperState) : Type 0 where
@@ -62,13 +69,10 @@ pub record IsUnwritten (history : History) (input before : Txt) (rest output : O
   pub replied : List LineText
   pub others : List LineText
   pub front : ℕ
-  pub taken : ℕ
+  pub taken : IsTakenFrom input rest
   pub order : lines input ≡ replied ++ others
   pub run : IsRun history (opening_after history) replied (effects ++ last ∷ [])
   pub written : output ≡ Some (before ++ replies effects ++ take front last.reply)
-  pub within : taken ≤ length input
-  pub left : rest ≡ Some (drop taken input)
-  pub limit : taken ≤ input_limit
   pub kept : KeepsHistory (history_after history (effects ++ last ∷ [])) keeper
 
 -- what the rules add for a line behind some effects
@@ -76,6 +80,13 @@ abbrev pub added_next : History → List Effect → LineText → History
 added_next history effects line =
     let world : World = world_after (opening_after history) effects in
     (effect_of (history_after history effects) world (command_of line)).added
+
+-- a history is kept, or that with the one entry that the rules add to it
+pub record KeepsOrAdds (history added : History) (keeper : KeeperState) : Type 0 where
+  pub entry : Entry
+  pub adds : added ≡ entry ∷ []
+  pub follows : may_follow meaning history entry ≡ true
+  pub kept : KeepsEither history (history ++ entry ∷ []) keeper
 
 -- the first lines have their replies, and nothing is written of the next one's; what they left is kept, or that with
 -- the one entry that the rules add for the next line
@@ -85,30 +96,22 @@ pub record IsBrokenOff (history : History) (input before : Txt) (rest output : O
   pub replied : List LineText
   pub next : LineText
   pub others : List LineText
-  pub entry : Entry
-  pub taken : ℕ
+  pub taken : IsTakenFrom input rest
   pub order : lines input ≡ replied ++ next ∷ others
   pub run : IsRun history (opening_after history) replied effects
   pub written : output ≡ Some (before ++ replies effects)
-  pub within : taken ≤ length input
-  pub left : rest ≡ Some (drop taken input)
-  pub limit : taken ≤ input_limit
-  pub adds : added_next history effects next ≡ entry ∷ []
-  pub follows : may_follow meaning (history_after history effects) entry ≡ true
-  pub kept : KeepsEither (history_after history effects) (history_after history effects ++ entry ∷ []) keeper
+  pub kept : KeepsOrAdds (history_after history effects) (added_next history effects next) keeper
 
 -- how a run over lines ends, between what is left of an input and what a sink has written
 abbrev pub LinesEnd : Ending → History → Txt → Txt → Option Txt → Option Txt → KeeperState → Type 0
 LinesEnd Served history input before left written keeper = IsServed history input before left written keeper
-LinesEnd Refused history input before left written keeper = ⊥
 LinesEnd KeeperFault history input before left written keeper = IsBrokenOff history input before left written keeper
 LinesEnd ReadFault history input before left written keeper =
     (taken : ℕ) × (taken ≤ input_limit) × IsCutOff history input before left written keeper taken
 LinesEnd WriteFault history input before left written keeper = IsUnwritten history input before left written keeper
-LinesEnd Damaged history input before left written keeper = ⊥
-LinesEnd NoMemory history input before left written keeper = ⊥
 LinesEnd TooMuch history input before left written keeper =
     (taken : ℕ) × (input_limit < taken) × IsCutOff history input before left written keeper taken
+LinesEnd ending history input before left written keeper = ⊥
 
 -- so far the lines that were handed out have their replies, and the engine is as the last one left it; where the keeper
 -- tells what it keeps, that is kept
@@ -126,16 +129,10 @@ pub record HasServed (history : History) (input before : Txt) (reader : Position
 -- what a call with a line did: the line was carried out and replied to, or the keeper failed, or the sink did
 abbrev pub Turn : Option Ending → Command → Engine → Engine → KeeperState → KeeperState → Option Txt → Option Txt
     → Type 0
-Turn None command old new before after written_before written_after =
-    Carries {A = Unit {0}} command (Ok tt) old new before after × Appends written_before written_after new.reply
-Turn (Some Served) command old new before after written_before written_after = ⊥
-Turn (Some Refused) command old new before after written_before written_after = ⊥
-Turn (Some KeeperFault) command old new before after written_before written_after =
-    Carries {A = Unit {0}} command (Err Keeper) old new before after × (written_after ≡ written_before)
-Turn (Some ReadFault) command old new before after written_before written_after = ⊥
-Turn (Some WriteFault) command old new before after written_before written_after =
-    Carries {A = Unit {0}} command (Err Write) old new before after
-    × AppendsFront written_before written_after new.reply
-Turn (Some Damaged) command old new before after written_before written_after = ⊥
-Turn (Some NoMemory) command old new before after written_before written_after = ⊥
-Turn (Some TooMuch) command old new before after written_before written_after = ⊥
+Turn None command old new before after written written' =
+    Carries {A = Unit {0}} command (Ok tt) old new before after × Appends written written' new.reply
+Turn (Some KeeperFault) command old new before after written written' =
+    Carries {A = Unit {0}} command (Err Keeper) old new before after × (written' ≡ written)
+Turn (Some WriteFault) command old new before after written written' =
+    Carries {A = Unit {0}} command (Err Write) old new before after × AppendsFront written written' new.reply
+Turn (Some ending) command old new before after written written' = ⊥

@@ -2,16 +2,15 @@
 ghost use Rattle.std.specs.Prelude.{◌≡◌, ◌≢◌, ◌<◌, ◌≤◌, List, [], ℕ, Some, None, IfNone, IfOk, MatchOption, true, false};
 ghost use Rattle.hippo_io.specs.Faults.{HasRisen};
 ghost use Rattle.hippo_io.specs.HandingOut.{at_beginning, consumed, input_limit, HasHandedOut};
-ghost use Rattle.hippo_io.specs.Lines.{LineText};
 ghost use Rattle.hippo_io.specs.LineTexts.{line_text};
 ghost use Rattle.hippo_model.specs.Terms.{History};
-ghost use Rattle.hippo_keeper.specs.Keeping.{IsReady, IsAfterCall};
-ghost use Rattle.hippo_commands.specs.Commands.{command_of};
+ghost use Rattle.hippo_keeper.specs.Keeping.{IsAfterCall};
+ghost use Rattle.hippo_commands.specs.Commands.{commanded};
 ghost use Rattle.hippo_report.specs.declared.format.Format.TheVariants.{Text};
-ghost use Rattle.hippo_replay.specs.Standing.{StandsFor, IsSound};
-ghost use Rattle.hippo_replay.specs.TakingIn.{HasLoaded};
+ghost use Rattle.hippo_replay.specs.Standing.{StandsFor};
 ghost use Rattle.hippo_world.specs.Holding.{world_of};
 ghost use Rattle.hippo_world.specs.Worlds.{opening};
+ghost use Rattle.hippo_engine.specs.Carrying.{AtWork};
 ghost use Rattle.hippo_serve.specs.declared.endings.Ending.TheVariants.{Served, Refused, ReadFault, WriteFault, Damaged, NoMemory};
 ghost use Rattle.hippo_serve.specs.Endings.{as_call, as_line_call};
 ghost use Rattle.hippo_serve.specs.Keeping.{KeepsHistory};
@@ -38,11 +37,9 @@ fn carry_out<K: Sink, P: Keeper>(
     keeper: &mut P,
     sink: &mut K,
 ) -> Option<Ending>
-    requires sound { IsSound engine.old.state }
-    requires ready { IsReady true (P.state keeper.old) }
-    requires told { (P.state keeper.old).tells → HasLoaded engine.old.state (P.state keeper.old).kept }
-    ensures line { (text : LineText) → line_text line.entry ≡ Some text →
-        Turn result (command_of text) engine.old engine.new (P.state keeper.old) (P.state keeper.new)
+    requires at_work { AtWork engine.old.state (P.state keeper.old) }
+    ensures line { line_text line.entry ≢ None →
+        Turn result (commanded (line_text line.entry)) engine.old engine.new (P.state keeper.old) (P.state keeper.new)
         (K.written sink.old) (K.written sink.new) }
     ensures end { line_text line.entry ≡ None →
         (result ≡ Some Served) × (engine.new ≡ engine.old) × (keeper.new ≡ keeper.old) × (sink.new ≡ sink.old) }
@@ -69,14 +66,11 @@ fn serve_line<S: Source, K: Sink, P: Keeper>(
     sink: &mut K,
 ) -> Option<Ending>
     requires reader { reader.old.failure ≡ None }
-    requires sound { IsSound engine.old.state }
-    requires ready { IsReady true (P.state keeper.old) }
-    requires told { (P.state keeper.old).tells → HasLoaded engine.old.state (P.state keeper.old).kept }
+    requires at_work { AtWork engine.old.state (P.state keeper.old) }
     ensures status { (result ≢ Some Refused) × (result ≢ Some Damaged) × (result ≢ Some NoMemory) }
     ensures goes_on { IfNone result ((reader.new.failure ≡ None)
         × (consumed reader.old < consumed reader.new) × (reader.new.taken ≤ input_limit)) }
-    ensures sound { IfNone result (IsSound engine.new.state) }
-    ensures told { IfNone result ((P.state keeper.new).tells → HasLoaded engine.new.state (P.state keeper.new).kept) }
+    ensures at_work { IfNone result (AtWork engine.new.state (P.state keeper.new)) }
     ensures call { IsAfterCall true false (as_line_call result) (P.state keeper.old) (P.state keeper.new) }
     ensures served { (history : History) (input before : List ℕ) →
         HasServed history input before reader.old (S.left source.old) engine.old (P.state keeper.old)
@@ -109,9 +103,7 @@ fn serve_lines<S: Source, K: Sink, P: Keeper>(
 ) -> Ending
     requires reader { reader.old ≡ at_beginning }
     requires handed { (input : List ℕ) → HasHandedOut input [] reader.old (Some input) }
-    requires sound { IsSound engine.old.state }
-    requires ready { IsReady true (P.state keeper.old) }
-    requires told { (P.state keeper.old).tells → HasLoaded engine.old.state (P.state keeper.old).kept }
+    requires at_work { AtWork engine.old.state (P.state keeper.old) }
     ensures status { (result ≢ Refused) × (result ≢ Damaged) × (result ≢ NoMemory) }
     ensures call { IsAfterCall true false (as_call result) (P.state keeper.old) (P.state keeper.new) }
     ensures ends { (P.state keeper.new).tells → (history : History) → StandsFor engine.old.state history →
@@ -146,9 +138,7 @@ pub fn serve<S: Source, K: Sink, P: Keeper>(
     keeper: &mut P,
     sink: &mut K,
 ) -> Ending
-    requires sound { IsSound state }
-    requires ready { IsReady true (P.state keeper.old) }
-    requires told { (P.state keeper.old).tells → HasLoaded state (P.state keeper.old).kept }
+    requires at_work { AtWork state (P.state keeper.old) }
     ensures status { (result ≢ Refused) × (result ≢ Damaged) }
     ensures call { IsAfterCall true false (as_call result) (P.state keeper.old) (P.state keeper.new) }
     ensures nothing { result ≡ NoMemory →

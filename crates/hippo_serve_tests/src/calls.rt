@@ -103,3 +103,27 @@ pub(crate) fn check_over(
     assert_eq!(rt; sink.bytes(), output.as_bytes());
     Ok(())
 }
+
+// The same for one word, where nothing outside fails.
+pub(crate) fn check_job(
+    rt: &impl Abort,
+    alloc: Global,
+    word: &str,
+    input: &[u8],
+    keeper: &mut MemoryKeeper,
+    ending: Ending,
+    output: &str,
+) -> Result<(), Memory>
+    requires ready { IsReady false (seen keeper.old) }
+{
+    check_over(
+        rt,
+        alloc,
+        &[word],
+        input,
+        &FAULTLESS,
+        keeper,
+        ending,
+        output,
+    )
+}

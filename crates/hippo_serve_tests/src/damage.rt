@@ -2,7 +2,7 @@ ghost use Rattle.std.specs.Prelude.{false, IsTrue, IfSome};
 ghost use Rattle.hippo_keeper.specs.Keeping.{IsReady, RisesAbove};
 ghost use Rattle.hippo_keeper.specs.MemoryKeeping.{seen};
 
-use crate::calls::{FAULTLESS, check_over, joined};
+use crate::calls::{check_job, joined};
 use hippo_keeper::{KeeperFails, MemoryKeeper};
 use hippo_model::{StoredEntry, StoredList};
 use hippo_serve::Ending;
@@ -269,12 +269,11 @@ fn morning(rt: &impl Abort, alloc: Global) -> Result<MemoryKeeper, Memory> {
     let input = joined(alloc, &LINES)?;
     let mut keeper = MemoryKeeper::new(StoredList::new(alloc), KeeperFails::new(alloc));
     let bytes = input.as_str().as_bytes();
-    check_over(
+    check_job(
         rt,
         alloc,
-        &["run"],
+        "run",
         bytes,
-        &FAULTLESS,
         &mut keeper,
         Ending::Served,
         REPLIES,
@@ -290,16 +289,7 @@ fn check_case(
 ) -> Result<(), Fail> {
     let list = changed(alloc, kept, case)?;
     let mut keeper = keeper_of(alloc, list).ok_or("numbers that do not rise")?;
-    check_over(
-        rt,
-        alloc,
-        &["check"],
-        b"",
-        &FAULTLESS,
-        &mut keeper,
-        case.3,
-        case.4,
-    )?;
+    check_job(rt, alloc, "check", b"", &mut keeper, case.3, case.4)?;
     Ok(())
 }
 

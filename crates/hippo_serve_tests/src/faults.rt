@@ -2,7 +2,7 @@ ghost use Rattle.std.specs.Prelude.{false, IfOk};
 ghost use Rattle.hippo_keeper.specs.Keeping.{IsReady};
 ghost use Rattle.hippo_keeper.specs.MemoryKeeping.{seen};
 
-use crate::calls::{FAULTLESS, Outside, check_over, joined};
+use crate::calls::{FAULTLESS, Outside, check_job, check_over, joined};
 use hippo_keeper::{KeeperFail, KeeperFails, MemoryKeeper};
 use hippo_model::StoredList;
 use hippo_serve::Ending;
@@ -166,27 +166,10 @@ fn keeper_fails(
     let output = replies(alloc, count)?;
     let mut keeper = keeper(alloc, &[KeeperFail { call, keeps }])?;
     let output = output.as_str();
-    check_over(
-        rt,
-        alloc,
-        &["run"],
-        input,
-        &FAULTLESS,
-        &mut keeper,
-        ending,
-        output,
-    )?;
+    check_job(rt, alloc, "run", input, &mut keeper, ending, output)?;
     let mut left = keeper.restart();
-    check_over(
-        rt,
-        alloc,
-        &["check"],
-        b"",
-        &FAULTLESS,
-        &mut left,
-        Ending::Served,
-        entries,
-    )
+    let ending = Ending::Served;
+    check_job(rt, alloc, "check", b"", &mut left, ending, entries)
 }
 
 // The call that fails, how many lines are replied to, and what a check then says where the entry is not kept, and where

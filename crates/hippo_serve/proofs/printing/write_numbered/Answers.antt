@@ -1,6 +1,6 @@
 -- Three writes, one after the other.
 use Rattle.std.proofs.Common.{◌++◌, ◌∙◌, codes, decimal}
-use Rattle.hippo_serve.proofs.WriteLemmas.{front_of_more, whole_and_front, both_whole, ok_then, err_then, err_so}
+use Rattle.hippo_serve.proofs.WriteLemmas.{front_of_more, whole_and_front, err_so, three_written}
 use Rattle.hippo_serve.proofs.printing.write_numbered.Goals as goal
 
 pub returns-in_err-write_whole-clause-failed : goal.returns-in_err-write_whole-clause-failed
@@ -19,18 +19,12 @@ returns-in_err-write_whole-2-clause-failed g c =
 
 pub returns-clause-ok : goal.returns-clause-ok
 returns-clause-ok g c =
-    let whole = rw c.as_bytes.ensures.value at c.in_ok-write_whole.ensures.ok in
-    let second = rw (c.as_bytes-2.ensures.value ∙ c.format.ensures.text) at c.in_ok-write_whole-2.ensures.ok in
-    ok_then c.write_whole-3.result
-    (λ last. both_whole (g.K.Sink.written c.args.sink.now) (g.K.Sink.written c.write_whole.new.sink) (g.K.Sink.written c.write_whole-3.new.sink) c.args.words.now (decimal c.args.number ++ codes "\n") whole
-    (both_whole (g.K.Sink.written c.write_whole.new.sink) (g.K.Sink.written c.write_whole-2.new.sink) (g.K.Sink.written c.write_whole-3.new.sink) (decimal c.args.number) (codes "\n") second last))
-    c.write_whole-3.ensures.ok
+    (three_written c.write_whole-3.result (g.K.Sink.written c.args.sink.now) (g.K.Sink.written c.write_whole.new.sink) (g.K.Sink.written c.write_whole-2.new.sink) (g.K.Sink.written c.write_whole-3.new.sink)
+    c.args.words.now (decimal c.args.number) (codes "\n") (rw c.as_bytes.ensures.value at c.in_ok-write_whole.ensures.ok)
+    (rw (c.as_bytes-2.ensures.value ∙ c.format.ensures.text) at c.in_ok-write_whole-2.ensures.ok) c.write_whole-3.ensures.ok c.write_whole-3.ensures.failed).0
 
 pub returns-clause-failed : goal.returns-clause-failed
 returns-clause-failed g c =
-    let whole = rw c.as_bytes.ensures.value at c.in_ok-write_whole.ensures.ok in
-    let second = rw (c.as_bytes-2.ensures.value ∙ c.format.ensures.text) at c.in_ok-write_whole-2.ensures.ok in
-    err_then c.write_whole-3.result
-    (λ last. whole_and_front (g.K.Sink.written c.args.sink.now) (g.K.Sink.written c.write_whole.new.sink) (g.K.Sink.written c.write_whole-3.new.sink) c.args.words.now (decimal c.args.number ++ codes "\n") whole
-    (whole_and_front (g.K.Sink.written c.write_whole.new.sink) (g.K.Sink.written c.write_whole-2.new.sink) (g.K.Sink.written c.write_whole-3.new.sink) (decimal c.args.number) (codes "\n") second last))
-    c.write_whole-3.ensures.failed
+    (three_written c.write_whole-3.result (g.K.Sink.written c.args.sink.now) (g.K.Sink.written c.write_whole.new.sink) (g.K.Sink.written c.write_whole-2.new.sink) (g.K.Sink.written c.write_whole-3.new.sink)
+    c.args.words.now (decimal c.args.number) (codes "\n") (rw c.as_bytes.ensures.value at c.in_ok-write_whole.ensures.ok)
+    (rw (c.as_bytes-2.ensures.value ∙ c.format.ensures.text) at c.in_ok-write_whole-2.ensures.ok) c.write_whole-3.ensures.ok c.write_whole-3.ensures.failed).1

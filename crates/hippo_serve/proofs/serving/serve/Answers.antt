@@ -4,8 +4,8 @@ use Rattle.hippo_values.specs.declared.moments.Moment.{Moment}
 use Rattle.hippo_report.specs.declared.format.Format.TheVariants.{Text}
 use Rattle.hippo_replay.specs.declared.state.State.{State}
 use Rattle.hippo_replay.specs.Standing.{StandsFor}
-use Rattle.hippo_replay.specs.TakingIn.{HasLoaded}
 use Rattle.hippo_world.specs.Worlds.{opening}
+use Rattle.hippo_engine.specs.Carrying.{AtWork}
 use Rattle.hippo_serve.specs.Runs.{entry_limit}
 use Rattle.hippo_serve.proofs.serving.serve.Goals as goal
 
@@ -15,6 +15,6 @@ returns-in-Ok-open-clause-ends g c = λ some tells history stands keeps.
     (subst (λ (state : State). StandsFor state history) (sym c.in-Ok-open.ensures.state) stands)
     (c.in-Ok-open.ensures.world ∙ ap (λ (moment : Moment). opening moment entry_limit Text) stands.last) keeps
 
-pub serve_lines-ending-requires-clause-told : goal.serve_lines-ending-requires-clause-told
-serve_lines-ending-requires-clause-told g c = λ tells.
-    subst (λ (state : State). HasLoaded state (g.P.Keeper.state c.args.keeper.now).kept) (sym c.in-Ok-open.ensures.state) (c.requires.told tells)
+pub serve_lines-ending-requires-clause-at_work : goal.serve_lines-ending-requires-clause-at_work
+serve_lines-ending-requires-clause-at_work g c =
+    subst (λ (state : State). AtWork state (g.P.Keeper.state c.args.keeper.now)) (sym c.in-Ok-open.ensures.state) c.requires.at_work

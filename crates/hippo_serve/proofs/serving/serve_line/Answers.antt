@@ -2,7 +2,7 @@
 use Rattle.std.proofs.Common.{ap}
 use Rattle.hippo_io.specs.LineTexts.{line_text}
 use Rattle.hippo_serve.proofs.RunLemmas.{within_limit}
-use Rattle.hippo_serve.proofs.TurnLemmas.{status_of_turn, no_read_fault, call_of_turn, sound_after_turn, loaded_after_turn, served_by_turn}
+use Rattle.hippo_serve.proofs.TurnLemmas.{status_of_turn, no_read_fault, call_of_turn, at_work_after_turn, served_by_turn}
 use Rattle.hippo_serve.proofs.serving.serve_line.Goals as goal
 
 pub returns-in-Ok-clause-status : goal.returns-in-Ok-clause-status
@@ -10,20 +10,15 @@ returns-in-Ok-clause-status g c = status_of_turn (line_text c.in-Ok.line) c.carr
     (g.K.Sink.written c.args.sink.now) (g.K.Sink.written c.carry_out.new.sink) c.carry_out.ensures.line
     (λ is. ((c.carry_out.ensures.end is).0, (c.carry_out.ensures.end is).1, ap g.K.Sink.written (c.carry_out.ensures.end is).3)) (λ is. ap g.P.Keeper.state (c.carry_out.ensures.end is).2)
 
-pub returns-in-Ok-clause-sound : goal.returns-in-Ok-clause-sound
-returns-in-Ok-clause-sound g c = sound_after_turn (line_text c.in-Ok.line) c.carry_out.result c.args.engine.now c.carry_out.new.engine (g.P.Keeper.state c.args.keeper.now) (g.P.Keeper.state c.carry_out.new.keeper)
+pub returns-in-Ok-clause-at_work : goal.returns-in-Ok-clause-at_work
+returns-in-Ok-clause-at_work g c = at_work_after_turn (line_text c.in-Ok.line) c.carry_out.result c.args.engine.now c.carry_out.new.engine (g.P.Keeper.state c.args.keeper.now) (g.P.Keeper.state c.carry_out.new.keeper)
     (g.K.Sink.written c.args.sink.now) (g.K.Sink.written c.carry_out.new.sink) c.carry_out.ensures.line
-    (λ is. ((c.carry_out.ensures.end is).0, (c.carry_out.ensures.end is).1, ap g.K.Sink.written (c.carry_out.ensures.end is).3)) (λ is. ap g.P.Keeper.state (c.carry_out.ensures.end is).2)
-
-pub returns-in-Ok-clause-told : goal.returns-in-Ok-clause-told
-returns-in-Ok-clause-told g c = loaded_after_turn (line_text c.in-Ok.line) c.carry_out.result c.args.engine.now c.carry_out.new.engine (g.P.Keeper.state c.args.keeper.now) (g.P.Keeper.state c.carry_out.new.keeper)
-    (g.K.Sink.written c.args.sink.now) (g.K.Sink.written c.carry_out.new.sink) c.carry_out.ensures.line
-    (λ is. ((c.carry_out.ensures.end is).0, (c.carry_out.ensures.end is).1, ap g.K.Sink.written (c.carry_out.ensures.end is).3)) (λ is. ap g.P.Keeper.state (c.carry_out.ensures.end is).2) c.requires.told
+    (λ is. ((c.carry_out.ensures.end is).0, (c.carry_out.ensures.end is).1, ap g.K.Sink.written (c.carry_out.ensures.end is).3)) (λ is. ap g.P.Keeper.state (c.carry_out.ensures.end is).2) c.requires.at_work
 
 pub returns-in-Ok-clause-call : goal.returns-in-Ok-clause-call
 returns-in-Ok-clause-call g c = call_of_turn (line_text c.in-Ok.line) c.carry_out.result c.args.engine.now c.carry_out.new.engine (g.P.Keeper.state c.args.keeper.now) (g.P.Keeper.state c.carry_out.new.keeper)
     (g.K.Sink.written c.args.sink.now) (g.K.Sink.written c.carry_out.new.sink) c.carry_out.ensures.line
-    (λ is. ((c.carry_out.ensures.end is).0, (c.carry_out.ensures.end is).1, ap g.K.Sink.written (c.carry_out.ensures.end is).3)) (λ is. ap g.P.Keeper.state (c.carry_out.ensures.end is).2) c.requires.ready
+    (λ is. ((c.carry_out.ensures.end is).0, (c.carry_out.ensures.end is).1, ap g.K.Sink.written (c.carry_out.ensures.end is).3)) (λ is. ap g.P.Keeper.state (c.carry_out.ensures.end is).2) c.requires.at_work.ready
 
 pub returns-in-Ok-clause-read_fault : goal.returns-in-Ok-clause-read_fault
 returns-in-Ok-clause-read_fault g c = λ is. absurd (no_read_fault (line_text c.in-Ok.line) c.carry_out.result c.args.engine.now c.carry_out.new.engine (g.P.Keeper.state c.args.keeper.now) (g.P.Keeper.state c.carry_out.new.keeper)

@@ -1,11 +1,15 @@
 use Rattle.hippo_io.specs.LineTexts.{line_text}
-use Rattle.hippo_commands.specs.Commands.{command_of}
+use Rattle.hippo_commands.specs.Commands.{commanded}
 use Rattle.hippo_commands.specs.Lent.{command}
-use Rattle.hippo_engine.proofs.CarryingLemmas.{Carries-found, found_for}
+use Rattle.hippo_engine.proofs.CarryingLemmas.{Carries-found, IsOfLine-found}
+use Rattle.hippo_engine.proofs.LineLemmas.{IsOfLine-commanded}
 use Rattle.hippo_engine.proofs.engine.Engine.answer.Goals as goal
 
-pub returns-clause-answers : goal.returns-clause-answers
-returns-clause-answers g c =
-    λ text is. Carries-found (command_of text) (command c.command_in-found.result) c.carry_out.result c.args.self.now c.carry_out.new.self
-    (g.P.Keeper.state c.args.keeper.now) (g.P.Keeper.state c.carry_out.new.keeper)
-    (found_for (line_text c.args.line) text (command c.command_in-found.result) is c.command_in-found.ensures.found) c.carry_out.ensures.carries
+pub carry_out-requires-clause-of_line : goal.carry_out-requires-clause-of_line
+carry_out-requires-clause-of_line g c =
+    IsOfLine-found (commanded (line_text c.args.line)) (command c.command_of-found.result) (IsOfLine-commanded (line_text c.args.line)) c.command_of-found.ensures
+
+pub returns-clause-carries : goal.returns-clause-carries
+returns-clause-carries g c =
+    Carries-found (commanded (line_text c.args.line)) (command c.command_of-found.result) c.carry_out.result c.args.self.now c.carry_out.new.self
+    (g.P.Keeper.state c.args.keeper.now) (g.P.Keeper.state c.carry_out.new.keeper) c.command_of-found.ensures c.carry_out.ensures.carries

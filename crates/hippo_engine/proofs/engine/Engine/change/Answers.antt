@@ -14,7 +14,7 @@ pub returns-in-Err-clause-carries : goal.returns-in-Err-clause-carries
 returns-in-Err-clause-carries g c = λ text.
     let command : Command = state c.args.session c.args.statement.now text in
     Carries-quiet command c.args.self.now c.refuse_command.new.self (g.P.Keeper.state c.args.keeper.now)
-    c.requires.ready c.requires.sound
+    c.requires.at_work
     (c.refuse_command.ensures command
     (refused_change c.args.session c.args.statement.now text c.in-Err.refusal c.args.self.now c.requires.changes
     c.in-Err.ensures.found))

@@ -8,4 +8,4 @@ returns-in_default-clause-carries g c = c.change.ensures.carries c.args.text.now
 pub returns-in-Extract-clause-carries : goal.returns-in-Extract-clause-carries
 returns-in-Extract-clause-carries g c =
     Carries-quiet (state c.args.session c.args.statement.now c.args.text.now) c.args.self.now c.refuse_unbuilt.new.self
-    (g.P.Keeper.state c.args.keeper.now) c.requires.ready c.requires.sound (c.refuse_unbuilt.ensures c.args.text.now)
+    (g.P.Keeper.state c.args.keeper.now) c.requires.at_work (c.refuse_unbuilt.ensures c.args.text.now)
