@@ -6,6 +6,9 @@ use std::test::Fail;
 // So many rows that a set cuts its pieces several times.
 const ROWS: i64 = 5_000;
 
+// Half of them.
+const HALF: i64 = 2_500;
+
 fn first_column(alloc: Global) -> Result<Places, Memory> {
     let mut places = Sequence::new(alloc);
     places.push(0)?;
@@ -40,12 +43,12 @@ fn rows_in_many_pieces(rt: HostRuntime) -> Result<(), Fail> {
     for (place, number) in (0..ROWS).enumerate() {
         assert!(rt; is_at(alloc, &set, number, place)?);
     }
-    for number in 0..2_500 {
-        set.take(&one_cell(alloc, 2 * number)?);
+    for number in 0..HALF {
+        set.take(&one_cell(alloc, number.wrapping_mul(2))?);
     }
     assert_eq!(rt; set.len(), 2_500);
-    for (place, number) in (0..2_500).enumerate() {
-        assert!(rt; is_at(alloc, &set, 2 * number + 1, place)?);
+    for (place, number) in (0..HALF).enumerate() {
+        assert!(rt; is_at(alloc, &set, number.wrapping_mul(2).wrapping_add(1), place)?);
     }
     Ok(())
 }
