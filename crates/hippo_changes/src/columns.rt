@@ -65,7 +65,7 @@ pub fn places<T: NamedColumns>(
     Ok(places)
 }
 
-/// The same, where each is named once.
+/// The places of named columns, where each is named once.
 pub fn distinct_places(
     alloc: Global,
     table: &IndexedTable,

@@ -52,7 +52,7 @@ fn named_places(
     both_places(alloc, table, set, key)
 }
 
-// The same, where the columns of WHERE are those of the key.
+// The places of the columns of SET and of WHERE, where those of WHERE are the key's.
 fn keyed_places(
     alloc: Global,
     table: &IndexedTable,

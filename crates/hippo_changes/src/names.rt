@@ -34,7 +34,7 @@ pub fn check_item(alloc: Global, catalog: &Catalog, item: &Name) -> Result<(), N
     }
 }
 
-/// The same, where one is named.
+/// Refuses an item that is not there, where one is named.
 pub fn check_item_if_any(
     alloc: Global,
     catalog: &Catalog,

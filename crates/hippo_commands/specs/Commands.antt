@@ -89,7 +89,7 @@ command_of (text_line text) = command_by (line_form text)
 command_of too_long_line = wrong None LineTooLong
 command_of not_utf8_line = wrong None BadLine
 
--- the same, where the end of the input commands nothing
+-- what is commanded by what a reader hands out: by a line, what it commands; by the end of the input, nothing
 abbrev pub commanded : Option LineText → Command
 commanded line = option_map_or command_of line nothing
 

@@ -18,7 +18,7 @@ IsAtEnd known = (told : List ℕ) → known ≡ Some told → told ≡ []
 abbrev pub Appends : Option (List ℕ) → Option (List ℕ) → List ℕ → Type 0
 Appends old new bytes = (told : List ℕ) → old ≡ Some told → new ≡ Some (told ++ bytes)
 
--- the same with the first so many of these bytes
+-- whatever bytes the old one tells, the new one tells them with the first so many of these behind them
 abbrev pub AppendsFront : Option (List ℕ) → Option (List ℕ) → List ℕ → Type 0
 AppendsFront old new bytes = (n : ℕ) × Appends old new (take n bytes)
 

@@ -27,7 +27,7 @@ IsToldBy choices sets slots parts column value =
     (places : List Place) → Fits slots places → list_all (holds choices (chosen sets places)) parts ≡ true
     → raw_value (chosen sets places) column ≡ value
 
--- the same of some columns of a table
+-- with the rows that are chosen, some columns of a table have these values wherever some parts hold
 abbrev pub IsKeyTold :
     Choices → List KeyedRows → List (Option Place) → List (CondOf Expr) → Place → List Place → Key → Type 0
 IsKeyTold choices sets slots parts table columns key =

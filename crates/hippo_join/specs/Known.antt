@@ -26,7 +26,7 @@ knows_expr slots (Case column subject item rule opt_in after) =
     is_chosen slots column.table && is_chosen slots subject.table
 knows_expr slots (Literal value) = true
 
--- the same of a condition, where it is known of its parts
+-- whether the columns of a condition are of rows that are chosen, where that is known of its parts
 abbrev pub knows_layer : List (Option Place) → CondOf-F Expr Bool → Bool
 knows_layer slots (All parts) = list_all (λ part. part) parts
 knows_layer slots (Any parts) = list_all (λ part. part) parts

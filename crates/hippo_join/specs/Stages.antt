@@ -16,7 +16,7 @@ Reaches choices query sets table some =
     (places : List Place) → stands choices query sets places ≡ true
     → (place : Place) → slice_get places table ≡ Some place → Contains some place
 
--- the same of the combinations that have the rows that are chosen
+-- some places have each place that a table has in a combination that counts and has the rows that are chosen
 abbrev pub ReachesFrom :
     Choices → Masked → List KeyedRows → List (Option Place) → Place → List Place → Type 0
 ReachesFrom choices query sets slots table some =

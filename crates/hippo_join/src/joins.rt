@@ -62,6 +62,7 @@ impl<'a, C: ChoiceView> Side<'a, C> {
             (C.choices self.now.choices.now) self.now.query.now self.now.sets.now places) }
         ensures many { result ≡ Err TooManyRows → ANSWER_LIMIT < length found.new.keys }
     {
+        // The order of a set's members is known where its length was asked for.
         let _count = found.len();
         let stages = self.stages_in(alloc, order, false)?;
         let mut slots = open_slots(alloc, self.sets.len())?;

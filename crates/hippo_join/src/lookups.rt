@@ -31,7 +31,7 @@ fn is_null(value: &Value) -> bool
     matches!(value, Value::Null)
 }
 
-// The same, without those that are null.
+// The value that a column has at a place, if it is there and not null.
 pub(crate) fn known_value<'a>(set: &'a RowSet, column: usize, place: usize) -> Option<&'a Value>
     ensures { MatchOption result (is_null (value_at set.now column place) ≡ true)
         (λ value. value.now ≡ value_at set.now column place) }

@@ -106,7 +106,7 @@ impl<'a, C: ChoiceView> Side<'a, C> {
         }
     }
 
-    // The same of some parts, by their places.
+    // Whether some parts of the condition, by their places, may hold with the rows that are chosen.
     fn tests_hold(&self, tests: &[usize], slots: &[Option<usize>], rows: &Combo<'_>) -> bool
         requires { rows.now ≡ rows_at self.now.sets.now slots.now }
         ensures { (places : List Place) → Fits slots.now places

@@ -43,7 +43,7 @@ after_answer result store = record store {
   spent = store.spent || has_failed result;
 }
 
--- the same for a start
+-- what a keeper is after a start
 abbrev pub after_start : {A : Type 0} → Result A KeeperFault → MemoryStore → MemoryStore
 after_start result store = record (after_answer result store) { started = store.started || is_ok result }
 
@@ -57,7 +57,7 @@ kept_after result entry store =
     if option_map_or (λ keeps. keeps) (next_failure store) true && not (wants_memory result)
     then store.kept ++ entry ∷ [] else store.kept
 
--- the same for an append
+-- what a keeper is after an append
 abbrev pub after_append : {A : Type 0} → Result A KeeperFault → StoredEntry → MemoryStore → MemoryStore
 after_append result entry store = record (after_answer result store) { kept = kept_after result entry store }
 

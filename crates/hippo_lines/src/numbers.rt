@@ -52,7 +52,7 @@ pub fn number(word: &str, least: u32, most: u32) -> Option<u32>
     }
 }
 
-/// The same of a number of one byte.
+/// The number of one byte that a word writes, where it is within these two.
 pub fn small_number(word: &str, least: u8, most: u8) -> Option<u8>
     ensures { result ≡ number_in least most word.now }
 {

@@ -12,7 +12,7 @@ pub enum RuleAt<'a> {
         rule: u64,
         days: Option<u32>,
     },
-    /// The same, as the patient's choice on an item says.
+    /// Allowed by this entry as the patient's choice on an item says, for so many days or without end.
     With {
         rule: u64,
         item: &'a Name,

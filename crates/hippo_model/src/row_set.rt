@@ -98,7 +98,7 @@ fn search_piece(
         .binary_search_by(|kept| sought_order(kept, places, sought))
 }
 
-// The same among all rows.
+// Where a key stands among all rows, or where it would.
 fn search(rows: &Pieces<BornRow>, places: &[usize], sought: &Sought<'_>) -> Result<usize, usize>
     ensures range { IsSearchInRange result (length rows.now) }
     ensures place { IsBinarySearchResult (sought_order places.now sought.now) rows.now result }

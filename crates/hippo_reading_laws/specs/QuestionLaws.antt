@@ -48,7 +48,7 @@ QuestionsReadByThemselves =
     (text : Txt) (select : RawSelect) (start end : ℕ) →
     IsQuestion text select start end → ReadsByItself text select start end
 
--- the same of what the readers find
+-- the text of a question that the readers find reads by itself as the question
 abbrev pub FoundQuestionsReadByThemselves : Type 0
 FoundQuestionsReadByThemselves =
     (text : Txt) (tokens : List Token) (statement : Stmt) (select : RawSelect) (start end : ℕ) →

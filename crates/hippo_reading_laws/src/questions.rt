@@ -7,7 +7,8 @@ pub fn questions_read_by_themselves()
     ensures { QuestionsReadByThemselves }
 {}
 
-/// The same where the readers find the question: these are the tokens that they find, and this is the statement.
+/// Where the readers find a question in a text, by its tokens and as a statement, the part of it that is the question's
+/// select reads by itself as that select, and means what the select means.
 pub fn found_questions_read_by_themselves()
     ensures { FoundQuestionsReadByThemselves }
 {}

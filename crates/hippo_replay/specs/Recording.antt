@@ -30,7 +30,7 @@ pub record Keeps {A : Type 0} (entry : Entry) (result : Result A KeeperFault) (s
   pub failed : has_failed result ≡ true → after.tells → MayHaveOneMore (stored entry) before after
   pub same : wants_memory result ≡ true → after.tells → KeepsSame before after
 
--- the same, and the state stands for the history with the entry behind; or for what it did, where memory was short
+-- an entry is kept, and the state stands for the history with it behind; or for what it did, where memory was short
 pub record Records {A : Type 0} (entry : Entry) (result : Result A KeeperFault) (old new : State)
     (before after : KeeperState) : Type 0 where
   pub keeps : Keeps entry result old before after

@@ -53,7 +53,7 @@ pub fn row_fits(schema: &Schema, row: &Cells) -> bool
     columns.len() == values.len()
 }
 
-/// The same of a key and the columns of a table's key.
+/// Whether a key has a value for each column of a table's key that fits it.
 pub fn key_fits(schema: &Schema, key: &Cells) -> bool
     ensures { result ≡ key_fits schema.now key.now }
 {

@@ -26,7 +26,7 @@ pub struct State {
     pub count: u64,
     /// The moment of the last entry, the least moment where there is none.
     pub last: Moment,
-    /// The same without the last entry.
+    /// The moment of the last entry but one, the least moment where there is none.
     pub earlier: Moment,
 }
 

@@ -1,7 +1,8 @@
 //! Runs worked rows through the top call. Standard input holds cases: `word W` adds a word to the command, `line TEXT`
 //! a line to the input, `part TEXT` the text alone, `times N TEXT` the text N times, `bytes N ..` bytes by their
 //! numbers, and `clinic` the lines of a small clinic; `call` calls the program over an empty store, `again` over what
-//! the last call left. What it wrote is written, and `status N`. Lines that begin with `#` say what a case shows.
+//! the last call left. What it wrote is written, and `status N`. Lines that begin with `# ` say what a case shows; any
+//! other line ends the program with a fault.
 #![tactic(auto)]
 
 ghost use Rattle.std.specs.Prelude.{◌≡◌, ◌<◌, false, IfOk};
@@ -40,6 +41,7 @@ enum Order {
     Add,
     Call,
     Again,
+    Unknown,
 }
 
 // The words of a command and its input.
@@ -89,7 +91,7 @@ impl Case {
         Ok(())
     }
 
-    // Adds what a line of the rows says, or answers that the program is to be called.
+    // Adds what a line of the rows says, or answers that the program is to be called, or that the line says nothing.
     fn take(&mut self, alloc: Global, line: &str) -> Result<Order, Memory> {
         let (word, text) = line.split_once(' ').unwrap_or((line, ""));
         match word {
@@ -101,7 +103,8 @@ impl Case {
             "clinic" => self.add_clinic()?,
             "call" => return Ok(Order::Call),
             "again" => return Ok(Order::Again),
-            _ => {}
+            "" | "#" => {}
+            _ => return Ok(Order::Unknown),
         }
         Ok(Order::Add)
     }
@@ -163,6 +166,9 @@ fn main(rt: HostRuntime) -> io::Result<()> {
             .map_err(|_| io::ErrorKind::OutOfMemory)?;
         if order == Order::Add {
             continue;
+        }
+        if order == Order::Unknown {
+            return Err(io::ErrorKind::InvalidInput.into());
         }
         if order == Order::Call {
             kept = empty_store(alloc);

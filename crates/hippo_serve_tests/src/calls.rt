@@ -104,7 +104,7 @@ pub(crate) fn check_over(
     Ok(())
 }
 
-// The same for one word, where nothing outside fails.
+// Calls the program with one word, where nothing outside fails, and compares its status and output.
 pub(crate) fn check_job(
     rt: &impl Abort,
     alloc: Global,

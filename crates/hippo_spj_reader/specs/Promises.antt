@@ -54,7 +54,7 @@ pub record Passes (after : Kinds → Option Kinds) (tokens : List Token) (result
   pub rest : option_map (λ rest. kinds rest.now) result ≡ after (kinds tokens)
   pub shorter : IfSome result (λ rest. length rest.now < length tokens)
 
--- the same, where it has to stand first
+-- it has to stand first: a token or two are passed, or there is no reading
 pub record Expects (after : Kinds → Option Kinds) (tokens : List Token)
     (result : Result Left SyntaxFault) : Type 0 where
   pub rest : Gives (λ rest. kinds rest.now) result (after (kinds tokens))

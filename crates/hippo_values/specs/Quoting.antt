@@ -9,6 +9,6 @@ abbrev pub doubled : List ℕ → List ℕ
 doubled [] = []
 doubled (byte ∷ bytes) = if is_quote byte then 39 ∷ 39 ∷ doubled bytes else byte ∷ doubled bytes
 
--- the same between quotes
+-- a text as it is written in a statement: doubled, between quotes
 abbrev pub quoted : List ℕ → List ℕ
 quoted text = 39 ∷ (doubled text ++ 39 ∷ [])
