@@ -43,8 +43,8 @@ pub record Holds (history : History) (engine : Engine) (keeper : KeeperState) : 
   pub jobs : JobsFit history engine.world
   pub watches : WatchesFit history engine.world
 
--- what carrying out asks of an engine and its keeper: there is a history for which the state stands; the keeper, which
--- is started and neither spent nor closed, keeps one where it tells, and that the engine holds
+-- what carrying out asks of an engine and its keeper: there is a history for which the state stands, the keeper is
+-- started and neither spent nor closed, and where it tells what it keeps, both hold a history
 pub record AtWork (engine : Engine) (keeper : KeeperState) : Type 0 where
   pub sound : IsSound engine.state
   pub ready : IsReady true keeper
@@ -96,7 +96,7 @@ pub record IsQuiet (command : Command) (old new : Engine) : Type 0 where
   pub counts : (versions steps : ℕ) → Tallies command versions steps steps (taken_of old.world) (taken_of new.world)
 
 -- a command has its effect after a history: the engine shows the reply and the world, it and its keeper hold the
--- history with what was added. Where a reading had ample memory its steps are tallied, and a refusal takes none, but
+-- history with what was added, the steps are tallied unless memory was short for reading, and a refusal takes none, but
 -- for one that is found by reading
 pub record HasEffect (history : History) (command : Command) (old new : Engine)
     (before after : KeeperState) (steps steps' : ℕ) : Type 0 where
@@ -131,8 +131,8 @@ abbrev pub BreaksOff : History → Command → Engine → KeeperState → Keeper
 BreaksOff history command old before after =
     BreaksOffAdding history command old before after ⊎ BreaksOffReading history command old before after
 
--- a command is carried out, or the keeper fails, or it hands over what it did not keep. What is said of a history holds
--- where the keeper tells what it keeps; then nothing is found damaged
+-- a command is carried out, or the keeper fails, or hands over what it did not keep; where it tells what it keeps, the
+-- command has its effect over that, or the keeper breaks off, and nothing is damaged
 pub record Carries {A : Type 0} (command : Command) (result : Result A EngineFault) (old new : Engine)
     (before after : KeeperState) (steps steps' : ℕ) : Type 0 where
   pub call : IsAfterCall true false (as_call result) before after
