@@ -9,7 +9,7 @@ pub returns-in-Select-clause-carries : goal.returns-in-Select-clause-carries
 returns-in-Select-clause-carries g c = rw c.in-Select.is (c.question.ensures.carries c.args.steps.now)
 
 pub returns-in-Ask-clause-carries : goal.returns-in-Ask-clause-carries
-returns-in-Ask-clause-carries g c = rw c.in-Ask.is (c.question.ensures.carries c.args.steps.now)
+returns-in-Ask-clause-carries g c = rw c.in-Ask.is (c.question-in-Ask.ensures.carries c.args.steps.now)
 
 pub returns-in-Extract-clause-carries : goal.returns-in-Extract-clause-carries
 returns-in-Extract-clause-carries g c =
