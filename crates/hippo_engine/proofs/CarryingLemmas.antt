@@ -1,18 +1,17 @@
 -- From what single calls do to what carrying out a command does.
-use Rattle.std.proofs.Common.{◌≡◌, ◌≢◌, ◌∙◌, ℕ, refl, sym, ap, subst, inl, inr, List, [], ◌∷◌, ◌++◌, map, Option, Some, None, Result, Ok, Err, true, false, append-nil}
+use Rattle.std.proofs.Common.{◌≡◌, ◌∙◌, ℕ, refl, sym, ap, subst, inl, inr, List, [], ◌∷◌, ◌++◌, Option, Some, None, Result, Ok, Err, true, append-nil}
 use Rattle.std.proofs.lemmas.Bool.{false≢true}
 use Rattle.std.proofs.lemmas.List.{map-append}
 use Rattle.hippo_model.specs.declared.entry.Entry.{Entry}
 use Rattle.hippo_model.specs.StoredForms.{stored}
 use Rattle.hippo_model.specs.Terms.{History}
-use Rattle.hippo_keeper.specs.declared.faults.KeeperFault.{KeeperFault}
 use Rattle.hippo_keeper.specs.Keeping.{KeeperState}
 use Rattle.hippo_replay.specs.Loading.{KeepsSame}
 use Rattle.hippo_replay.specs.Recording.{HasKept}
 use Rattle.hippo_replay.specs.Standing.{StandsFor, IsSound}
 use Rattle.hippo_replay.specs.declared.state.State.{State}
-use Rattle.hippo_replay.proofs.KeeperLemmas.{KeepsSame-here, IsAfterCall-none, IsAfterCall-as}
-use Rattle.hippo_replay.proofs.Results.{err_of, well}
+use Rattle.hippo_replay.proofs.KeeperLemmas.{KeepsSame-here, IsAfterCall-none}
+use Rattle.hippo_replay.proofs.Results.{well}
 use Rattle.hippo_report.specs.declared.refusal.Refusal.{Refusal}
 use Rattle.hippo_report.specs.declared.refusal.Refusal.TheVariants.{Memory}
 use Rattle.hippo_report.specs.Refusals.{refusal_line}
@@ -26,7 +25,7 @@ use Rattle.hippo_engine.specs.declared.faults.EngineFault.{EngineFault}
 use Rattle.hippo_engine.specs.declared.faults.EngineFault.TheVariants.{Keeper, Write, Damaged}
 use Rattle.hippo_engine.specs.Effects.{Effect, only_reply, IsEffect}
 use Rattle.hippo_engine.specs.Ledgers.{Tallies, none_taken, at_once, job_begun, job_stepped, job_dropped}
-use Rattle.hippo_engine.specs.Carrying.{JobsFit, WatchesFit, Holds, AtWork, IsBacked, is_carried, shown, IsOfLine, IsQuiet, BreaksOffAdding, BreaksOffReading, BreaksOff, Carries}
+use Rattle.hippo_engine.specs.Carrying.{JobsFit, WatchesFit, Holds, AtWork, IsBacked, is_carried, shown, IsOfLine, IsQuiet, BreaksOff, Carries}
 use Rattle.hippo_engine.proofs.ShortLemmas.{short}
 
 -- the state of an engine that is at work is backed by its keeper

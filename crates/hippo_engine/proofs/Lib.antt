@@ -1,5 +1,6 @@
 pub mod ExampleLines
 mod RunExamples
+mod LedgerExamples
 pub mod EffectTheorem
 pub mod ShortLemmas
 pub mod LengthLemmas

@@ -184,8 +184,8 @@ impl Engine {
         self.carry_out(alloc, keeper, found, steps)
     }
 
-    /// Carries out a line, as `answer` does, and writes its reply. Answers `Write` only where the sink's count of
-    /// faults rose: a front of the reply is then written.
+    /// Carries out a line, as `answer` does, and writes its reply, if it was carried out. Answers `Write` only where the
+    /// sink's count of faults rose: a front of the reply is then written.
     pub fn line<K: Sink, P: Keeper, L: Ledger>(
         &mut self,
         alloc: Global,
