@@ -170,7 +170,7 @@ module _ (shape : Shape) where
       grouped-joined =
           let apart = apart-at its_key front back (ap are_apart (sym split) ∙ different-apart (map (take shape.keys) found)) in
           sym (
-            ap (map (row_of more)) (keys-same ∙ split)
-            ∙ map-append (row_of more) front (its_key ∷ back)
-            ∙ λ i. others_stay front apart.0 i ++ map (group_cell its_key (its_members i)) shape.outs ∷ others_stay back apart.1 i
+          ap (map (row_of more)) (keys-same ∙ split)
+          ∙ map-append (row_of more) front (its_key ∷ back)
+          ∙ λ i. others_stay front apart.0 i ++ map (group_cell its_key (its_members i)) shape.outs ∷ others_stay back apart.1 i
           )

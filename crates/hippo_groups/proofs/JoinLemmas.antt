@@ -34,11 +34,11 @@ module _ {A B : Type 0} (before after : A → B) (items : List A) (place : ℕ) 
       ∙ set-append_seam front (before item) back new
       ∙ ap (λ (one : B). front ++ one ∷ back) is_new
       ∙ sym (
-        ap (λ (at : ℕ). map after (take at items) ++ map before (drop at items)) (add-one place)
-        ∙ ap (λ (some : List A). map after some ++ back) (take-suc items place item within)
-        ∙ ap (λ (one : A). map after (take place items ++ one ∷ []) ++ back) is
-        ∙ ap (λ (some : List B). some ++ back) (map-append after (take place items) (item ∷ []))
-        ∙ append_assoc front (after item ∷ []) back
+      ap (λ (at : ℕ). map after (take at items) ++ map before (drop at items)) (add-one place)
+      ∙ ap (λ (some : List A). map after some ++ back) (take-suc items place item within)
+      ∙ ap (λ (one : A). map after (take place items ++ one ∷ []) ++ back) is
+      ∙ ap (λ (some : List B). some ++ back) (map-append after (take place items) (item ∷ []))
+      ∙ append_assoc front (after item ∷ []) back
       )
 
 -- once all are changed

@@ -60,17 +60,17 @@ module _ (shape : Shape) (found : List ShownRow) (kept : Groups) (row : ShownRow
       let within : place < length (keys_of shape found) = slice_get_within (keys_of shape found) place key there in
       record {
         rows = joins (map (row_of shape found) front) (map (row_of shape found) back) key (members found key shape.keys) (are.rows ∙ grouped-before shape found row front back split)
-        (omega (arith, length-map front (row_of shape found), length-take-le place (keys_of shape found)))
-        ∙ grouped-joined shape found row front back split;
+            (omega (arith, length-map front (row_of shape found), length-take-le place (keys_of shape found)))
+            ∙ grouped-joined shape found row front back split;
         places = subst (λ (keys : List ShownRow). HasPlaces key_order keys after) (sym (keys-same shape found row front back split))
-        (λ other. subst (Placed (keys_of shape found) other)
-        (ap (λ (places : tree.BTreeMap (List CellKey) ℕ). tree.get key_order places (row_key other)) (sym same)) (are.places other));
+            (λ other. subst (Placed (keys_of shape found) other)
+            (ap (λ (places : tree.BTreeMap (List CellKey) ℕ). tree.get key_order places (row_key other)) (sym same)) (are.places other));
       }
 
   pub joined-if : {T E : Type 0} (outcome : Result T E) (place : ℕ) → tree.get key_order kept.places (row_key (its_key shape found row)) ≡ Some place
       → (after : Groups) → after.places ≡ kept.places
       → ((front back : List ShownRow) (key : ShownRow) (rows : List ShownRow) → kept.rows.items ≡ front ++ map (group_cell key rows) shape.outs ∷ back → place ≡ length front
-        → OnOk outcome (after.rows.items ≡ front ++ map (group_cell key (rows ++ row ∷ [])) shape.outs ∷ back))
+      → OnOk outcome (after.rows.items ≡ front ++ map (group_cell key (rows ++ row ∷ [])) shape.outs ∷ back))
       → OnOk outcome (AreGroups key_order shape (found ++ row ∷ []) after)
   joined-if (Ok value) place known after same joins = joined place known after same joins
   joined-if (Err fault) place known after same joins = tt

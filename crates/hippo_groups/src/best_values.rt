@@ -76,20 +76,11 @@ fn raise(alloc: Global, greatest: &mut Cell, value: &Value) -> Result<(), Memory
 }
 
 /// Takes the value at a place of one row more into the least of some.
-pub fn lower_by(
-    alloc: Global,
-    least: &mut Cell,
-    row: &CellRow,
-    place: usize,
-) -> Result<(), Memory>
+pub fn lower_by(alloc: Global, least: &mut Cell, row: &CellRow, place: usize) -> Result<(), Memory>
     ensures { (before : values.Value) → least.old ≡ Shown before
         → OnOk result (least.new ≡ Shown (lesser before (value_in (slice_index_or row.now place (Denied 0))))) }
 {
-    lower(
-        alloc,
-        least,
-        value_at(row, place).unwrap_or(&Value::Null),
-    )
+    lower(alloc, least, value_at(row, place).unwrap_or(&Value::Null))
 }
 
 /// Takes the value at a place of one row more into the greatest of some.

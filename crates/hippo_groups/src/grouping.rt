@@ -115,5 +115,12 @@ pub fn grouped<C: ChoiceView>(
     ensures { let rows = masked_answer (C.choices choices.now) query.now (rows_of sets.now) in
         IsAnswered ANSWER_LIMIT (grouped shape.now rows) result }
 {
-    gather(alloc, query, sets, choices, &ByShape { shape }, ANSWER_LIMIT)
+    gather(
+        alloc,
+        query,
+        sets,
+        choices,
+        &ByShape { shape },
+        ANSWER_LIMIT,
+    )
 }

@@ -2,7 +2,9 @@ use crate::choices::NoChoices;
 use crate::tables::{firsts, numbers, pairs};
 use hippo_eval::EvalFault;
 use hippo_groups::grouped;
-use hippo_model::{Answer, Cells, CondOf, Expr, Exprs, Masked, Names, Out, Outs, Ref, RowSet, Sets, Shape};
+use hippo_model::{
+    Answer, Cells, CondOf, Expr, Exprs, Masked, Names, Out, Outs, Ref, RowSet, Sets, Shape,
+};
 use hippo_report::answer_lines;
 use hippo_values::{Memory, Moment, Sequence, Txt, Value, read_day};
 use std::alloc::Global;
@@ -51,10 +53,7 @@ fn visits(alloc: Global) -> Result<RowSet, Memory> {
     set.put(visit(alloc, 1, 1, Value::Int(5), "x", "2024-02-29")?, later)?;
     set.put(visit(alloc, 2, 2, Value::Null, "", "")?, later)?;
     set.put(visit(alloc, 3, 1, Value::Int(-9), "y", "")?, before)?;
-    set.put(
-        visit(alloc, 4, 1, Value::Int(-2), "", "2024-01-01")?,
-        later,
-    )?;
+    set.put(visit(alloc, 4, 1, Value::Int(-2), "", "2024-01-01")?, later)?;
     Ok(set)
 }
 
@@ -158,7 +157,8 @@ fn measures(alloc: Global) -> Result<Txt, Memory> {
 #[test]
 fn least_and_greatest_of_each_group(rt: HostRuntime) -> Result<(), Fail> {
     let alloc = rt.alloc();
-    let rows = "1 row 1, -2, 5, 'x', 'y', 2024-01-01, 2024-02-29, NULL\n1 row 2, NULL, NULL, NULL, NULL, NULL, NULL, NULL\n";
+    let rows =
+        "1 row 1, -2, 5, 'x', 'y', 2024-01-01, 2024-02-29, NULL\n1 row 2, NULL, NULL, NULL, NULL, NULL, NULL, NULL\n";
     let printed = wards(alloc)?;
     assert_eq!(rt; printed.as_str(), rows);
     Ok(())
