@@ -1,38 +1,87 @@
 -- From what single calls do to what carrying out a command does.
-use Rattle.std.proofs.Common.{◌≡◌, ℕ, refl, sym, subst, inl, inr, List, [], ◌∷◌, Option, Some, None, Result, Ok, true, append-nil}
+use Rattle.std.proofs.Common.{◌≡◌, ◌≢◌, ◌∙◌, ℕ, refl, sym, ap, subst, inl, inr, List, [], ◌∷◌, ◌++◌, map, Option, Some, None, Result, Ok, Err, true, false, append-nil}
 use Rattle.std.proofs.lemmas.Bool.{false≢true}
+use Rattle.std.proofs.lemmas.List.{map-append}
+use Rattle.hippo_model.specs.declared.entry.Entry.{Entry}
+use Rattle.hippo_model.specs.StoredForms.{stored}
 use Rattle.hippo_model.specs.Terms.{History}
+use Rattle.hippo_keeper.specs.declared.faults.KeeperFault.{KeeperFault}
 use Rattle.hippo_keeper.specs.Keeping.{KeeperState}
+use Rattle.hippo_replay.specs.Loading.{KeepsSame}
+use Rattle.hippo_replay.specs.Recording.{HasKept}
 use Rattle.hippo_replay.specs.Standing.{StandsFor, IsSound}
 use Rattle.hippo_replay.specs.declared.state.State.{State}
-use Rattle.hippo_replay.proofs.KeeperLemmas.{KeepsSame-here, IsAfterCall-none}
+use Rattle.hippo_replay.proofs.KeeperLemmas.{KeepsSame-here, IsAfterCall-none, IsAfterCall-as}
+use Rattle.hippo_replay.proofs.Results.{err_of, well}
+use Rattle.hippo_report.specs.declared.refusal.Refusal.{Refusal}
 use Rattle.hippo_report.specs.declared.refusal.Refusal.TheVariants.{Memory}
 use Rattle.hippo_report.specs.Refusals.{refusal_line}
+use Rattle.hippo_world.specs.declared.worlds.World.{World as HeldWorld}
 use Rattle.hippo_world.specs.Worlds.{World}
 use Rattle.hippo_world.specs.Holding.{world_of}
 use Rattle.hippo_commands.specs.Commands.{Command, nothing, wrong, ask, state, who_commands, takes_memory, may_want, IsCommand}
 use Rattle.hippo_commands.specs.Commands as commands
 use Rattle.hippo_engine.specs.declared.engine.Engine.{Engine}
 use Rattle.hippo_engine.specs.declared.faults.EngineFault.{EngineFault}
+use Rattle.hippo_engine.specs.declared.faults.EngineFault.TheVariants.{Keeper, Write, Damaged}
 use Rattle.hippo_engine.specs.Effects.{Effect, only_reply, IsEffect}
-use Rattle.hippo_engine.specs.Carrying.{AtWork, shown, IsOfLine, IsQuiet, Carries}
+use Rattle.hippo_engine.specs.Ledgers.{Tallies, none_taken, at_once, job_begun, job_stepped, job_dropped}
+use Rattle.hippo_engine.specs.Carrying.{JobsFit, WatchesFit, Holds, AtWork, IsBacked, is_carried, shown, IsOfLine, IsQuiet, BreaksOffAdding, BreaksOffReading, BreaksOff, Carries}
 use Rattle.hippo_engine.proofs.ShortLemmas.{short}
 
+-- the state of an engine that is at work is backed by its keeper
+pub IsBacked-of : (engine : Engine) (keeper : KeeperState) → AtWork engine keeper → IsBacked engine.state keeper
+IsBacked-of engine keeper at_work = record {
+  sound = at_work.sound;
+  ready = at_work.ready;
+  told = λ tells.
+      let holds = at_work.told tells in
+      record { history = holds.0; forms = holds.1.forms; stands = holds.1.stands };
+}
+
+-- jobs that fit a history fit it with an entry behind
+pub JobsFit-more : (history : History) (entry : Entry) (held : HeldWorld) → JobsFit history held → JobsFit (history ++ entry ∷ []) held
+JobsFit-more history entry held fits = fits
+
+-- nothing was added
+pub Holds-same : (history : History) (old new : Engine) (before after : KeeperState) → Holds history old before
+    → StandsFor new.state history → JobsFit history new.world → WatchesFit history new.world → KeepsSame before after
+    → Holds (history ++ []) new after
+Holds-same history old new before after holds stands jobs watches keeps =
+    subst (λ (h : History). Holds h new after) (sym (append-nil history))
+    (record { forms = holds.forms ∙ sym keeps.same; stands = stands; jobs = jobs; watches = watches })
+
+-- an entry was added
+pub Holds-more : (history : History) (entry : Entry) (old new : Engine) (before after : KeeperState) → Holds history old before
+    → StandsFor new.state (history ++ entry ∷ []) → JobsFit (history ++ entry ∷ []) new.world → WatchesFit (history ++ entry ∷ []) new.world
+    → HasKept (entry ∷ []) before after → Holds (history ++ entry ∷ []) new after
+Holds-more history entry old new before after holds stands jobs watches kept = record {
+  forms = map-append stored history (entry ∷ []) ∙ ap (λ front. front ++ stored entry ∷ []) holds.forms ∙ sym kept.0;
+  stands = stands;
+  jobs = jobs;
+  watches = watches;
+}
+
 -- a command that adds nothing leaves the keeper alone
-pub Carries-quiet : (command : Command) (old new : Engine) (keeper : KeeperState) → AtWork old.state keeper → IsQuiet command old new
-    → Carries {A = Unit {0}} command (Ok tt) old new keeper keeper
-Carries-quiet command old new keeper at_work quiet = record {
+pub Carries-quiet : (command : Command) (old new : Engine) (keeper : KeeperState) (steps : ℕ) → AtWork old keeper → IsQuiet command old new
+    → Carries {A = Unit {0}} command (Ok tt) old new keeper keeper steps steps
+Carries-quiet command old new keeper steps at_work quiet = record {
   call = IsAfterCall-none keeper at_work.ready;
   sound = λ fine. subst IsSound (sym quiet.same) at_work.sound;
-  carried = λ fine history stands. record {
+  idle = λ none. refl;
+  carried = λ fine tells history holds. record {
     effect = shown new;
-    is = quiet.effect history stands;
+    is = quiet.effect history holds.stands;
     reply = refl;
     world = refl;
-    stands = subst (StandsFor new.state) (sym (append-nil history)) (subst (λ (state : State). StandsFor state history) (sym quiet.same) stands);
-    kept = λ tells. KeepsSame-here keeper;
+    holds = Holds-same history old new keeper keeper holds (subst (λ (held : State). StandsFor held history) (sym quiet.same) holds.stands)
+        (quiet.jobs history holds.stands holds.jobs) (quiet.watches history holds.stands holds.watches) (KeepsSame-here keeper);
+    kept = KeepsSame-here keeper;
+    counts = λ ample. quiet.counts _ steps;
+    refused = λ refusal is others. refl;
   };
   failed = λ fails. absurd (false≢true fails);
+  undamaged = λ tells history holds number damaged. cc;
 }
 
 -- a line that is refused for want of memory, whatever the history, has that reply alone
@@ -44,24 +93,58 @@ memory_effect history world who effect (inr (takes, is)) = is
 not_added : {A : Type 0} (entry : A) → ◌≡◌ {A = List A} [] (entry ∷ []) → ⊥
 not_added entry e = cc
 
+-- a line that is refused whatever the history takes no step
+Tallies-refused : (who : Option ℕ) (refusal : Refusal) (command : Command) (versions steps steps' : ℕ) (taken taken' : List ℕ)
+    → Tallies (wrong who refusal) versions steps steps' taken taken' → Tallies command versions steps steps' taken taken'
+Tallies-refused who refusal command versions steps steps' taken taken' (none_taken same kept) = none_taken same kept
+Tallies-refused who refusal command versions steps steps' taken taken' (at_once looks few kept) = absurd (false≢true looks)
+Tallies-refused who refusal command versions steps steps' taken taken' (job_begun front rest begins same before after) = absurd (false≢true begins)
+Tallies-refused who refusal command versions steps steps' taken taken' (job_stepped had has front rest on takes few before after) = absurd (false≢true on)
+Tallies-refused who refusal command versions steps steps' taken taken' (job_dropped had front rest drops same before after) = absurd (false≢true drops)
+
+-- nor does the keeper fail
+unbroken : (history : History) (who : Option ℕ) (old : Engine) (before after : KeeperState) → BreaksOff history (wrong who Memory) old before after → ⊥
+unbroken history who old before after (inl adding) = not_added adding.entry adding.adds
+unbroken history who old before after (inr reading) = false≢true reading.reads
+
 -- what is carried out in the place of a command that takes memory, where memory was short for reading it
-Carries-memory : {A : Type 0} (command : Command) (result : Result A EngineFault) (old new : Engine) (before after : KeeperState) → takes_memory command ≡ true
-    → Carries (wrong (who_commands command) Memory) result old new before after → Carries command result old new before after
-Carries-memory command result old new before after takes refused = record {
+Carries-memory : {A : Type 0} (command : Command) (result : Result A EngineFault) (old new : Engine) (before after : KeeperState) (steps steps' : ℕ)
+    → takes_memory command ≡ true → Carries (wrong (who_commands command) Memory) result old new before after steps steps'
+    → Carries command result old new before after steps steps'
+Carries-memory command result old new before after steps steps' takes refused = record {
   call = refused.call;
   sound = refused.sound;
-  carried = λ fine history stands.
-      let done = refused.carried fine history stands in
+  idle = λ none. refused.idle refl;
+  carried = λ fine tells history holds.
+      let done = refused.carried fine tells history holds in
       record {
         effect = done.effect;
         is = subst (IsEffect history (world_of old.world) command) (sym (memory_effect history (world_of old.world) (who_commands command) done.effect done.is))
             (short history (world_of old.world) command takes);
         reply = done.reply;
         world = done.world;
-        stands = done.stands;
+        holds = done.holds;
         kept = done.kept;
+        counts = λ ample. Tallies-refused (who_commands command) Memory command _ steps steps' _ _ (done.counts (λ reads. absurd (false≢true reads)));
+        refused = λ refusal is others. refused.idle refl;
       };
-  failed = λ fails history stands. let broken = refused.failed fails history stands in absurd (not_added broken.entry broken.adds);
+  failed = λ fails tells history holds. absurd (unbroken history (who_commands command) old before after (refused.failed fails tells history holds));
+  undamaged = refused.undamaged;
+}
+
+-- a line that was carried out, whether its reply was then written or not
+pub Carries-written : (command : Command) (result : Result (Unit {0}) EngineFault) (old new : Engine) (before after : KeeperState) (steps steps' : ℕ)
+    → is_carried result ≡ true → Carries command (well EngineFault) old new before after steps steps' → Carries command result old new before after steps steps'
+Carries-written command (Ok value) old new before after steps steps' done carries = carries
+Carries-written command (Err Keeper) old new before after steps steps' done carries = absurd (false≢true done)
+Carries-written command (Err (Damaged number)) old new before after steps steps' done carries = absurd (false≢true done)
+Carries-written command (Err Write) old new before after steps steps' done carries = record {
+  call = carries.call;
+  sound = carries.sound;
+  idle = carries.idle;
+  carried = carries.carried;
+  failed = carries.failed;
+  undamaged = λ tells history holds number damaged. cc;
 }
 
 -- what may want memory to be read takes memory, and is not nobody's
@@ -74,11 +157,11 @@ wanting (ask session request) wants = absurd (false≢true wants)
 wanting (state session statement text) wants = (refl, tt)
 
 -- what is carried out for the command that was found
-pub Carries-found : {A : Type 0} (command found : Command) (result : Result A EngineFault) (old new : Engine) (before after : KeeperState)
-    → IsCommand command found → Carries found result old new before after → Carries command result old new before after
-Carries-found command found result old new before after (inl is) carries = subst (λ (c : Command). Carries c result old new before after) is carries
-Carries-found command found result old new before after (inr (wants, is)) carries =
-    Carries-memory command result old new before after (wanting command wants).0 (subst (λ (c : Command). Carries c result old new before after) is carries)
+pub Carries-found : {A : Type 0} (command found : Command) (result : Result A EngineFault) (old new : Engine) (before after : KeeperState) (steps steps' : ℕ)
+    → IsCommand command found → Carries found result old new before after steps steps' → Carries command result old new before after steps steps'
+Carries-found command found result old new before after steps steps' (inl is) carries = subst (λ (c : Command). Carries c result old new before after steps steps') is carries
+Carries-found command found result old new before after steps steps' (inr (wants, is)) carries =
+    Carries-memory command result old new before after steps steps' (wanting command wants).0 (subst (λ (c : Command). Carries c result old new before after steps steps') is carries)
 
 -- what holds of each command that a line gives holds of the one that was found
 pub IsOfLine-found : (command found : Command) → IsOfLine command → IsCommand command found → IsOfLine found

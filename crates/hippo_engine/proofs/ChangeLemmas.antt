@@ -1,6 +1,6 @@
 -- From the checks of a statement that changes something, and from recording its entry, to what carrying it out does.
 use Rattle.std.proofs.Common.{◌≡◌, ◌⊎◌, ◌∙◌, inl, inr, refl, sym, ap, subst, ℕ, Option, Some, None, Ok, Err, true, false, append-nil}
-use Rattle.std.specs.Prelude.{ok_or}
+use Rattle.std.specs.Prelude.{ok_or, codes}
 use Rattle.std.proofs.lemmas.Bool.{false≢true}
 use Rattle.hippo_values.specs.Texts.{Txt}
 use Rattle.hippo_model.specs.declared.entry.Entry.{Entry}
@@ -10,7 +10,7 @@ use Rattle.hippo_model.specs.declared.statement.Wanted.{Wanted}
 use Rattle.hippo_model.specs.Terms.{History}
 use Rattle.hippo_catalog.specs.ChangesWanted.{changes_something}
 use Rattle.hippo_keeper.specs.declared.faults.KeeperFault.{KeeperFault}
-use Rattle.hippo_keeper.specs.declared.faults.KeeperFault.TheVariants.{Memory}
+use Rattle.hippo_keeper.specs.declared.faults.KeeperFault.TheVariants.{Failed, Memory}
 use Rattle.hippo_keeper.specs.Keeping.{KeeperState}
 use Rattle.hippo_replay.specs.Standing.{StandsFor, IsSound}
 use Rattle.hippo_replay.specs.Recording.{Records}
@@ -18,19 +18,24 @@ use Rattle.hippo_replay.proofs.KeeperLemmas.{IsAfterCall-as}
 use Rattle.hippo_replay.proofs.Results.{err_of, well}
 use Rattle.hippo_report.specs.declared.refusal.Refusal.{Refusal}
 use Rattle.hippo_report.specs.declared.refusal.Refusal.TheVariants as refusals
+use Rattle.hippo_report.specs.Notices.{number_line}
 use Rattle.hippo_report.specs.Refusals.{refusal_line}
+use Rattle.hippo_world.specs.declared.worlds.World.{World as HeldWorld}
 use Rattle.hippo_world.specs.Worlds.{World}
 use Rattle.hippo_world.specs.Holding.{world_of}
 use Rattle.hippo_commands.specs.Commands.{Command, state, who_commands}
 use Rattle.hippo_engine.specs.declared.engine.Engine.{Engine}
 use Rattle.hippo_engine.specs.declared.faults.EngineFault.{EngineFault}
-use Rattle.hippo_engine.specs.Carrying.{IsQuiet, Carries}
+use Rattle.hippo_engine.specs.declared.faults.EngineFault.TheVariants.{Keeper}
+use Rattle.hippo_engine.specs.Carrying.{JobsFit, WatchesFit, IsQuiet, Carries}
 use Rattle.hippo_engine.specs.Changing.{IsChange, Changes, IsRefused, changed}
 use Rattle.hippo_engine.specs.Checks.{Refuses, Checked, ◌>>=◌}
 use Rattle.hippo_engine.specs.Deeds.{Deed}
 use Rattle.hippo_engine.specs.Deeds as deeds
-use Rattle.hippo_engine.specs.Effects.{only_reply, done, effect_of, carried_out, next_entry, IsEffect}
+use Rattle.hippo_engine.specs.Effects.{Effect, only_reply, done, effect_of, carried_out, next_entry, IsEffect}
 use Rattle.hippo_engine.specs.Judging.{judged, judged_change}
+use Rattle.hippo_engine.specs.Ledgers.{taken_of, none_taken}
+use Rattle.hippo_engine.proofs.CarryingLemmas.{JobsFit-more, Holds-same, Holds-more}
 use Rattle.hippo_engine.proofs.ShortLemmas.{short, refused}
 
 -- what a statement means is what is asked for
@@ -84,6 +89,9 @@ quiet_refusal command session refusal old new is state_is world_is said = record
   effect = λ history stands.
       subst (λ (w : World). IsEffect history (world_of old.world) command (only_reply w new.reply)) (ap world_of (sym world_is))
       (replied history (is.refused history stands) said);
+  jobs = λ history stands fit. subst (JobsFit history) (sym world_is) fit;
+  watches = λ history stands fit. subst (WatchesFit history) (sym world_is) fit;
+  counts = λ versions steps. none_taken refl (ap taken_of world_is);
 }
   where
     as_said : (history : History) (other : Refusal) → new.reply ≡ refusal_line (Some session) other
@@ -138,23 +146,68 @@ found_change session statement text entry engine changes console found = record 
         (judged_as_change history (world_of engine.world) session statement text changes ∙ change.judged_so)
         ∙ next_is history (world_of engine.world) entry change.next
 
--- a change that was not recorded, since memory was short
-pub unrecorded : (command : Command) (entry : Entry) (old new : Engine) (before after : KeeperState) → Changes command entry old
-    → Records entry (err_of (Unit {0}) Memory) old.state new.state before after → IsSound new.state
-    → new.world ≡ old.world → new.reply ≡ refusal_line (Some 0) refusals.Memory
-    → Carries command (well EngineFault) old new before after
-unrecorded command entry old new before after changes records sound world_is reply_is = record {
-  call = IsAfterCall-as true false (err_of (Unit {0}) Memory) (well KeeperFault) before after refl records.keeps.call;
-  sound = λ fine. sound;
-  carried = λ fine history stands. record {
-    effect = only_reply (world_of old.world) (refusal_line (Some 0) refusals.Memory);
-    is = subst (λ (who : Option ℕ). IsEffect history (world_of old.world) command
-        (only_reply (world_of old.world) (refusal_line who refusals.Memory)))
-        changes.who (short history (world_of old.world) command changes.memory);
-    reply = reply_is;
-    world = ap world_of world_is;
-    stands = subst (StandsFor new.state) (sym (append-nil history)) (records.memory refl history stands);
-    kept = records.keeps.same refl;
-  };
-  failed = λ fails. absurd (false≢true fails);
-}
+module _ (command : Command) (entry : Entry) (old new : Engine) (before after : KeeperState) (steps : ℕ) (changes : Changes command entry old) where
+  -- a change that was recorded
+  pub recorded : Records entry (well KeeperFault) old.state new.state before after → IsSound new.state
+      → new.world ≡ old.world → new.reply ≡ number_line 0 (codes "ok") entry.seq
+      → Carries command (well EngineFault) old new before after steps steps
+  recorded records sound world_is reply_is = record {
+    call = records.keeps.call;
+    sound = λ fine. sound;
+    idle = λ none. refl;
+    carried = λ fine tells history holds. record {
+      effect = changed (world_of old.world) entry;
+      is = inl (sym (changes.adds history holds.stands));
+      reply = reply_is;
+      world = ap world_of world_is;
+      holds = Holds-more history entry old new before after holds (records.ok history holds.stands)
+          (JobsFit-more history entry new.world (subst (JobsFit history) (sym world_is) holds.jobs)) tt (records.keeps.kept tells);
+      kept = records.keeps.kept tells;
+      counts = λ ample. none_taken refl (ap taken_of world_is);
+      refused = λ refusal is others. refl;
+    };
+    failed = λ fails. absurd (false≢true fails);
+    undamaged = λ tells history holds number damaged. cc;
+  }
+
+  -- one that was not, since memory was short
+  pub unrecorded : Records entry (err_of (Unit {0}) Memory) old.state new.state before after → IsSound new.state
+      → new.world ≡ old.world → new.reply ≡ refusal_line (Some 0) refusals.Memory
+      → Carries command (well EngineFault) old new before after steps steps
+  unrecorded records sound world_is reply_is = record {
+    call = IsAfterCall-as true false (err_of (Unit {0}) Memory) (well KeeperFault) before after refl records.keeps.call;
+    sound = λ fine. sound;
+    idle = λ none. refl;
+    carried = λ fine tells history holds. record {
+      effect = only_reply (world_of old.world) (refusal_line (Some 0) refusals.Memory);
+      is = subst (λ (who : Option ℕ). IsEffect history (world_of old.world) command
+          (only_reply (world_of old.world) (refusal_line who refusals.Memory)))
+          changes.who (short history (world_of old.world) command changes.memory);
+      reply = reply_is;
+      world = ap world_of world_is;
+      holds = Holds-same history old new before after holds (records.memory refl history holds.stands)
+          (subst (JobsFit history) (sym world_is) holds.jobs) (subst (WatchesFit history) (sym world_is) holds.watches) (records.keeps.same refl tells);
+      kept = records.keeps.same refl tells;
+      counts = λ ample. none_taken refl (ap taken_of world_is);
+      refused = λ refusal is others. refl;
+    };
+    failed = λ fails. absurd (false≢true fails);
+    undamaged = λ tells history holds number damaged. cc;
+  }
+
+  -- the keeper failed
+  pub broken_change : Records entry (err_of (Unit {0}) Failed) old.state new.state before after
+      → Carries command (err_of (Unit {0}) Keeper) old new before after steps steps
+  broken_change records = record {
+    call = records.keeps.call;
+    sound = λ fine. absurd (false≢true (sym fine));
+    idle = λ none. refl;
+    carried = λ fine. absurd (false≢true fine);
+    failed = λ fails tells history holds. inl (record {
+      entry = entry;
+      adds = ap (λ (effect : Effect). effect.added) (changes.adds history holds.stands);
+      follows = records.keeps.follows refl history holds.stands;
+      kept = records.keeps.failed refl tells;
+    });
+    undamaged = λ tells history holds number damaged. cc;
+  }

@@ -3,6 +3,7 @@ mod RunExamples
 pub mod EffectTheorem
 pub mod ShortLemmas
 pub mod LengthLemmas
+pub mod LedgerLemmas
 pub mod CarryingLemmas
 mod LineLemmas
 mod ChangeLemmas

@@ -32,7 +32,9 @@ use Rattle.hippo_engine.specs.Checks.{Checked, ◌>>=◌, refused_if, open_sessi
 use Rattle.hippo_engine.specs.Deeds.{Deed, Question, asked_by}
 use Rattle.hippo_engine.specs.Judging.{deed_for, judged}
 use Rattle.hippo_engine.specs.Effects.{Effect, only_reply, next_entry, row_limit, question_rows, within_limit, alarms, asked, done, effect_of, IsShortAnswer, IsShort, IsEffect}
+use Rattle.hippo_engine.specs.Ledgers.{none_taken}
 use Rattle.hippo_engine.specs.Carrying.{Carries}
+use Rattle.hippo_engine.proofs.CarryingLemmas.{JobsFit-more, Holds-same, Holds-more}
 use Rattle.hippo_engine.specs.Asking.{question_of, deed_asked, entry_of, KeptAnswer, Asks, answer_said, world_left, Replies}
 use Rattle.hippo_engine.specs.Asking as asking
 use Rattle.hippo_engine.proofs.ShortLemmas.{short, refused, done_for}
@@ -85,7 +87,7 @@ record SaysSo (new : Engine) (said : List ShownRow → Txt) (left : List ShownRo
   reply : new.reply ≡ said rows
   world : world_of new.world ≡ left rows
 
-module _ (command : Command) (deed : Deed) (question : Question) (said : List ShownRow → Txt) (left : List ShownRow → World) (old new : Engine) (before after : KeeperState)
+module _ (command : Command) (deed : Deed) (question : Question) (said : List ShownRow → Txt) (left : List ShownRow → World) (old new : Engine) (before after : KeeperState) (steps : ℕ)
     (takes : takes_memory command ≡ true) (sound : IsSound old.state)
     (judged_is : (history : History) → StandsFor old.state history → judged history (world_of old.world) command ≡ Ok deed)
     (asks : IsQuestion (world_of old.world) deed question said left) where
@@ -118,51 +120,63 @@ module _ (command : Command) (deed : Deed) (question : Question) (said : List Sh
   -- it was kept and answered
   Carries-kept : (answer : Result (List ShownRow) EvalFault) → Asks entry (world_of old.world) question (ok_of KeeperFault answer) old.state new.state before after
       → ((rows : List ShownRow) → IsAnswered row_limit rows answer → SaysSo new said left rows ⊎ SaysShort command old new)
-      → Carries {A = Unit {0}} command (Ok tt) old new before after
+      → Carries {A = Unit {0}} command (Ok tt) old new before after steps steps
   Carries-kept answer kept says = record {
     call = IsAfterCall-as true false (ok_of KeeperFault answer) (well KeeperFault) before after refl kept.keeps.call;
     sound = λ fine. record { history = sound.history ++ entry ∷ []; stands = kept.added sound.history sound.stands };
-    carried = λ fine history stands. record {
+    idle = λ none. refl;
+    carried = λ fine tells history holds. record {
       effect = shown;
-      is = has_effect history stands (says (question_rows history (world_of old.world) question) (kept.rows history stands));
+      is = has_effect history holds.stands (says (question_rows history (world_of old.world) question) (kept.rows history holds.stands));
       reply = refl;
       world = refl;
-      stands = kept.added history stands;
-      kept = kept.keeps.kept;
+      holds = Holds-more history entry old new before after holds (kept.added history holds.stands)
+          (JobsFit-more history entry new.world holds.jobs) tt (kept.keeps.kept tells);
+      kept = kept.keeps.kept tells;
+      counts = λ ample. none_taken refl refl;
+      refused = λ refusal is others. refl;
     };
     failed = λ fails. absurd (false≢true fails);
+    undamaged = λ tells history holds number damaged. cc;
   }
 
   -- memory was short before it was kept
   Carries-short : Asks entry (world_of old.world) question (err_of (Result (List ShownRow) EvalFault) KeeperMemory) old.state new.state before after
-      → SaysShort command old new → Carries {A = Unit {0}} command (Ok tt) old new before after
+      → SaysShort command old new → Carries {A = Unit {0}} command (Ok tt) old new before after steps steps
   Carries-short kept none = record {
     call = IsAfterCall-as true false (err_of (Result (List ShownRow) EvalFault) KeeperMemory) (well KeeperFault) before after refl kept.keeps.call;
     sound = λ fine. subst IsSound (sym kept.same) sound;
-    carried = λ fine history stands. record {
+    idle = λ none. refl;
+    carried = λ fine tells history holds. record {
       effect = only_reply (world_of old.world) (refusal_line (who_commands command) Memory);
       is = short history (world_of old.world) command takes;
       reply = none.said;
       world = none.same;
-      stands = subst (StandsFor new.state) (sym (append-nil history)) (subst (λ (held : State). StandsFor held history) (sym kept.same) stands);
-      kept = kept.keeps.same refl;
+      holds = Holds-same history old new before after holds (subst (λ (held : State). StandsFor held history) (sym kept.same) holds.stands)
+          holds.jobs holds.watches (kept.keeps.same refl tells);
+      kept = kept.keeps.same refl tells;
+      counts = λ ample. none_taken refl refl;
+      refused = λ refusal is others. refl;
     };
     failed = λ fails. absurd (false≢true fails);
+    undamaged = λ tells history holds number damaged. cc;
   }
 
   -- the keeper failed
   Carries-failed : Asks entry (world_of old.world) question (err_of (Result (List ShownRow) EvalFault) Failed) old.state new.state before after
-      → Carries command (err_of (Unit {0}) Keeper) old new before after
+      → Carries command (err_of (Unit {0}) Keeper) old new before after steps steps
   Carries-failed kept = record {
     call = IsAfterCall-as true false (err_of (Result (List ShownRow) EvalFault) Failed) (err_of (Unit {0}) Failed) before after refl kept.keeps.call;
     sound = λ fine. absurd (false≢true (sym fine));
-    carried = λ fine. absurd (false≢true (sym fine));
-    failed = λ fails history stands. record {
+    idle = λ none. refl;
+    carried = λ fine. absurd (false≢true fine);
+    failed = λ fails tells history holds. inl (record {
       entry = entry;
-      adds = ap (λ (effect : Effect). effect.added) (effect_is history stands) ∙ (λ i. sym (next_is history old.state old.world question stands) i ∷ []);
-      follows = kept.keeps.follows refl history stands;
-      kept = kept.keeps.failed refl;
-    };
+      adds = ap (λ (effect : Effect). effect.added) (effect_is history holds.stands) ∙ (λ i. sym (next_is history old.state old.world question holds.stands) i ∷ []);
+      follows = kept.keeps.follows refl history holds.stands;
+      kept = kept.keeps.failed refl tells;
+    });
+    undamaged = λ tells history holds number damaged. cc;
   }
 
 -- a session that is open is there
@@ -175,7 +189,7 @@ found_session false (Some one) session is = ap (λ (c : Checked Session). found 
     found (Ok one) = Some one
     found (Err refusal) = None
 
-module _ (session : ℕ) (statement : Stmt) (text : Txt) (asked_for : Asking) (old new : Engine) (before after : KeeperState) (sound : IsSound old.state) where
+module _ (session : ℕ) (statement : Stmt) (text : Txt) (asked_for : Asking) (old new : Engine) (before after : KeeperState) (steps : ℕ) (sound : IsSound old.state) where
   -- a question that is not refused
   abbrev asks_it : Command
   asks_it = state session statement text
@@ -204,16 +218,16 @@ module _ (session : ℕ) (statement : Stmt) (text : Txt) (asked_for : Asking) (o
       → ((history : History) → StandsFor old.state history → judged history (world_of old.world) asks_it ≡ Ok (deed_asked session asked_for))
       → (kept : KeptAnswer) → Asks (entry_of old.state old.world.clock question) (world_of old.world) question kept old.state new.state before after
       → (result : Result (Unit {0}) EngineFault) → Replies session asked_for.cursor kept result new.reply (world_of old.world) (world_of new.world)
-      → Carries asks_it result old new before after
+      → Carries asks_it result old new before after steps steps
   Carries-question there judged_is (Ok answer) asks result replies =
       let at = found_session (session == 0) (session_at (world_of old.world) session) asked_for.asker.now there in
-      subst (λ (r : Result (Unit {0}) EngineFault). Carries asks_it r old new before after) (sym replies.0)
-      (Carries-kept asks_it (deed_asked session asked_for) question is_said is_left old new before after refl sound judged_is (is_question asked_for.cursor) answer asks
+      subst (λ (r : Result (Unit {0}) EngineFault). Carries asks_it r old new before after steps steps) (sym replies.0)
+      (Carries-kept asks_it (deed_asked session asked_for) question is_said is_left old new before after steps refl sound judged_is (is_question asked_for.cursor) answer asks
       (λ rows answered. says at rows (replies.1 rows answered)))
   Carries-question there judged_is (Err KeeperMemory) asks result replies =
-      subst (λ (r : Result (Unit {0}) EngineFault). Carries asks_it r old new before after) (sym replies.0.0)
-      (Carries-short asks_it (deed_asked session asked_for) question is_said is_left old new before after refl sound judged_is (is_question asked_for.cursor) asks
+      subst (λ (r : Result (Unit {0}) EngineFault). Carries asks_it r old new before after steps steps) (sym replies.0.0)
+      (Carries-short asks_it (deed_asked session asked_for) question is_said is_left old new before after steps refl sound judged_is (is_question asked_for.cursor) asks
       (record { said = replies.0.1; same = replies.1 }))
   Carries-question there judged_is (Err Failed) asks result replies =
-      subst (λ (r : Result (Unit {0}) EngineFault). Carries asks_it r old new before after) (sym replies.0)
-      (Carries-failed asks_it (deed_asked session asked_for) question is_said is_left old new before after refl sound judged_is (is_question asked_for.cursor) asks)
+      subst (λ (r : Result (Unit {0}) EngineFault). Carries asks_it r old new before after steps steps) (sym replies.0)
+      (Carries-failed asks_it (deed_asked session asked_for) question is_said is_left old new before after steps refl sound judged_is (is_question asked_for.cursor) asks)

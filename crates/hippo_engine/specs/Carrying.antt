@@ -1,29 +1,57 @@
--- What carrying out a command does to an engine and its keeper.
-use Rattle.std.specs.Prelude.{◌≡◌, ◌≤◌, ℕ, false, true, [], ◌∷◌, ◌++◌, length, None, Result, Ok, Err}
+-- What carrying out a command does to an engine and its keeper, over the history that is kept.
+use Rattle.std.specs.Prelude.{◌≡◌, ◌≢◌, ◌≤◌, ◌⊎◌, ℕ, ℤ, Bool, false, true, [], ◌∷◌, ◌++◌, length, map, None, Result, Ok, Err}
 use Rattle.hippo_model.specs.declared.entry.Entry.{Entry}
 use Rattle.hippo_model.specs.StoredForms.{stored}
 use Rattle.hippo_model.specs.Terms.{History}
 use Rattle.hippo_model.specs.Validity.{may_follow}
+use Rattle.hippo_model.specs.Versions.{versions}
 use Rattle.hippo_keeper.specs.declared.faults.KeeperFault.{KeeperFault}
 use Rattle.hippo_keeper.specs.declared.faults.KeeperFault.TheVariants.{Failed}
 use Rattle.hippo_keeper.specs.Answering.{has_failed}
 use Rattle.hippo_keeper.specs.Keeping.{KeeperState, IsReady, IsAfterCall, MayHaveOneMore}
 use Rattle.hippo_typing.specs.Meanings.{meaning}
-use Rattle.hippo_replay.specs.Standing.{StandsFor, IsSound}
 use Rattle.hippo_replay.specs.declared.state.State.{State}
+use Rattle.hippo_replay.specs.Loading.{KeepsSame}
+use Rattle.hippo_replay.specs.Standing.{StandsFor, IsSound}
 use Rattle.hippo_replay.specs.Recording.{HasKept}
 use Rattle.hippo_replay.specs.TakingIn.{HasLoaded}
+use Rattle.hippo_report.specs.declared.refusal.Refusal.{Refusal}
+use Rattle.hippo_report.specs.declared.refusal.Refusal.TheVariants.{NoSuchQuery}
 use Rattle.hippo_report.specs.Refusals.{refusal_line}
+use Rattle.hippo_world.specs.declared.worlds.World.{World as HeldWorld}
 use Rattle.hippo_world.specs.Holding.{world_of}
 use Rattle.hippo_commands.specs.Commands.{Command, wrong}
 use Rattle.hippo_engine.specs.declared.engine.Engine.{Engine}
 use Rattle.hippo_engine.specs.declared.faults.EngineFault.{EngineFault}
-use Rattle.hippo_engine.specs.declared.faults.EngineFault.TheVariants.{Keeper, Write}
+use Rattle.hippo_engine.specs.declared.faults.EngineFault.TheVariants.{Keeper, Write, Damaged}
+use Rattle.hippo_engine.specs.Judging.{judged}
 use Rattle.hippo_engine.specs.Effects.{Effect, only_reply, effect_of, IsEffect}
+use Rattle.hippo_engine.specs.Ledgers.{reads_kept, taken_of, Tallies}
 
--- what carrying out asks of a state and its keeper: there is a history for which the state stands, and the keeper,
--- which is started and neither spent nor closed, keeps that where it tells
-pub record AtWork (state : State) (keeper : KeeperState) : Type 0 where
+-- what the open jobs hold is that of a history: no job is built yet
+abbrev pub JobsFit : History → HeldWorld → Type 0
+JobsFit history held = Unit {0}
+
+-- what the watches hold is that of a history: no watch is built yet
+abbrev pub WatchesFit : History → HeldWorld → Type 0
+WatchesFit history held = Unit {0}
+
+-- a keeper keeps a history, and an engine holds what it says
+pub record Holds (history : History) (engine : Engine) (keeper : KeeperState) : Type 0 where
+  pub forms : map stored history ≡ keeper.kept
+  pub stands : StandsFor engine.state history
+  pub jobs : JobsFit history engine.world
+  pub watches : WatchesFit history engine.world
+
+-- what carrying out asks of an engine and its keeper: there is a history for which the state stands, the keeper is
+-- started and neither spent nor closed, and where it tells what it keeps, both hold a history
+pub record AtWork (engine : Engine) (keeper : KeeperState) : Type 0 where
+  pub sound : IsSound engine.state
+  pub ready : IsReady true keeper
+  pub told : keeper.tells → (history : History) × Holds history engine keeper
+
+-- the same of a state alone, as recording asks it
+pub record IsBacked (state : State) (keeper : KeeperState) : Type 0 where
   pub sound : IsSound state
   pub ready : IsReady true keeper
   pub told : keeper.tells → HasLoaded state keeper.kept
@@ -33,6 +61,14 @@ abbrev pub as_call : {A : Type 0} → Result A EngineFault → Result (Unit {0})
 as_call (Ok value) = Ok tt
 as_call (Err Keeper) = Err Failed
 as_call (Err Write) = Ok tt
+as_call (Err (Damaged number)) = Ok tt
+
+-- a line was carried out, though its reply may not have been written
+abbrev pub is_carried : {A : Type 0} → Result A EngineFault → Bool
+is_carried (Ok value) = true
+is_carried (Err Keeper) = false
+is_carried (Err Write) = true
+is_carried (Err (Damaged number)) = false
 
 -- how many bytes of a reply there is always room for
 abbrev pub reply_room : ℕ
@@ -47,36 +83,64 @@ IsOfLine command = Unit {0}
 abbrev pub shown : Engine → Effect
 shown engine = only_reply (world_of engine.world) engine.reply
 
--- a command that adds no entry has its effect, whatever history the state stands for
+-- a command that neither adds an entry nor reads what is kept has its effect, whatever history the state stands for;
+-- jobs and watches that fitted it still do, and no step is taken
 pub record IsQuiet (command : Command) (old new : Engine) : Type 0 where
   pub same : new.state ≡ old.state
   pub effect : (history : History) → StandsFor old.state history
       → IsEffect history (world_of old.world) command (shown new)
+  pub jobs : (history : History) → StandsFor old.state history → JobsFit history old.world
+      → JobsFit history new.world
+  pub watches : (history : History) → StandsFor old.state history → WatchesFit history old.world
+      → WatchesFit history new.world
+  pub counts : (versions steps : ℕ) → Tallies command versions steps steps (taken_of old.world) (taken_of new.world)
 
--- a command has its effect after a history: the engine shows the reply and holds the world, stands for the history with
--- what was added, and its keeper keeps that
+-- a command has its effect after a history: the engine shows the reply and the world, it and its keeper hold the
+-- history with what was added, the steps are tallied unless memory was short for reading, and a refusal takes none, but
+-- for one that is found by reading
 pub record HasEffect (history : History) (command : Command) (old new : Engine)
-    (before after : KeeperState) : Type 0 where
+    (before after : KeeperState) (steps steps' : ℕ) : Type 0 where
   pub effect : Effect
   pub is : IsEffect history (world_of old.world) command effect
   pub reply : new.reply ≡ effect.reply
   pub world : world_of new.world ≡ effect.world
-  pub stands : StandsFor new.state (history ++ effect.added)
-  pub kept : after.tells → HasKept effect.added before after
+  pub holds : Holds (history ++ effect.added) new after
+  pub kept : HasKept effect.added before after
+  pub counts : (reads_kept command ≡ true → effect ≡ effect_of history (world_of old.world) command)
+      → Tallies command (versions history) steps steps' (taken_of old.world) (taken_of new.world)
+  pub refused : (refusal : Refusal) → judged history (world_of old.world) command ≡ Err refusal
+      → ((number : ℤ) → refusal ≢ NoSuchQuery number) → steps' ≡ steps
 
 -- the keeper failed while it was to keep the entry that the command adds by the rules
-pub record BreaksOff (history : History) (command : Command) (old : Engine) (before after : KeeperState) : Type 0 where
+pub record BreaksOffAdding (history : History) (command : Command) (old : Engine)
+    (before after : KeeperState) : Type 0 where
   pub entry : Entry
   pub adds : (effect_of history (world_of old.world) command).added ≡ entry ∷ []
   pub follows : may_follow meaning history entry ≡ true
-  pub kept : after.tells → MayHaveOneMore (stored entry) before after
+  pub kept : MayHaveOneMore (stored entry) before after
 
--- a command is carried out, or the keeper fails
-pub record Carries {A : Type 0} (command : Command) (result : Result A EngineFault) (old new : Engine)
+-- the keeper failed while it was read for a command that adds nothing, and keeps what it kept
+pub record BreaksOffReading (history : History) (command : Command) (old : Engine)
     (before after : KeeperState) : Type 0 where
+  pub reads : reads_kept command ≡ true
+  pub adds : (effect_of history (world_of old.world) command).added ≡ []
+  pub kept : KeepsSame before after
+
+-- the keeper failed while it was to keep an entry, or while it was read
+abbrev pub BreaksOff : History → Command → Engine → KeeperState → KeeperState → Type 0
+BreaksOff history command old before after =
+    BreaksOffAdding history command old before after ⊎ BreaksOffReading history command old before after
+
+-- a command is carried out, or the keeper fails, or hands over what it did not keep; where it tells what it keeps, the
+-- command has its effect over that, or the keeper breaks off, and nothing is damaged
+pub record Carries {A : Type 0} (command : Command) (result : Result A EngineFault) (old new : Engine)
+    (before after : KeeperState) (steps steps' : ℕ) : Type 0 where
   pub call : IsAfterCall true false (as_call result) before after
   pub sound : has_failed (as_call result) ≡ false → IsSound new.state
-  pub carried : has_failed (as_call result) ≡ false → (history : History) → StandsFor old.state history
-      → HasEffect history command old new before after
-  pub failed : has_failed (as_call result) ≡ true → (history : History) → StandsFor old.state history
+  pub idle : reads_kept command ≡ false → steps' ≡ steps
+  pub carried : is_carried result ≡ true → after.tells → (history : History) → Holds history old before
+      → HasEffect history command old new before after steps steps'
+  pub failed : has_failed (as_call result) ≡ true → after.tells → (history : History) → Holds history old before
       → BreaksOff history command old before after
+  pub undamaged : after.tells → (history : History) → Holds history old before
+      → (number : ℕ) → result ≢ Err (Damaged number)

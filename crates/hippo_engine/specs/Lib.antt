@@ -3,6 +3,7 @@ pub mod Checks
 pub mod Records
 pub mod Judging
 pub mod Effects
+pub mod Ledgers
 pub mod Carrying
 pub mod Changing
 pub mod Asking

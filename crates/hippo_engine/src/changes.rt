@@ -1,5 +1,5 @@
 //! Statements that change something: what they add to the history, or why they are refused.
-ghost use Rattle.std.specs.Prelude.{◌≡◌, ◌≢◌, ◌⊎◌, ◌^◌, ◌<◌, true, length, IfOk, OnOk, Err};
+ghost use Rattle.std.specs.Prelude.{◌≡◌, ◌≢◌, ◌⊎◌, ℕ, ◌^◌, ◌<◌, true, length, IfOk, OnOk, Err};
 ghost use Rattle.hippo_values.specs.Texts.{Txt as Text};
 ghost use Rattle.hippo_model.specs.declared.name_fault.NameFault.TheVariants as faults;
 ghost use Rattle.hippo_model.specs.Terms.{History};
@@ -137,10 +137,10 @@ impl Engine {
         keeper: &mut P,
         entry: &Entry,
     ) -> Result<(), EngineFault>
-        requires at_work { AtWork self.old.state (P.state keeper.old) }
+        requires at_work { AtWork self.old (P.state keeper.old) }
         requires number { entry.now.seq < 2 ^ 63 }
-        ensures carries { (command : Command) → Changes command entry.now self.old
-            → Carries command result self.old self.new (P.state keeper.old) (P.state keeper.new) }
+        ensures carries { (command : Command) (steps : ℕ) → Changes command entry.now self.old
+            → Carries command result self.old self.new (P.state keeper.old) (P.state keeper.new) steps steps }
         ensures unwritten { result ≢ Err WriteFailed }
     {
         say_number(0, "ok", entry.seq, &mut self.reply);
@@ -163,10 +163,10 @@ impl Engine {
         session: u8,
         statement: &Stmt,
     ) -> Result<(), EngineFault>
-        requires at_work { AtWork self.old.state (P.state keeper.old) }
+        requires at_work { AtWork self.old (P.state keeper.old) }
         requires changes { changes_something statement.now ≡ true }
-        ensures carries { (text : Text) → Carries (state session statement.now text) result self.old self.new
-            (P.state keeper.old) (P.state keeper.new) }
+        ensures carries { (text : Text) (steps : ℕ) → Carries (state session statement.now text) result
+            self.old self.new (P.state keeper.old) (P.state keeper.new) steps steps }
         ensures unwritten { result ≢ Err WriteFailed }
     {
         match self.entry_of(alloc, session, statement) {

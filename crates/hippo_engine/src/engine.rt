@@ -1,5 +1,5 @@
 //! The engine: each line of the input is carried out, and has its reply.
-ghost use Rattle.std.specs.Prelude.{◌≡◌, ◌≢◌, [], Err, IfOk, OnOk};
+ghost use Rattle.std.specs.Prelude.{◌≡◌, ◌≢◌, [], false, Err, IfOk, OnOk};
 ghost use Rattle.hippo_io.specs.Faults.{HasRisen};
 ghost use Rattle.hippo_io.specs.LineTexts.{line_text};
 ghost use Rattle.hippo_io.specs.Told.{Appends, AppendsFront};
@@ -7,20 +7,21 @@ ghost use Rattle.hippo_world.specs.Worlds.{opening};
 ghost use Rattle.hippo_world.specs.Holding.{world_of};
 ghost use Rattle.hippo_commands.specs.Commands.{state, commanded};
 ghost use Rattle.hippo_commands.specs.Lent.{command};
-ghost use Rattle.hippo_engine.specs.declared.faults.EngineFault.TheVariants.{Keeper as KeeperFailed, Write as WriteFailed};
-ghost use Rattle.hippo_engine.specs.Carrying.{IsOfLine, AtWork, Carries};
+ghost use Rattle.hippo_engine.specs.declared.faults.EngineFault.TheVariants.{Write as WriteFailed};
+ghost use Rattle.hippo_engine.specs.Carrying.{IsOfLine, AtWork, is_carried, Carries};
 
 use crate::asking::Handing;
 use crate::faults::EngineFault;
 use hippo_commands::{Command, command_of};
 use hippo_io::{Line, Sink};
-use hippo_keeper::Keeper;
+use hippo_keeper::{Keeper, Steps};
 use hippo_model::Stmt;
 use hippo_replay::State;
 use hippo_report::Format;
 use hippo_values::{Memory, Moment, RoomyTxt};
 use hippo_world::World;
 use std::alloc::Global;
+use std::sync::ledger::Ledger;
 
 /// How many bytes of a reply there is always room for: each reply that must not want memory is shorter.
 pub const REPLY_ROOM: usize = 64;
@@ -80,17 +81,18 @@ impl Engine {
     }
 
     // Carries out a statement of a session or of the console.
-    fn state<P: Keeper>(
+    fn state<P: Keeper, L: Ledger>(
         &mut self,
         alloc: Global,
         keeper: &mut P,
         session: u8,
         statement: &Stmt,
         text: &str,
+        steps: &mut Steps<L>,
     ) -> Result<(), EngineFault>
-        requires at_work { AtWork self.old.state (P.state keeper.old) }
+        requires at_work { AtWork self.old (P.state keeper.old) }
         ensures carries { Carries (state session statement.now text.now) result self.old self.new
-            (P.state keeper.old) (P.state keeper.new) }
+            (P.state keeper.old) (P.state keeper.new) steps.old steps.new }
         ensures unwritten { result ≢ Err WriteFailed }
     {
         match statement {
@@ -131,16 +133,17 @@ impl Engine {
     }
 
     // Carries out what a line commands.
-    fn carry_out<P: Keeper>(
+    fn carry_out<P: Keeper, L: Ledger>(
         &mut self,
         alloc: Global,
         keeper: &mut P,
         found: Command<'_>,
+        steps: &mut Steps<L>,
     ) -> Result<(), EngineFault>
-        requires at_work { AtWork self.old.state (P.state keeper.old) }
+        requires at_work { AtWork self.old (P.state keeper.old) }
         requires of_line { IsOfLine (command found) }
         ensures carries { Carries (command found.entry) result self.old self.new
-            (P.state keeper.old) (P.state keeper.new) }
+            (P.state keeper.old) (P.state keeper.new) steps.old steps.new }
         ensures unwritten { result ≢ Err WriteFailed }
     {
         match found {
@@ -153,7 +156,7 @@ impl Engine {
                 statement,
                 text,
             } => {
-                let result = self.state(alloc, keeper, session, &statement, text);
+                let result = self.state(alloc, keeper, session, &statement, text, steps);
                 drop(statement);
                 return result;
             }
@@ -162,42 +165,45 @@ impl Engine {
     }
 
     /// Carries out a line and makes its reply whole in memory; what it adds to the history is kept when the call
-    /// returns. Answers `Keeper` only where the keeper's count of faults rose: the engine is then of no more use. The
-    /// end of the input commands nothing.
-    pub fn answer<P: Keeper>(
+    /// returns. Answers `Keeper` only where the keeper's count of faults rose: the engine is then of no more use.
+    /// Answers `Damaged` only where the keeper does not tell what it keeps. Each version that is read counts as a step.
+    /// The end of the input commands nothing.
+    pub fn answer<P: Keeper, L: Ledger>(
         &mut self,
         alloc: Global,
         line: Line<'_>,
         keeper: &mut P,
+        steps: &mut Steps<L>,
     ) -> Result<(), EngineFault>
-        requires at_work { AtWork self.old.state (P.state keeper.old) }
+        requires at_work { AtWork self.old (P.state keeper.old) }
         ensures carries { Carries (commanded (line_text line.entry)) result self.old self.new
-            (P.state keeper.old) (P.state keeper.new) }
+            (P.state keeper.old) (P.state keeper.new) steps.old steps.new }
         ensures unwritten { result ≢ Err WriteFailed }
     {
         let found = command_of(alloc, line);
-        self.carry_out(alloc, keeper, found)
+        self.carry_out(alloc, keeper, found, steps)
     }
 
     /// Carries out a line, as `answer` does, and writes its reply. Answers `Write` only where the sink's count of
     /// faults rose: a front of the reply is then written.
-    pub fn line<K: Sink, P: Keeper>(
+    pub fn line<K: Sink, P: Keeper, L: Ledger>(
         &mut self,
         alloc: Global,
         line: Line<'_>,
         keeper: &mut P,
         sink: &mut K,
+        steps: &mut Steps<L>,
     ) -> Result<(), EngineFault>
-        requires at_work { AtWork self.old.state (P.state keeper.old) }
+        requires at_work { AtWork self.old (P.state keeper.old) }
         ensures carries { Carries (commanded (line_text line.entry)) result self.old self.new
-            (P.state keeper.old) (P.state keeper.new) }
+            (P.state keeper.old) (P.state keeper.new) steps.old steps.new }
         ensures written { OnOk result (Appends (K.written sink.old) (K.written sink.new) self.new.reply) }
         ensures cut { result ≡ Err WriteFailed → AppendsFront (K.written sink.old) (K.written sink.new) self.new.reply
             × HasRisen (K.faults sink.old) (K.faults sink.new) }
-        ensures unwritten { result ≡ Err KeeperFailed → sink.new ≡ sink.old }
+        ensures unwritten { is_carried result ≡ false → sink.new ≡ sink.old }
         ensures unfailed { result ≢ Err WriteFailed → K.faults sink.new ≡ K.faults sink.old }
     {
-        match self.answer(alloc, line, keeper) {
+        match self.answer(alloc, line, keeper, steps) {
             Ok(()) => self.write_reply(sink),
             Err(fault) => Err(fault),
         }

@@ -7,6 +7,9 @@ pub enum EngineFault {
     /// The keeper failed.
     #[error("the keeper failed")]
     Keeper,
+    /// The keeper handed over something else than the entry that it kept with this number.
+    #[error("the kept history is damaged")]
+    Damaged(u64),
     /// The sink failed.
     #[error("the reply could not be written")]
     Write,

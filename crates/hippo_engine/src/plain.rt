@@ -1,12 +1,12 @@
 //! What a line does that says nothing, is refused whatever the history, or is not carried out yet; and writing a reply.
-ghost use Rattle.std.specs.Prelude.{◌≡◌, ◌≢◌, false, Err, OnOk};
+ghost use Rattle.std.specs.Prelude.{◌≡◌, ◌≢◌, true, false, Err, OnOk};
 ghost use Rattle.hippo_values.specs.Texts.{Txt as Text};
 ghost use Rattle.hippo_io.specs.Faults.{HasRisen};
 ghost use Rattle.hippo_io.specs.Told.{Appends, AppendsFront};
 ghost use Rattle.hippo_commands.specs.Commands.{nothing, wrong, state};
 ghost use Rattle.hippo_engine.specs.Judging.{is_statement_built};
 ghost use Rattle.hippo_engine.specs.declared.faults.EngineFault.TheVariants.{Write as WriteFailed};
-ghost use Rattle.hippo_engine.specs.Carrying.{IsOfLine, IsQuiet};
+ghost use Rattle.hippo_engine.specs.Carrying.{IsOfLine, is_carried, IsQuiet};
 
 use crate::engine::Engine;
 use crate::faults::EngineFault;
@@ -44,7 +44,7 @@ impl Engine {
         ensures written { OnOk result (Appends (K.written sink.old) (K.written sink.new) self.now.reply) }
         ensures cut { result ≡ Err WriteFailed → AppendsFront (K.written sink.old) (K.written sink.new) self.now.reply
             × HasRisen (K.faults sink.old) (K.faults sink.new) }
-        ensures only { result ≢ Err EngineFault.Keeper }
+        ensures only { is_carried result ≡ true }
         ensures unfailed { result ≢ Err WriteFailed → K.faults sink.new ≡ K.faults sink.old }
     {
         match write_whole(sink, self.reply.as_str().as_bytes()) {

@@ -10,7 +10,7 @@ ghost use Rattle.hippo_replay.specs.Standing.{StandsFor, IsNext, takes_no_memory
 ghost use Rattle.hippo_world.specs.Holding.{world_of};
 ghost use Rattle.hippo_commands.specs.Commands.{state};
 ghost use Rattle.hippo_engine.specs.declared.faults.EngineFault.TheVariants.{Write as WriteFailed};
-ghost use Rattle.hippo_engine.specs.Carrying.{AtWork, Carries};
+ghost use Rattle.hippo_engine.specs.Carrying.{AtWork, IsBacked, Carries};
 ghost use Rattle.hippo_engine.specs.Effects.{row_limit, question_rows, listed};
 ghost use Rattle.hippo_engine.specs.Asking.{question_of, statement_asked, IsAnswerable, entry_of, Asks};
 ghost use Rattle.hippo_engine.specs.Asking.{short_line, IsUnkept, IsHandedOut, IsShort, Replies};
@@ -104,7 +104,7 @@ fn keep_entry<P: Keeper>(
     asking: &Asking<'_>,
     entry: &Entry,
 ) -> Result<Result<Answer, EvalFault>, KeeperFault>
-    requires at_work { AtWork state.old (P.state keeper.old) }
+    requires backed { IsBacked state.old (P.state keeper.old) }
     requires number { entry.now.seq < 2 ^ 63 }
     requires room { takes_no_memory entry.now.act ≡ true }
     requires answerable { IsAnswerable state.old asking.now.query }
@@ -129,7 +129,7 @@ fn keep_and_answer<P: Keeper>(
     world: &World,
     asking: &Asking<'_>,
 ) -> Result<Result<Answer, EvalFault>, KeeperFault>
-    requires at_work { AtWork state.old (P.state keeper.old) }
+    requires backed { IsBacked state.old (P.state keeper.old) }
     requires number { state.old.count + 1 < 2 ^ 63 }
     requires answerable { IsAnswerable state.old asking.now.query }
     ensures asks { (session : ℕ) → Asks (entry_of state.old world.now.clock (question_of session asking.now))
@@ -240,9 +240,9 @@ impl Engine {
         end: usize,
         text: &str,
     ) -> Result<(), EngineFault>
-        requires at_work { AtWork self.old.state (P.state keeper.old) }
-        ensures carries { Carries (state session (statement_asked handing select.now start end) text.now) result
-            self.old self.new (P.state keeper.old) (P.state keeper.new) }
+        requires at_work { AtWork self.old (P.state keeper.old) }
+        ensures carries { (steps : ℕ) → Carries (state session (statement_asked handing select.now start end) text.now)
+            result self.old self.new (P.state keeper.old) (P.state keeper.new) steps steps }
         ensures unwritten { result ≢ Bad WriteFailed }
     {
         match asks(

@@ -12,4 +12,4 @@ carry_out-requires-clause-of_line g c =
 pub returns-clause-carries : goal.returns-clause-carries
 returns-clause-carries g c =
     Carries-found (commanded (line_text c.args.line)) (command c.command_of-found.result) c.carry_out.result c.args.self.now c.carry_out.new.self
-    (g.P.Keeper.state c.args.keeper.now) (g.P.Keeper.state c.carry_out.new.keeper) c.command_of-found.ensures c.carry_out.ensures.carries
+    (g.P.Keeper.state c.args.keeper.now) (g.P.Keeper.state c.carry_out.new.keeper) c.args.steps.now c.carry_out.new.steps c.command_of-found.ensures c.carry_out.ensures.carries

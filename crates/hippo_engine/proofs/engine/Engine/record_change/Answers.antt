@@ -1,13 +1,32 @@
--- An entry that is not kept, since memory was short.
+-- An entry is kept, or memory was short, or the keeper failed.
 use Rattle.std.proofs.Common.{refl}
-use Rattle.hippo_engine.proofs.ChangeLemmas.{unrecorded, told_short}
+use Rattle.hippo_engine.proofs.CarryingLemmas.{IsBacked-of}
+use Rattle.hippo_engine.proofs.ChangeLemmas.{recorded, unrecorded, broken_change, told_short}
 use Rattle.hippo_engine.proofs.engine.Engine.record_change.Goals as goal
 
+pub record-requires-clause-told : goal.record-requires-clause-told
+record-requires-clause-told g c = λ tells.
+    (IsBacked-of c.args.self.now (g.P.Keeper.state c.args.keeper.now) c.requires.at_work).told tells
+
+pub returns-in-Ok-clause-carries : goal.returns-in-Ok-clause-carries
+returns-in-Ok-clause-carries g c = λ command steps changes.
+    recorded command c.args.entry.now c.args.self.now
+    (record { state = c.record.new.self; world = c.args.self.now.world; reply = c.say_number.new.reply })
+    (g.P.Keeper.state c.args.keeper.now) (g.P.Keeper.state c.record.new.keeper) steps changes
+    c.in-Ok.ensures.records (c.in-Ok.ensures.sound refl) refl c.say_number.ensures
+
+pub returns-in-Err-Failed-clause-carries : goal.returns-in-Err-Failed-clause-carries
+returns-in-Err-Failed-clause-carries g c = λ command steps changes.
+    broken_change command c.args.entry.now c.args.self.now
+    (record { state = c.record.new.self; world = c.args.self.now.world; reply = c.say_number.new.reply })
+    (g.P.Keeper.state c.args.keeper.now) (g.P.Keeper.state c.record.new.keeper) steps changes
+    (rw c.in-Err-Failed.field-0-is at c.in-Err-Failed.ensures.records)
+
 pub returns-in-Err-Memory-clause-carries : goal.returns-in-Err-Memory-clause-carries
-returns-in-Err-Memory-clause-carries g c = λ command changes.
+returns-in-Err-Memory-clause-carries g c = λ command steps changes.
     unrecorded command c.args.entry.now c.args.self.now
     (record { state = c.record.new.self; world = c.args.self.now.world; reply = c.refuse.new.reply })
-    (g.P.Keeper.state c.args.keeper.now) (g.P.Keeper.state c.record.new.keeper) changes
+    (g.P.Keeper.state c.args.keeper.now) (g.P.Keeper.state c.record.new.keeper) steps changes
     (rw c.in-Err-Memory.field-0-is at c.in-Err-Memory.ensures.records)
     (rw c.in-Err-Memory.field-0-is at c.in-Err-Memory.ensures.sound refl)
     refl (told_short c.refuse.new.reply c.refuse.ensures.said)

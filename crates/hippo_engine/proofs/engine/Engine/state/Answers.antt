@@ -3,9 +3,15 @@ use Rattle.hippo_engine.proofs.CarryingLemmas.{Carries-quiet}
 use Rattle.hippo_engine.proofs.engine.Engine.state.Goals as goal
 
 pub returns-in_default-clause-carries : goal.returns-in_default-clause-carries
-returns-in_default-clause-carries g c = c.change.ensures.carries c.args.text.now
+returns-in_default-clause-carries g c = c.change.ensures.carries c.args.text.now c.args.steps.now
+
+pub returns-in-Select-clause-carries : goal.returns-in-Select-clause-carries
+returns-in-Select-clause-carries g c = rw c.in-Select.is (c.question.ensures.carries c.args.steps.now)
+
+pub returns-in-Ask-clause-carries : goal.returns-in-Ask-clause-carries
+returns-in-Ask-clause-carries g c = rw c.in-Ask.is (c.question-in-Ask.ensures.carries c.args.steps.now)
 
 pub returns-in-Extract-clause-carries : goal.returns-in-Extract-clause-carries
 returns-in-Extract-clause-carries g c =
     Carries-quiet (state c.args.session c.args.statement.now c.args.text.now) c.args.self.now c.refuse_unbuilt.new.self
-    (g.P.Keeper.state c.args.keeper.now) c.requires.at_work (c.refuse_unbuilt.ensures c.args.text.now)
+    (g.P.Keeper.state c.args.keeper.now) c.args.steps.now c.requires.at_work (c.refuse_unbuilt.ensures c.args.text.now)
