@@ -152,12 +152,26 @@ class Lines:
             else:
                 sources += "%s JOIN %s ON %s" % (self.pick(["", " INNER"]), tables[place], self.test(tables[:place + 1]))
         where = " WHERE " + self.condition(tables) if self.chance(0.7) else ""
-        return "SELECT %s FROM %s%s" % (items, sources, where)
+        if self.chance(0.2):
+            return self.grouped(tables, sources, where)
+        return "SELECT %s%s FROM %s%s" % ("DISTINCT " if self.chance(0.2) else "", items, sources, where)
+
+    def grouped(self, tables, sources, where):
+        """A select with GROUP BY, most of whose columns are those of its list."""
+        by = [self.column_of(tables) for _ in range(self.random.randint(1, 2))]
+        outs = list(by) + ["%s(%s)" % (self.pick(["MIN", "MAX"]), self.column_of(tables)) for _ in range(self.random.randint(0, 3))]
+        self.random.shuffle(outs)
+        if self.chance(0.05):
+            outs.append(self.column_of(tables))
+        if self.chance(0.05):
+            by.append(self.column_of(tables))
+        return "SELECT %s FROM %s%s GROUP BY %s" % (", ".join(outs), sources, where, ", ".join(by))
 
     def item(self, tables):
+        return self.pick(tables) + ".*" if self.chance(0.08) else self.column_of(tables)
+
+    def column_of(self, tables):
         table = self.pick(tables)
-        if self.chance(0.08):
-            return table + ".*"
         column = self.column(table)
         return "%s.%s" % (table, column) if len(tables) > 1 and self.chance(0.9) else column
 
@@ -196,7 +210,7 @@ class Lines:
             return "at 2024-%02d-%02dT%02d:%02d:%02dZ" % (day // 28 % 12 + 1, day % 28 + 1, second // 3600, second // 60 % 60, second % 60)
         return self.pick(["", "   ", "# a comment", "hello", "65 logout", "01 logout", "0 logout", "1 fetch 5 1", "0 step 1 5", "0 drop 1",
                           "0 unwatch 9", "0 load patient 1,x,,", "0 load patient", "at", "at yesterday", "1", "0 ", " 1 logout",
-                          "1 SELECT DISTINCT name FROM patient", "1 SELECT zip, MAX(pid) FROM patient GROUP BY zip", "0 EXPLAIN 3",
+                          "1 SELECT DISTINCT name FROM patient GROUP BY name", "1 SELECT MAX(pid) FROM patient", "0 EXPLAIN 3",
                           "1 EXTRACT SELECT name FROM patient", "0 DROP TABLE patient", "1\tlogout", "1 logout\r",
                           "0 WATCH DURING '' TO '' AUDIT name FROM patient", "0 BEGIN AUDIT DURING '' TO '' AUDIT name FROM patient"])
 

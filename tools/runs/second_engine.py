@@ -241,8 +241,10 @@ class Engine:
     # ------------------------------------------------------------ selects
 
     def resolve(self, select):
-        """The tables, the columns of the answer and a look-up of operands; raises the first refusal."""
+        """What a select asks for, once its names are found; raises the first refusal."""
         names, items, condition = field(select, "tables"), field(select, "items"), field(select, "cond")
+        form = field(select, "form")
+        outs, by = (field(form, "outs"), field(form, "by")) if form.name == "Grouped" else ([], [])
         for name in names:
             if self.table(name) is None:
                 raise Refused("30 UnknownTable", name)
@@ -271,11 +273,20 @@ class Engine:
                     raise Refused("31 UnknownColumn", wanted + ".*")
                 shown.extend((place, at) for place, table in enumerate(tables) if wanted in (None, table[1])
                              for at in range(len(table[2])))
+        for out in outs:
+            find(out.args[0])
         compared = operands(condition)
         for group in compared:
             for operand in group:
                 if operand.name == "Column":
                     find(operand.args[0])
+        for column in by:
+            find(column)
+        plain = [out.args[0] for out in outs if out.name == "Column"]
+        for some, others in ((plain, by), (by, plain)):
+            for column in some:
+                if find(column) not in [find(other) for other in others]:
+                    raise Refused("60 NotGrouped", field(column, "column"))
 
         def kind_of(operand):
             if operand.name == "Column":
@@ -291,15 +302,16 @@ class Engine:
             for operand in group:
                 if operand.name == "Literal" and is_bad_text(value_of(operand.args[0])):
                     raise Refused("47 BadText", None)
-        for most, count in ((4, len(names)), (128, len(items))):
+        for most, count in ((4, len(names)), (128, len(items)), (128, len(outs)), (128, len(by))):
             if count > most:
                 raise Refused("50 TooManyParts", most)
-        return tables, shown, find, condition
+        return {"tables": tables, "shown": shown, "find": find, "condition": condition, "form": form.name,
+                "outs": [(out.name, find(out.args[0])) for out in outs], "by": [find(column) for column in by]}
 
-    def answer(self, session, resolved):
-        tables, shown, find, condition = resolved
-        views = [self.view(session["purpose"], session["recipient"], table) for table in tables]
-        rows = []
+    def answer(self, session, asked):
+        find = asked["find"]
+        views = [self.view(session["purpose"], session["recipient"], table) for table in asked["tables"]]
+        found = []
         for combination in itertools.product(*views):
             def look(operand):
                 if operand.name == "Literal":
@@ -307,8 +319,34 @@ class Engine:
                 place, at = find(operand.args[0])
                 cell = combination[place][at]
                 return None if isinstance(cell, list) else cell
-            if truth(condition, look) == TRUE:
-                rows.append([combination[place][at] for place, at in shown])
+            if truth(asked["condition"], look) == TRUE:
+                found.append(combination)
+        if asked["form"] == "Grouped":
+            return self.groups(asked, found)
+        rows = [[combination[place][at] for place, at in asked["shown"]] for combination in found]
+        if asked["form"] == "Distinct":
+            return [row for place, row in enumerate(rows) if row not in rows[:place]]
+        return rows
+
+    def groups(self, asked, found):
+        """A row for each different list of the cells that are grouped by, in the order in which they come first."""
+        keys = [[combination[place][at] for place, at in asked["by"]] for combination in found]
+        rows = []
+        for first, key in enumerate(keys):
+            if key in keys[:first]:
+                continue
+            members = [combination for other, combination in zip(keys, found) if other == key]
+            row = []
+            for kind, (place, at) in asked["outs"]:
+                cells = [member[place][at] for member in members]
+                values = [cell for cell in cells if cell is not None and not isinstance(cell, list)]
+                if kind == "Column":
+                    row.append(cells[0])
+                elif not values:
+                    row.append(None)
+                else:
+                    row.append((min if kind == "Min" else max)(values, key=order_of))
+            rows.append(row)
         return rows
 
     def question(self, number, select, text):
@@ -542,7 +580,7 @@ class Engine:
             if number != 0:
                 raise Refused("24 ConsoleOnly", None)
             return self.change(statement)
-        if kind not in ("Select", "Ask") or field(field(statement, "select"), "form").name != "Plain":
+        if kind not in ("Select", "Ask"):
             raise Refused("99 NotBuilt", None)
         asked = data[field(statement, "start"):field(statement, "end")].decode()
         session, resolved = self.question(number, field(statement, "select"), asked)

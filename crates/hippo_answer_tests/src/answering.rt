@@ -1,10 +1,10 @@
-ghost use Rattle.std.specs.Prelude.{◌≡◌, ◌∷◌, [], ◌++◌, None, Some, pos, true, false, IfOk, OnOk};
+ghost use Rattle.std.specs.Prelude.{◌≡◌, ◌∷◌, [], ◌++◌, None, Some, pos, true, IfOk, OnOk};
 ghost use Rattle.hippo_values.specs.declared.values.Value.TheVariants.{Int as IntValue};
 ghost use Rattle.hippo_model.specs.Terms.{History as Entries};
 ghost use Rattle.hippo_model.specs.declared.entry.Act.TheVariants.{Create, Insert};
 ghost use Rattle.hippo_model.specs.declared.schema.ColumnKind.TheVariants.{Integer};
 ghost use Rattle.hippo_tables.specs.Standing.{StandsFor, IsNext};
-ghost use Rattle.hippo_answering.specs.States.{AreKept, is_grouped};
+ghost use Rattle.hippo_answering.specs.States.{AreKept};
 ghost use Rattle.hippo_answer_tests.specs.Numbers.{numbers};
 
 use hippo_answering::answer;
@@ -185,8 +185,7 @@ fn count(
     pair: &Pair,
     form: Form,
 ) -> Result<usize, EvalFault>
-    requires tables { AreKept tables.now (name.now ∷ name.now ∷ []) }
-    requires form { is_grouped form ≡ false }
+    requires { AreKept tables.now (name.now ∷ name.now ∷ []) }
 {
     let query = equal_numbers(alloc, name, form)?;
     let answered = answer(alloc, book, tables, n, moment, pair, &query);

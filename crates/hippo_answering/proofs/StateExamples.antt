@@ -1,12 +1,10 @@
--- Tables that are created, and forms, computed on a small history. Each example is named by what it shows.
+-- Tables that are created, computed on a small history. Each example is named by what it shows.
 use Rattle.std.proofs.Common.{◌≡◌, ℕ, pos, List, [], ◌∷◌, true, false, None, refl, codes}
 use Rattle.hippo_model.specs.declared.entry.Entry.{Entry}
 use Rattle.hippo_model.specs.declared.entry.Act.TheVariants.{Create}
-use Rattle.hippo_model.specs.declared.query.Form.TheVariants.{Distinct, Grouped}
-use Rattle.hippo_model.specs.declared.query.Out.TheVariants.{Min}
 use Rattle.hippo_model.specs.declared.schema.Schema.{Schema}
 use Rattle.hippo_model.specs.Terms.{History}
-use Rattle.hippo_answering.specs.States.{are_created, schemas_at, is_grouped}
+use Rattle.hippo_answering.specs.States.{are_created, schemas_at}
 
 abbrev empty_schema : List ℕ → Schema
 empty_schema name = record { name = name; columns = []; key = []; subject = None }
@@ -28,9 +26,3 @@ each_table_has_to_be_created = refl
 
 no_table_is_created_in_the_beginning : are_created [] (codes "patient" ∷ []) ≡ false
 no_table_is_created_in_the_beginning = refl
-
-distinct_rows_are_no_groups : is_grouped Distinct ≡ false
-distinct_rows_are_no_groups = refl
-
-groups_are_told_by_the_form : is_grouped (Grouped (record { keys = 0; outs = Min 0 ∷ [] })) ≡ true
-groups_are_told_by_the_form = refl

@@ -1,11 +1,9 @@
 -- The state of a history, of which answers are made.
-use Rattle.std.specs.Prelude.{◌≡◌, ℕ, Bool, true, false, List, length, filter_map, is_some}
+use Rattle.std.specs.Prelude.{◌≡◌, ℕ, Bool, true, List, length, filter_map, is_some}
 use Rattle.std.specs.List.{list_all}
 use Rattle.hippo_values.specs.declared.moments.Moment.{Moment}
 use Rattle.hippo_values.specs.declared.names.Name.{Name}
 use Rattle.hippo_model.specs.declared.audit.Pair.{Pair}
-use Rattle.hippo_model.specs.declared.query.Form.{Form}
-use Rattle.hippo_model.specs.declared.query.Form.TheVariants.{Grouped}
 use Rattle.hippo_model.specs.declared.schema.Schema.{Schema}
 use Rattle.hippo_model.specs.Terms.{History, Meaning}
 use Rattle.hippo_model.specs.Histories.{schema_at}
@@ -41,8 +39,3 @@ pub record AreStateOf
   pub book : books.StandsFor policy history
   pub tables : standing.StandsFor kept history
   pub entries : count ≡ length history
-
--- whether a query answers a row for each group
-abbrev pub is_grouped : Form → Bool
-is_grouped (Grouped shape) = true
-is_grouped form = false

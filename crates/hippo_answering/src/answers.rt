@@ -1,5 +1,5 @@
 //! The answer of a query over the state of a history.
-ghost use Rattle.std.specs.Prelude.{◌≡◌, false, take, length, IfOk};
+ghost use Rattle.std.specs.Prelude.{◌≡◌, take, length, IfOk};
 ghost use Rattle.hippo_model.specs.Terms.{History, Meaning};
 ghost use Rattle.hippo_model.specs.Forms.{formed};
 ghost use Rattle.hippo_model.specs.Answers.{answer};
@@ -10,11 +10,12 @@ ghost use Rattle.hippo_eval.specs.Walks.{rows_of};
 ghost use Rattle.hippo_eval.specs.Answering.{IsAnswered};
 ghost use Rattle.hippo_rewrite.specs.Rewriting.{rewritten};
 ghost use Rattle.hippo_rewrite.specs.RewritingLaws.{rules_at};
-ghost use Rattle.hippo_answering.specs.States.{AreKept, AreStateOf, context_of, schemas_at, is_grouped};
+ghost use Rattle.hippo_answering.specs.States.{AreKept, AreStateOf, context_of, schemas_at};
 
 use crate::asked::{schemas_of, sets_of, sizes_of};
 use hippo_distinct::distinct;
 use hippo_eval::{ANSWER_LIMIT, EvalFault};
+use hippo_groups::grouped;
 use hippo_join::{plan, run};
 use hippo_model::{Answer, ChoiceView, Form, Masked, Names, Pair, Query, RulesInForce, Sets};
 use hippo_policy::PolicyBook;
@@ -86,23 +87,21 @@ fn formed<C: ChoiceView>(
     sets: &Sets<'_>,
     choices: &C,
 ) -> Result<Answer, EvalFault>
-    requires sets { length sets.now ≡ length query.now.tables }
-    requires form { is_grouped form.now ≡ false }
+    requires { length sets.now ≡ length query.now.tables }
     ensures { let rows = masked_answer (C.choices choices.now) query.now (rows_of sets.now) in
         IsAnswered ANSWER_LIMIT (formed form.now rows) result }
 {
     match form {
         Form::Plain => joined(alloc, query, sets, choices),
         Form::Distinct => distinct(alloc, query, sets, choices),
-        Form::Grouped(_) => unreachable!(),
+        Form::Grouped(shape) => grouped(alloc, query, shape, sets, choices),
     }
 }
 
 /// The answer of a query for a purpose and recipient at a moment: what it answers over the views of its tables, after
 /// the `n` entries that the book and the tables stand for. The rules in force are written into the query (LeFevre and
 /// others, Limiting Disclosure in Hippocratic Databases, VLDB 2004), and it is answered over the rows as they are.
-/// Wants a query whose tables are created, and which has no GROUP BY. TooManyRows exactly where the answer has more
-/// than 100,000 rows.
+/// Wants a query whose tables are created. TooManyRows exactly where the answer has more than 100,000 rows.
 pub fn answer(
     alloc: Global,
     book: &PolicyBook,
@@ -112,8 +111,7 @@ pub fn answer(
     pair: &Pair,
     query: &Query,
 ) -> Result<Answer, EvalFault>
-    requires tables { AreKept tables.now query.now.tables }
-    requires form { is_grouped query.now.form ≡ false }
+    requires { AreKept tables.now query.now.tables }
     ensures { (meaning : Meaning) (history : History) → AreStateOf meaning book.now tables.now n history
         → IsAnswered ANSWER_LIMIT (answer history (context_of pair.now moment) query.now) result }
 {

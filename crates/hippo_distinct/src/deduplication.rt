@@ -36,7 +36,7 @@ impl DifferentRows {
         ensures { (found : List ShownRow) → AreDifferent ⟦<Sequence<CellKey> as Ord>⟧.cmp found self.old
             → OnOk result (AreDifferent ⟦<Sequence<CellKey> as Ord>⟧.cmp (found ++ row ∷ []) self.new) }
     {
-        let key = row_key(alloc, &row)?;
+        let key = row_key(alloc, row.as_slice())?;
         if self.seen.contains(&key) {
             return Ok(());
         }

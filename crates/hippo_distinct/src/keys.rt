@@ -2,7 +2,7 @@
 ghost use Rattle.std.specs.Prelude.{◌≡◌, IfOk};
 ghost use Rattle.hippo_distinct.specs.RowKeys.{cell_key, row_key};
 
-use hippo_model::{Cell, CellRow};
+use hippo_model::Cell;
 use hippo_values::{Duplicate, Memory, Sequence, Value};
 use std::alloc::Global;
 
@@ -25,12 +25,12 @@ fn cell_key(alloc: Global, cell: &Cell) -> Result<CellKey, Memory>
     }
 }
 
-/// The key of a row, with values of its own.
-pub fn row_key(alloc: Global, row: &CellRow) -> Result<RowKey, Memory>
+/// The key of a row, or of a front of it, with values of its own.
+pub fn row_key(alloc: Global, row: &[Cell]) -> Result<RowKey, Memory>
     ensures { IfOk result (λ key. key ≡ row_key row.now) }
 {
     let mut cells = Vec::with_capacity(alloc, row.len())?;
-    for cell in row.as_slice() {
+    for cell in row {
         cells.push(cell_key(alloc, cell)?)?;
     }
     Ok(Sequence::from_vec(cells))

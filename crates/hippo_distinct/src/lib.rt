@@ -6,3 +6,4 @@ mod keys;
 pub mod laws;
 
 pub use deduplication::distinct;
+pub use keys::{CellKey, RowKey, row_key};

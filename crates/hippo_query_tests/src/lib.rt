@@ -9,6 +9,8 @@ mod conditions;
 #[cfg(test)]
 mod evaluation;
 #[cfg(test)]
+mod grouping;
+#[cfg(test)]
 mod replies;
 #[cfg(test)]
 mod tables;

@@ -1,0 +1,4 @@
+pub mod BestLemmas
+pub mod GroupLemmas
+pub mod KeptLemmas
+pub mod JoinLemmas

@@ -1,0 +1,12 @@
+-- The value that stands at the place.
+use Rattle.std.proofs.Common.{◌≡◌, rules, ap, ◌∙◌, slice_index_or}
+use Rattle.std.proofs.lemmas.Result.{on_ok_weaker}
+use Rattle.hippo_values.specs.declared.values.Value.{Value}
+use Rattle.hippo_model.specs.declared.cells.Cell.TheVariants.{Shown, Denied}
+use Rattle.hippo_model.specs.Forms.{value_in, greater}
+use Rattle.hippo_groups.proofs.best_values.raise_by.Goals as goal
+
+pub returns : goal.returns
+returns c before was =
+    let value : c.unwrap_or.result.now ≡ value_in (slice_index_or c.args.row.now c.args.place (Denied 0)) = search rules in
+    on_ok_weaker c.raise.result (λ is. is ∙ ap (λ (value : Value). Shown (greater before value)) value) (c.raise.ensures before was)

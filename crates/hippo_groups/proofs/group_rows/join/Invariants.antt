@@ -1,0 +1,11 @@
+-- The cells before this one have one member more.
+use Rattle.std.proofs.Common.{◌≡◌, List, [], ◌∷◌, ◌++◌, map}
+use Rattle.hippo_model.specs.Terms.{ShownRow}
+use Rattle.hippo_model.specs.Forms.{group_cell}
+use Rattle.hippo_groups.specs.GroupCells.{IsJoined}
+use Rattle.hippo_groups.proofs.group_rows.join.Given as goal
+
+abbrev pub invariant-loop-place : goal.invariant-loop-place
+invariant-loop-place l =
+    (key : ShownRow) (members : List ShownRow) → l.initial.cells ≡ map (group_cell key members) l.outs
+    → IsJoined key members (members ++ l.row ∷ []) l.outs l.place l.cells

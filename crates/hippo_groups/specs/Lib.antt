@@ -1,0 +1,2 @@
+pub mod GroupCells
+pub mod KeptGroups

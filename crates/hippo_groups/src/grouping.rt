@@ -1,0 +1,126 @@
+//! The groups of a query's answer, as a walk over all combinations of rows finds them.
+ghost use Rattle.std.specs.Prelude.{◌≡◌, [], ◌∷◌, ◌++◌, List, take, option_copied, OnOk};
+ghost use Rattle.std.specs.BTreeMap.{get};
+ghost use Rattle.hippo_model.specs.declared.query.Shape as shapes;
+ghost use Rattle.hippo_model.specs.Terms.{ShownRow};
+ghost use Rattle.hippo_model.specs.Forms.{grouped};
+ghost use Rattle.hippo_model.specs.Masking.{masked_answer};
+ghost use Rattle.hippo_eval.specs.Answering.{IsAnswered};
+ghost use Rattle.hippo_eval.specs.Walks.{rows_of};
+ghost use Rattle.hippo_groups.specs.KeptGroups.{AreGroups};
+
+use crate::group_rows::{join_at, row_of_first};
+use hippo_distinct::{CellKey, RowKey, row_key};
+use hippo_eval::{ANSWER_LIMIT, EvalFault, Gatherer, gather};
+use hippo_model::{Answer, Cell, CellRow, ChoiceView, Masked, Sets, Shape};
+use hippo_values::{Memory, Sequence};
+use std::alloc::Global;
+use std::collections::BTreeMap;
+
+// The rows of the groups in the order of their first members, and the place of each group by its key.
+#[derive(Drop)]
+struct Groups {
+    rows: Vec<CellRow>,
+    places: BTreeMap<RowKey, usize>,
+}
+
+// The first cells of a row, so many; all, where it has fewer.
+fn front(row: &CellRow, keys: usize) -> &[Cell]
+    ensures { result.now ≡ take keys row.now }
+{
+    let cells = row.as_slice();
+    &cells[..keys.min(cells.len())]
+}
+
+impl Groups {
+    fn new(alloc: Global) -> Groups
+        ensures { (shape : shapes.Shape) → AreGroups ⟦<Sequence<CellKey> as Ord>⟧.cmp shape [] result }
+    {
+        Groups {
+            rows: Vec::new(alloc),
+            places: BTreeMap::new(alloc),
+        }
+    }
+
+    // Where the group with this key stands, if there is one.
+    fn place(&self, key: &RowKey) -> Option<usize>
+        ensures { result ≡ get ⟦<Sequence<CellKey> as Ord>⟧.cmp self.now.places key.now }
+    {
+        self.places.get(key).copied()
+    }
+
+    // Takes in a row, in its own group or as the first of a new one.
+    fn add(&mut self, alloc: Global, shape: &Shape, row: &CellRow) -> Result<(), Memory>
+        ensures { (found : List ShownRow) → AreGroups ⟦<Sequence<CellKey> as Ord>⟧.cmp shape.now found self.old
+            → OnOk result (AreGroups ⟦<Sequence<CellKey> as Ord>⟧.cmp shape.now (found ++ row.now ∷ []) self.new) }
+    {
+        let cells = front(row, shape.keys);
+        let key = row_key(alloc, cells)?;
+        if let Some(place) = self.place(&key) {
+            return join_at(alloc, &shape.outs, &mut self.rows, place, row);
+        }
+        let first = row_of_first(alloc, &shape.outs, cells, row)?;
+        self.places.insert(key, self.rows.len())?;
+        self.rows.push(first)?;
+        Ok(())
+    }
+}
+
+// Gathers the groups that a shape asks for.
+#[derive(Drop)]
+struct ByShape<'a> {
+    shape: &'a Shape,
+}
+
+impl<'a> Gatherer for ByShape<'a> {
+    ghost use Rattle.hippo_model.specs.Forms.{grouped};
+    ghost use Rattle.hippo_groups.specs.KeptGroups.{AreGroups};
+
+    type Rows = Groups;
+
+    ghost Holds = { λ gatherer found kept. AreGroups ⟦<Sequence<CellKey> as Ord>⟧.cmp gatherer.shape.now found kept };
+
+    ghost answer = { λ gatherer found. grouped gatherer.shape.now found };
+
+    fn start(&self, alloc: Global) -> Groups {
+        Groups::new(alloc)
+    }
+
+    fn len(&self, groups: &Groups) -> usize {
+        groups.rows.len()
+    }
+
+    fn add(&self, alloc: Global, groups: &mut Groups, row: CellRow) -> Result<(), Memory> {
+        groups.add(alloc, self.shape, &row)
+    }
+
+    fn finish(&self, groups: Groups) -> Answer {
+        let Groups { rows, .. } = groups;
+        Sequence::from_vec(rows)
+    }
+}
+
+/// The groups of a query's answer (SQL's GROUP BY), each at the place of its first combination, over unmasked rows and
+/// patients' choices: rows whose first cells are the same values shown, or denied by the same rules, are of one group.
+/// A group's row has its key's cells, and the least or greatest of its members' values; nulls and denied cells do not
+/// count for these, and where there is nothing else it is null. TooManyRows exactly where there are more than 100,000
+/// groups. Takes memory for the groups, and not for their members.
+pub fn grouped<C: ChoiceView>(
+    alloc: Global,
+    query: &Masked,
+    shape: &Shape,
+    sets: &Sets<'_>,
+    choices: &C,
+) -> Result<Answer, EvalFault>
+    ensures { let rows = masked_answer (C.choices choices.now) query.now (rows_of sets.now) in
+        IsAnswered ANSWER_LIMIT (grouped shape.now rows) result }
+{
+    gather(
+        alloc,
+        query,
+        sets,
+        choices,
+        &ByShape { shape },
+        ANSWER_LIMIT,
+    )
+}
