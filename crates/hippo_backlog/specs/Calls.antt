@@ -1,0 +1,25 @@
+-- What reading does to a keeper.
+use Rattle.std.specs.Prelude.{◌≡◌, Result, Ok, Err}
+use Rattle.hippo_keeper.specs.Keeping.{Store, KeeperState}
+use Rattle.hippo_keeper.specs.declared.faults.KeeperFault.{KeeperFault}
+use Rattle.hippo_keeper.specs.declared.faults.KeeperFault.TheVariants as keeper_faults
+use Rattle.hippo_backlog.specs.declared.faults.ReadFault.{ReadFault}
+use Rattle.hippo_backlog.specs.declared.faults.ReadFault.TheVariants.{Keeper, Damaged, Memory}
+
+-- a keeper's fault, as that of a read
+abbrev pub fault_of : KeeperFault → ReadFault
+fault_of keeper_faults.Failed = Keeper
+fault_of keeper_faults.Memory = Memory
+
+-- reads one after the other, as one call of their keeper
+abbrev pub as_call : {A : Type 0} → Result A ReadFault → Result (Unit {0}) KeeperFault
+as_call (Ok value) = Ok tt
+as_call (Err Keeper) = Err keeper_faults.Failed
+as_call (Err (Damaged number)) = Ok tt
+as_call (Err Memory) = Err keeper_faults.Memory
+
+-- what is kept is the same, and no more survives a stop than before, but something still where something did
+pub record KeepsSame (before after : KeeperState) : Type 0 where
+  pub same : after.kept ≡ before.kept
+  pub stop : (store : Store) → after.survives store → before.survives store
+  pub some : ∥ ((store : Store) × before.survives store) ∥₁ → ∥ ((store : Store) × after.survives store) ∥₁

@@ -1,0 +1,40 @@
+-- What taking a version into a table's rows comes to.
+use Rattle.std.specs.Prelude.{◌≡◌, ◌≢◌, ℕ, Bool, true, false, Result, Ok, Err, Option, Some, None, OnOk, OnErr}
+use Rattle.hippo_values.specs.declared.memory.Memory.{Memory}
+use Rattle.hippo_model.specs.declared.entry.Entry.{Entry}
+use Rattle.hippo_model.specs.declared.schema.Schema.{Schema}
+use Rattle.hippo_model.specs.declared.stored.StoredEntry.{StoredEntry}
+use Rattle.hippo_model.specs.RowSets.{KeyedRows}
+use Rattle.hippo_model.specs.Changes.{changed}
+use Rattle.hippo_entry.specs.Forms.{HasForm}
+use Rattle.hippo_backlog.specs.declared.faults.ReadFault.{ReadFault}
+use Rattle.hippo_backlog.specs.declared.faults.ReadFault.TheVariants.{Keeper, Damaged}
+use Rattle.hippo_backlog.specs.declared.faults.ReadFault.TheVariants as read_faults
+
+-- rows become what a change makes of them; or there is no such change, or memory was short, and they stay
+abbrev pub Becomes : Option KeyedRows → Result Bool Memory → KeyedRows → KeyedRows → Type 0
+Becomes after (Ok true) old new = after ≡ Some new
+Becomes after (Ok false) old new = (after ≡ None) × (new ≡ old)
+Becomes after (Err memory) old new = new ≡ old
+
+-- what taking in the entry with a number comes to, by whether it fits
+abbrev pub judged : ℕ → Result Bool Memory → Result (Unit {0}) ReadFault
+judged number (Ok true) = Ok tt
+judged number (Ok false) = Err (Damaged number)
+judged number (Err memory) = Err read_faults.Memory
+
+-- the entry of a stored form has changed the rows
+pub record HasTaken (schema : Schema) (kept : StoredEntry) (old new : KeyedRows) : Type 0 where
+  pub entry : Entry
+  pub form : HasForm kept entry
+  pub change : changed schema entry.moment entry.act old ≡ Some new
+
+-- a stored form is taken into rows; or no entry of this form changes them
+pub record Takes {A : Type 0} (schema : Schema) (kept : StoredEntry) (result : Result A ReadFault)
+    (old new : KeyedRows) : Type 0 where
+  pub ok : OnOk result (HasTaken schema kept old new)
+  pub err : OnErr result (new ≡ old)
+  pub number : (number : ℕ) → result ≡ Err (Damaged number) → number ≡ kept.seq
+  pub damaged : (number : ℕ) → result ≡ Err (Damaged number) → (entry : Entry) → HasForm kept entry
+      → changed schema entry.moment entry.act old ≡ None
+  pub unfailed : result ≢ Err Keeper

@@ -1,0 +1,154 @@
+//! A version taken into a table's rows.
+ghost use Rattle.std.specs.Prelude.{◌≡◌, ◌&&◌, Ok, is_some, option_map, bytes_eq};
+ghost use Rattle.hippo_model.specs.declared.entry.Act.TheVariants.{Insert, Update, Delete};
+ghost use Rattle.hippo_model.specs.Changes.{changed};
+ghost use Rattle.hippo_model.specs.Rows.{key_of};
+ghost use Rattle.hippo_model.specs.RowSets.{row_with};
+ghost use Rattle.hippo_model.specs.Versions.{row_fits, key_fits};
+ghost use Rattle.hippo_backlog.specs.Taking.{Becomes, judged, Takes};
+
+use crate::faults::ReadFault;
+use crate::rows::{key_fits, row_fits};
+use hippo_entry::decode;
+use hippo_model::{Act, Cells, Entry, RowSet, Schema, StoredEntry};
+use hippo_values::{Memory, Moment, Name};
+use std::alloc::Global;
+
+// Whether a table's name is that of the schema, and a row fits it.
+fn fits(schema: &Schema, table: &Name, row: &Cells) -> bool
+    ensures { result ≡ (bytes_eq table.now schema.now.name && row_fits schema.now row.now) }
+{
+    *table == schema.name && row_fits(schema, row)
+}
+
+// The same of a key.
+fn fits_key(schema: &Schema, table: &Name, key: &Cells) -> bool
+    ensures { result ≡ (bytes_eq table.now schema.now.name && key_fits schema.now key.now) }
+{
+    *table == schema.name && key_fits(schema, key)
+}
+
+// Whether a row has this key.
+fn is_live(rows: &RowSet, key: &Cells) -> bool
+    ensures { result ≡ is_some (row_with key.now rows.now) }
+{
+    rows.find(key).is_some()
+}
+
+// Whether a row has the key of this one.
+fn is_live_like(rows: &RowSet, row: &Cells) -> bool
+    ensures { result ≡ is_some (row_with (key_of rows.now.key row.now) rows.now) }
+{
+    rows.find_like(row).is_some()
+}
+
+// The birth of the row that has the key of this one.
+fn birth_like(rows: &RowSet, row: &Cells) -> Option<Moment>
+    ensures { result ≡ option_map (λ kept. kept.born) (row_with (key_of rows.now.key row.now) rows.now) }
+{
+    match rows.find_like(row) {
+        None => None,
+        Some(place) => Some(rows.born(place)),
+    }
+}
+
+// Inserts a row of a key that is not live; whether it fits.
+fn insert(
+    schema: &Schema,
+    table: &Name,
+    row: Cells,
+    moment: Moment,
+    rows: &mut RowSet,
+) -> Result<bool, Memory>
+    requires key { rows.old.key ≡ schema.now.key }
+    ensures { Becomes (changed schema.now moment (Insert table.now row) rows.old) result rows.old rows.new }
+{
+    let is_new = !is_live_like(rows, &row);
+    if fits(schema, table, &row) && is_new {
+        rows.put(row, moment)?;
+        return Ok(true);
+    }
+    Ok(false)
+}
+
+// Puts a row in the place of the one that has its key, with that one's birth; whether it fits.
+fn update(
+    schema: &Schema,
+    table: &Name,
+    row: Cells,
+    moment: Moment,
+    rows: &mut RowSet,
+) -> Result<bool, Memory>
+    requires key { rows.old.key ≡ schema.now.key }
+    ensures { Becomes (changed schema.now moment (Update table.now row) rows.old) result rows.old rows.new }
+{
+    let Some(born) = birth_like(rows, &row) else {
+        return Ok(false);
+    };
+    if fits(schema, table, &row) {
+        rows.put(row, born)?;
+        return Ok(true);
+    }
+    Ok(false)
+}
+
+// Takes away the row of a key that is live; whether it fits.
+fn delete(schema: &Schema, table: &Name, key: &Cells, _moment: Moment, rows: &mut RowSet) -> bool
+    requires key { rows.old.key ≡ schema.now.key }
+    ensures { Becomes (changed schema.now _moment (Delete table.now key.now) rows.old) (Ok result) rows.old rows.new }
+{
+    let lives = is_live(rows, key);
+    if fits_key(schema, table, key) && lives {
+        rows.take(key);
+        return true;
+    }
+    false
+}
+
+// Takes in what an act does to a table's rows; whether it is a version that fits.
+fn change(schema: &Schema, moment: Moment, act: Act, rows: &mut RowSet) -> Result<bool, Memory>
+    requires key { rows.old.key ≡ schema.now.key }
+    ensures { Becomes (changed schema.now moment act rows.old) result rows.old rows.new }
+{
+    match act {
+        Act::Insert { table, row } => insert(schema, &table, row, moment, rows),
+        Act::Update { table, row } => update(schema, &table, row, moment, rows),
+        Act::Delete { table, key } => Ok(delete(schema, &table, &key, moment, rows)),
+        other => {
+            drop(other);
+            Ok(false)
+        }
+    }
+}
+
+// What taking in the entry with a number comes to.
+fn judged(number: u64, change: Result<bool, Memory>) -> Result<(), ReadFault>
+    ensures { result ≡ judged number change }
+{
+    match change {
+        Ok(true) => Ok(()),
+        Ok(false) => Err(ReadFault::Damaged(number)),
+        Err(Memory) => Err(ReadFault::Memory),
+    }
+}
+
+/// Takes the entry of a stored form into a table's rows: `Damaged` with its number where no entry of this form is a
+/// version of the table that fits the rows.
+pub(crate) fn take(
+    alloc: Global,
+    schema: &Schema,
+    kept: &StoredEntry,
+    rows: &mut RowSet,
+) -> Result<(), ReadFault>
+    requires key { rows.old.key ≡ schema.now.key }
+    ensures takes { Takes schema.now kept.now result rows.old rows.new }
+{
+    match decode(alloc, kept) {
+        Ok(Some(entry)) => {
+            let Entry { moment, act, .. } = entry;
+            judged(kept.seq, change(schema, moment, act, rows))
+        }
+        Ok(None) => Err(ReadFault::Damaged(kept.seq)),
+        Err(Memory) => Err(ReadFault::Memory),
+    }
+}

@@ -1,0 +1,30 @@
+//! Why the past is not read.
+ghost use Rattle.std.specs.Prelude.{◌≡◌};
+ghost use Rattle.hippo_backlog.specs.Calls.{fault_of};
+
+use hippo_keeper::KeeperFault;
+use thiserror::Error;
+
+/// Why entries of the past are not read, or not taken in.
+#[derive(Clone, Copy, Debug, PartialEq, Eq, Error)]
+pub enum ReadFault {
+    /// The keeper failed.
+    #[error("the keeper failed")]
+    Keeper,
+    /// The number of an entry that was handed over and does not fit what was asked for.
+    #[error("the kept history is damaged")]
+    Damaged(u64),
+    /// The allocator refused.
+    #[error("out of memory")]
+    Memory,
+}
+
+/// A keeper's fault, as that of a read.
+pub fn fault_of(fault: KeeperFault) -> ReadFault
+    ensures { result ≡ fault_of fault }
+{
+    match fault {
+        KeeperFault::Failed => ReadFault::Keeper,
+        KeeperFault::Memory => ReadFault::Memory,
+    }
+}

@@ -1,0 +1,37 @@
+//! The rows of a table as they were.
+ghost use Rattle.std.specs.Prelude.{true};
+ghost use Rattle.hippo_keeper.specs.Keeping.{IsReady};
+ghost use Rattle.hippo_backlog.specs.Backlogs.{Snapshots};
+
+use crate::faults::ReadFault;
+use crate::versions::Versions;
+use hippo_keeper::{Keeper, Steps};
+use hippo_model::{RowSet, Schema};
+use hippo_values::{Duplicate, Memory};
+use std::alloc::Global;
+use std::sync::ledger::Ledger;
+
+/// The rows of a table, with their births, as they were after the first `number` entries of the history that is kept.
+///
+/// That is said where the keeper tells a valid history of at least so many entries, in which the table has this schema;
+/// then `Damaged` never comes. Over other keepers `Damaged` has the number of an entry that was handed over and does not
+/// fit. `Keeper` comes only where the keeper's count of faults rose. Each version that is handed over is one step.
+pub fn snapshot<P: Keeper, L: Ledger>(
+    keeper: &mut P,
+    alloc: Global,
+    schema: &Schema,
+    number: u64,
+    steps: &mut Steps<L>,
+) -> Result<RowSet, ReadFault>
+    requires ready { IsReady true (P.state keeper.old) }
+    ensures snapshots { Snapshots schema.now number result (P.state keeper.old) (P.state keeper.new) steps.old steps.new }
+{
+    let mut versions = match schema.key.copy(alloc) {
+        Ok(key) => Versions::new(alloc, key),
+        Err(Memory) => return Err(ReadFault::Memory),
+    };
+    match versions.bring_up(keeper, alloc, schema, number, number, steps) {
+        Ok(()) => Ok(versions.into_rows()),
+        Err(fault) => Err(fault),
+    }
+}

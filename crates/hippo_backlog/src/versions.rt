@@ -1,0 +1,196 @@
+//! The rows of a table at a place in the history, and the versions that were read ahead of it.
+ghost use Rattle.std.specs.Prelude.{◌≡◌, ◌≢◌, ℕ, ◌≤◌, ◌<◌, true, false, [], length, Ok, Err, IfOk, OnOk};
+ghost use Rattle.hippo_keeper.specs.Keeping.{IsReady};
+ghost use Rattle.hippo_backlog.specs.Calls.{as_call};
+ghost use Rattle.hippo_backlog.specs.ReadingAhead.{BeginsAbove, has_read};
+ghost use Rattle.hippo_backlog.specs.Backlogs.{no_versions, raised, TakesWaiting, ReadsOn, BringsUp};
+ghost use Rattle.hippo_backlog.specs.declared.faults.ReadFault.TheVariants.{Damaged};
+
+use crate::ahead::Ahead;
+use crate::changes::take;
+use crate::faults::{ReadFault, fault_of};
+use hippo_keeper::{Keeper, Steps};
+use hippo_model::{Places, RowSet, Schema};
+use std::alloc::Global;
+use std::marker::Model;
+use std::sync::ledger::Ledger;
+
+// How many versions are read at once.
+const PIECE: u64 = 1000;
+
+fn raised(place: u64, number: u64) -> u64
+    ensures { result ≡ raised place number }
+{
+    if place < number { number } else { place }
+}
+
+/// The rows of a table as they were after the entries up to a place, and the versions behind it that wait.
+#[derive(Debug, Drop)]
+pub struct Versions {
+    rows: RowSet,
+    ahead: Ahead,
+    place: u64,
+}
+
+impl Model for Versions {
+    ghost use Rattle.hippo_backlog.specs.Backlogs.{HeldVersions};
+
+    ghost Value = { HeldVersions };
+
+    ghost view = { λ versions. record {
+      rows = versions.rows;
+      ahead = versions.ahead;
+      place = versions.place;
+    } };
+}
+
+impl Versions {
+    /// No version yet, of a table whose key has these places; takes no memory.
+    pub fn new(alloc: Global, key: Places) -> Versions
+        ensures { result ≡ no_versions key }
+    {
+        Versions {
+            rows: RowSet::new(alloc, key),
+            ahead: Ahead::new(alloc),
+            place: 0,
+        }
+    }
+
+    /// The number up to which versions are taken in.
+    pub fn place(&self) -> u64
+        ensures { result ≡ self.now.place }
+    {
+        self.place
+    }
+
+    /// The rows after the entries up to the place, with their births.
+    pub fn rows(&self) -> &RowSet
+        ensures { result.now ≡ self.now.rows }
+    {
+        &self.rows
+    }
+
+    pub fn into_rows(self) -> RowSet
+        ensures { result ≡ self.rows }
+    {
+        let Versions { rows, .. } = self;
+        rows
+    }
+
+    /// How many versions were handed over, those that wait included.
+    pub fn handed(&self) -> u64
+        ensures { result ≡ self.now.ahead.handed }
+    {
+        self.ahead.handed()
+    }
+
+    // Takes in the first version that waits, if it is numbered up to this; whether there was one.
+    fn take_first(&mut self, alloc: Global, schema: &Schema, number: u64) -> Result<bool, ReadFault>
+        requires key { self.old.rows.key ≡ schema.now.key }
+        ensures takes { TakesWaiting schema.now number result self.old self.new }
+        ensures past { result ≡ Ok false → BeginsAbove number self.new.ahead.waiting }
+        ensures fewer { result ≡ Ok true → length self.new.ahead.waiting < length self.old.ahead.waiting }
+    {
+        let Some(kept) = self.ahead.first() else {
+            return Ok(false);
+        };
+        let place = kept.seq;
+        if number < place {
+            return Ok(false);
+        }
+        match take(alloc, schema, kept, &mut self.rows) {
+            Ok(()) => {
+                self.ahead.pass();
+                self.place = raised(self.place, place);
+                Ok(true)
+            }
+            Err(fault) => Err(fault),
+        }
+    }
+
+    // Takes in what waits and is numbered up to this.
+    fn take_waiting(&mut self, alloc: Global, schema: &Schema, number: u64) -> Result<(), ReadFault>
+        requires key { self.old.rows.key ≡ schema.now.key }
+        ensures takes { TakesWaiting schema.now number result self.old self.new }
+        ensures past { OnOk result (BeginsAbove number self.new.ahead.waiting) }
+    {
+        loop {
+            match self.take_first(alloc, schema, number) {
+                Ok(true) => {}
+                Ok(false) => return Ok(()),
+                Err(fault) => return Err(fault),
+            }
+        }
+    }
+
+    // Reads the next piece, where nothing waits.
+    fn read_piece<P: Keeper, L: Ledger>(
+        &mut self,
+        keeper: &mut P,
+        alloc: Global,
+        schema: &Schema,
+        end: u64,
+        steps: &mut Steps<L>,
+    ) -> Result<(), ReadFault>
+        requires ready { IsReady true (P.state keeper.old) }
+        requires used { self.old.ahead.waiting ≡ [] }
+        ensures reads { (number : ℕ) → ReadsOn schema.now number end (as_call result) self.old self.new
+            (P.state keeper.old) (P.state keeper.new) steps.old steps.new }
+        ensures undamaged { (number : ℕ) → result ≢ Err (Damaged number) }
+        ensures further { OnOk result (self.old.ahead.reached < end
+            → self.old.ahead.reached < self.new.ahead.reached) }
+    {
+        match keeper.read_backlog(alloc, &schema.name, self.ahead.reached(), PIECE, steps) {
+            Ok(piece) => {
+                self.ahead.put(piece, PIECE, end);
+                Ok(())
+            }
+            Err(fault) => Err(fault_of(fault)),
+        }
+    }
+
+    // Whether all versions up to a number are read, or a later one waits.
+    fn has_read(&self, number: u64) -> bool
+        ensures { result ≡ has_read number self.now.ahead }
+    {
+        number <= self.ahead.reached() || self.ahead.first().is_some()
+    }
+
+    /// Brings the rows up to a number, reading from a keeper what is not read yet. `end` says how long the history is
+    /// that is kept.
+    ///
+    /// Ok: the rows are those after the first `number` entries. Where it fails, the place lies between. `Keeper` comes
+    /// only where the keeper's count of faults rose, and `Damaged` with the number of an entry that was handed over and
+    /// does not fit: never where the keeper tells a valid history. Each version is read once, and is then one step.
+    pub fn bring_up<P: Keeper, L: Ledger>(
+        &mut self,
+        keeper: &mut P,
+        alloc: Global,
+        schema: &Schema,
+        number: u64,
+        end: u64,
+        steps: &mut Steps<L>,
+    ) -> Result<(), ReadFault>
+        requires ready { IsReady true (P.state keeper.old) }
+        requires key { self.old.rows.key ≡ schema.now.key }
+        requires forward { self.old.place ≤ number }
+        requires end { number ≤ end }
+        ensures brings { BringsUp schema.now number end result self.old self.new
+            (P.state keeper.old) (P.state keeper.new) steps.old steps.new }
+    {
+        loop {
+            match self.take_waiting(alloc, schema, number) {
+                Ok(()) => {}
+                Err(fault) => return Err(fault),
+            }
+            if self.has_read(number) {
+                self.place = number;
+                return Ok(());
+            }
+            match self.read_piece(keeper, alloc, schema, end, steps) {
+                Ok(()) => {}
+                Err(fault) => return Err(fault),
+            }
+        }
+    }
+}
