@@ -1,0 +1,9 @@
+pub mod RefusalLemmas
+pub mod HistoryLemmas
+pub mod PlaceLemmas
+pub mod FitActs
+pub mod NameActs
+pub mod RuleActs
+pub mod RowActs
+pub mod CreateAct
+pub mod FollowingTheorem
