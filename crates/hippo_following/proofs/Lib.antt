@@ -7,3 +7,5 @@ pub mod RuleActs
 pub mod RowActs
 pub mod CreateAct
 pub mod FollowingTheorem
+pub mod WrittenTheorem
+pub mod AskedTheorem

@@ -1,2 +1,4 @@
 pub mod Written
 pub mod FollowingLaws
+pub mod WrittenLaws
+pub mod QuestionLaws

@@ -6,6 +6,8 @@ use Rattle.hippo_values.specs.Moments.{is_day, is_signed_number}
 use Rattle.hippo_values.specs.declared.names.Name.{Name}
 use Rattle.hippo_values.specs.declared.values.Value.{Value}
 use Rattle.hippo_values.specs.declared.values.Value.TheVariants.{Null, Int, Text, Day}
+use Rattle.hippo_lexer.specs.declared.kinds.TokenKind.{TokenKind}
+use Rattle.hippo_lexer.specs.declared.kinds.TokenKind.TheVariants.{Word, Number, Quoted, Day as DayToken}
 use Rattle.hippo_model.specs.declared.schema.Column.{Column}
 use Rattle.hippo_model.specs.declared.statement.Stmt.{Stmt}
 use Rattle.hippo_model.specs.declared.statement.Stmt.TheVariants.{CreateTable, CreatePurpose, CreateRecipient, CreateItem, Authorize, Deauthorize, Allow, Revoke, Choice, Insert, Update, Delete}
@@ -18,6 +20,14 @@ is_typed Null = true
 is_typed (Int number) = is_signed_number number
 is_typed (Text text) = is_utf8 text
 is_typed (Day day) = is_day day
+
+-- what a token says, as its type has it: a name in lower case, and a number, a text and a day as values are
+abbrev pub kind_is_typed : TokenKind → Bool
+kind_is_typed (Word name) = is_folded_name name
+kind_is_typed (Number number) = is_signed_number number
+kind_is_typed (Quoted text) = is_utf8 text
+kind_is_typed (DayToken day) = is_day day
+kind_is_typed kind = true
 
 -- a list that the grammar finds has a member
 abbrev pub has_members : {A : Type 0} → List A → Bool
