@@ -9,3 +9,6 @@ pub mod CreateAct
 pub mod FollowingTheorem
 pub mod WrittenTheorem
 pub mod AskedTheorem
+pub mod FoldedNames
+pub mod TokenTheorem
+pub mod CommandTheorem

@@ -2,3 +2,4 @@ pub mod Written
 pub mod FollowingLaws
 pub mod WrittenLaws
 pub mod QuestionLaws
+pub mod CommandLaws
