@@ -7,6 +7,7 @@ pub mod RuleActs
 pub mod RowActs
 pub mod CreateAct
 pub mod FollowingTheorem
+mod FollowingExamples
 pub mod WrittenTheorem
 pub mod AskedTheorem
 pub mod FoldedNames
