@@ -1,0 +1,15 @@
+pub mod RefusalLemmas
+pub mod HistoryLemmas
+pub mod PlaceLemmas
+pub mod FitActs
+pub mod NameActs
+pub mod RuleActs
+pub mod RowActs
+pub mod CreateAct
+pub mod FollowingTheorem
+mod FollowingExamples
+pub mod WrittenTheorem
+pub mod AskedTheorem
+pub mod FoldedNames
+pub mod TokenTheorem
+pub mod CommandTheorem

@@ -1,0 +1,5 @@
+pub mod Written
+pub mod FollowingLaws
+pub mod WrittenLaws
+pub mod QuestionLaws
+pub mod CommandLaws
