@@ -10,7 +10,7 @@ mod snapshots;
 mod versions;
 
 pub use ahead::Ahead;
-pub use faults::ReadFault;
+pub use faults::{ReadFault, fault_of};
 pub use laws::{rows_are_those_of_versions, schemas_last, versions_fit};
 pub use snapshots::snapshot;
 pub use versions::Versions;

@@ -1,7 +1,8 @@
 -- Piece by piece, until the number is reached or something is wrong.
-use Rattle.std.proofs.Common.{◌∙◌, sym, subst, Ok}
+use Rattle.std.proofs.Common.{◌≡◌, true, ◌∙◌, sym, subst, Ok}
 use Rattle.hippo_keeper.specs.declared.faults.KeeperFault.{KeeperFault}
 use Rattle.hippo_backlog.specs.declared.faults.ReadFault.{ReadFault}
+use Rattle.hippo_backlog.specs.ReadingAhead.{has_read}
 use Rattle.hippo_backlog.specs.Backlogs.{HeldVersions, BringsUp}
 use Rattle.hippo_backlog.proofs.CallLemmas.{well}
 use Rattle.hippo_backlog.proofs.VersionLemmas.{placed, ReadsOn-first, ReadsOn-waiting, ReadsOn-then, BringsUp-waiting, BringsUp-fault, BringsUp-end}
@@ -29,7 +30,8 @@ returns-then-has_read g c =
     let now = g.P.Keeper.state c.loop-fault.keeper in
     let mid = c.take_waiting.new.self in
     let so_far = ReadsOn-waiting c.args.schema.now c.args.number c.args.end c.args.self.now c.loop-fault.self mid before now c.args.steps.now c.loop-fault.steps c.loop-fault.invariant (well ReadFault) c.in-Ok.ensures.takes in
-    let ends = BringsUp-end c.args.schema.now c.args.number c.args.end c.args.self.now mid before now c.args.steps.now c.loop-fault.steps so_far (so_far.taken.limit c.requires.forward) c.in-Ok.ensures.past (sym c.has_read.ensures ∙ c.if-has_read.true) in
+    let read : has_read c.args.number mid.ahead ≡ true = sym c.has_read.ensures ∙ c.if-has_read.true in
+    let ends = BringsUp-end c.args.schema.now c.args.number c.args.end c.args.self.now mid before now c.args.steps.now c.loop-fault.steps so_far (so_far.taken.limit c.requires.forward) c.in-Ok.ensures.past read in
     record {
       brings = subst (λ (held : HeldVersions). BringsUp {A = Unit {0}} c.args.schema.now c.args.number c.args.end (Ok tt) c.args.self.now (placed c.args.number held) before now c.args.steps.now c.loop-fault.steps) (sym c.self.view_is) ends;
     }

@@ -1,0 +1,21 @@
+-- The versions are brought up to the number.
+use Rattle.std.proofs.Common.{◌∙◌, ◌≤◌, sym, subst}
+use Rattle.hippo_intervals.specs.Living.{HeldLives}
+use Rattle.hippo_intervals.proofs.LivesLemmas.{advances_by}
+use Rattle.hippo_intervals.proofs.lives.Lives.advance.Goals as goal
+
+pub bring_up-requires : goal.bring_up-requires
+bring_up-requires g c = record {
+  ready = c.requires.ready;
+  key = c.self.invariant;
+  forward = subst (λ (held : HeldLives). held.versions.place ≤ c.args.number) (sym c.self.view_is) c.requires.forward;
+  end = c.requires.end;
+}
+
+pub returns : goal.returns
+returns g c =
+    let inside : HeldLives = record { schema = c.self.inside.schema; versions = c.self.inside.versions } in
+    record { advances = advances_by inside c.args.self.now c.self.view_is c.args.number c.args.end c.bring_up.result c.bring_up.new.self (g.P.Keeper.state c.args.keeper.now) (g.P.Keeper.state c.bring_up.new.keeper) c.args.steps.now c.bring_up.new.steps c.requires.forward c.bring_up.ensures.brings }
+
+pub invariant_of-self : goal.invariant_of-self
+invariant_of-self g c = c.bring_up.ensures.brings.reads.taken.key ∙ c.self.invariant

@@ -1,0 +1,102 @@
+//! The rows of a table that live at a place in the history.
+ghost use Rattle.std.specs.Prelude.{◌≡◌, ◌≤◌, true, IfOk};
+ghost use Rattle.hippo_keeper.specs.Keeping.{IsReady};
+ghost use Rattle.hippo_intervals.specs.Living.{no_lives, taken_by, Advances};
+
+use hippo_backlog::{ReadFault, Versions};
+use hippo_keeper::{Keeper, Steps};
+use hippo_model::{RowSet, Schema};
+use hippo_values::{Duplicate, Memory};
+use std::alloc::Global;
+use std::marker::Model;
+use std::sync::ledger::Ledger;
+
+/// The rows of a table as they lived at a place in the history: after the entries up to that number.
+///
+/// A version lives from its own entry to the one before the next version of its key; a delete ends a row and begins none.
+/// The place only moves forward. Versions that were read beyond it wait, so each is read once.
+#[derive(Debug, Drop)]
+pub struct Lives {
+    schema: Schema,
+    versions: Versions,
+}
+
+impl Model for Lives {
+    ghost use Rattle.std.specs.Prelude.{◌≡◌};
+    ghost use Rattle.hippo_intervals.specs.Living.{HeldLives};
+
+    ghost Value = { HeldLives };
+
+    ghost view = { λ lives. record {
+      schema = lives.schema;
+      versions = lives.versions;
+    } };
+
+    ghost invariant = { λ lives. lives.versions.rows.key ≡ lives.schema.key };
+}
+
+impl Lives {
+    /// The rows of a table before the first entry: none.
+    pub fn new(alloc: Global, schema: &Schema) -> Result<Lives, Memory>
+        ensures { IfOk result (λ lives. lives ≡ no_lives schema.now) }
+    {
+        let schema = schema.copy(alloc)?;
+        let key = schema.key.copy(alloc)?;
+        Ok(Lives {
+            schema,
+            versions: Versions::new(alloc, key),
+        })
+    }
+
+    pub fn schema(&self) -> &Schema
+        ensures { result.now ≡ self.now.schema }
+    {
+        &self.schema
+    }
+
+    /// After how many entries the rows are as they stand: 0 at first.
+    pub fn place(&self) -> u64
+        ensures { result ≡ self.now.versions.place }
+    {
+        self.versions.place()
+    }
+
+    /// The rows that live at the place, with their births.
+    pub fn rows(&self) -> &RowSet
+        ensures { result.now ≡ self.now.versions.rows }
+    {
+        self.versions.rows()
+    }
+
+    /// How many versions were handed over and taken in: those whose rows have ended and those that wait included.
+    pub fn taken(&self) -> u64
+        ensures { result ≡ taken_by self.now }
+    {
+        self.versions.handed()
+    }
+
+    /// Moves the place forward to a number. `end` says how long the history is that is kept: nothing is asked for
+    /// behind it.
+    ///
+    /// Ok: the rows are those after the first `number` entries. Where it fails, the place lies between. `Keeper` comes
+    /// only where the keeper's count of faults rose, and `Damaged` with the number of an entry that was handed over and
+    /// does not fit: never where the keeper tells a valid history. Steps and `taken` rise by the same.
+    pub fn advance<P: Keeper, L: Ledger>(
+        &mut self,
+        keeper: &mut P,
+        alloc: Global,
+        number: u64,
+        end: u64,
+        steps: &mut Steps<L>,
+    ) -> Result<(), ReadFault>
+        requires ready { IsReady true (P.state keeper.old) }
+        requires forward { self.old.versions.place ≤ number }
+        requires end { number ≤ end }
+        ensures advances { Advances number end result self.old self.new
+            (P.state keeper.old) (P.state keeper.new) steps.old steps.new }
+    {
+        let schema = &self.schema;
+        self.versions
+            .bring_up(keeper, alloc, schema, number, end, steps)
+    }
+}
