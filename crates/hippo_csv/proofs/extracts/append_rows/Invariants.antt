@@ -1,0 +1,13 @@
+-- The text so far and then the rows that are left are all, and the old text stands in front.
+use Rattle.std.proofs.Common.{◌≡◌, ◌++◌, flat_map, drop}
+use Rattle.hippo_values.specs.Printing.{KeepsFront}
+use Rattle.hippo_csv.specs.Records.{extract_line}
+use Rattle.hippo_csv.specs.Extracting.{IsBetween}
+use Rattle.hippo_csv.proofs.extracts.append_rows.Given as goal
+
+abbrev pub invariant-loop-row : goal.invariant-loop-row
+invariant-loop-row g l =
+    IsBetween l.tools.writer
+    × (l.out ++ flat_map (extract_line l.session) (drop l.row-index l.rows)
+    ≡ l.initial.out ++ flat_map (extract_line l.session) l.rows)
+    × KeepsFront l.initial.out l.out

@@ -1,0 +1,7 @@
+-- The values up to the field at hand are there.
+use Rattle.std.proofs.Common.{◌≡◌, map, take, Some}
+use Rattle.hippo_csv.specs.Records.{field_values}
+use Rattle.hippo_csv.proofs.values.all_values.Given as goal
+
+abbrev pub invariant-loop-place : goal.invariant-loop-place
+invariant-loop-place l = map Some l.row ≡ take l.place (field_values l.schema l.fields)

@@ -1,0 +1,4 @@
+pub mod Records
+pub mod Loading
+pub mod Extracting
+pub mod RecordLaws

@@ -1,0 +1,52 @@
+//! The fields of a text that is one record.
+ghost use Rattle.std.specs.Prelude.{◌≡◌, IfOk, option_map};
+ghost use Rattle.csv.specs.Records.{fields_of};
+ghost use Rattle.hippo_csv.specs.Records.{record_fields};
+
+use csv::{ByteRecord, Error, ReaderBuilder, StringRecord};
+use hippo_values::{Memory, Sequence, Txt};
+use std::alloc::Global;
+
+/// The fields of a record.
+pub type Fields = Sequence<Txt>;
+
+// The one record that a text is. Its records may differ in length, so that no fault tells of that.
+fn only_record(alloc: Global, text: &[u8]) -> Result<Option<StringRecord>, Error>
+    ensures { IfOk result (λ found. option_map fields_of found ≡ record_fields text.now) }
+{
+    let mut reader = ReaderBuilder::new()
+        .has_headers(false)
+        .flexible(true)
+        .from_reader(alloc, text);
+    let mut record = StringRecord::new(alloc);
+    if !reader.read_record(&mut record)? {
+        return Ok(None);
+    }
+    if reader.read_byte_record(&mut ByteRecord::new(alloc))? {
+        return Ok(None);
+    }
+    Ok(Some(record))
+}
+
+fn copied_fields(alloc: Global, read: &StringRecord) -> Result<Fields, Memory>
+    ensures { IfOk result (λ fields. fields ≡ fields_of read.now) }
+{
+    let mut fields = Fields::new(alloc);
+    for field in read {
+        fields.push(Txt::from_str(alloc, field)?)?;
+    }
+    Ok(fields)
+}
+
+/// The fields of the one record that a text is, by RFC 4180 without a header line; none where the text is not exactly
+/// one record. A byte order mark in front is no part of it, and lines that are empty are no records. Every fault of
+/// the reader is want of memory, since it reads from memory a text whose records may have any length.
+pub fn read_fields(alloc: Global, text: &str) -> Result<Option<Fields>, Memory>
+    ensures { IfOk result (λ fields. fields ≡ record_fields text.now) }
+{
+    match only_record(alloc, text.as_bytes()) {
+        Ok(Some(record)) => Ok(Some(copied_fields(alloc, &record)?)),
+        Ok(None) => Ok(None),
+        Err(_) => Err(Memory),
+    }
+}
