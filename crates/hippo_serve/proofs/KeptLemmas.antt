@@ -11,12 +11,12 @@ use Rattle.hippo_model.specs.Validity.{may_follow, is_valid}
 use Rattle.hippo_laws.proofs.ValidFronts.{is_valid-append}
 use Rattle.hippo_keeper.specs.Keeping.{Store, Survivors, KeeperState, MayHaveOneMore}
 use Rattle.hippo_typing.specs.Meanings.{meaning}
-use Rattle.hippo_replay.specs.Loading.{KeepsFound}
+use Rattle.hippo_replay.specs.Loading.{KeepsSame, KeepsFound}
 use Rattle.hippo_replay.specs.Recording.{HasKept}
 use Rattle.hippo_serve.specs.Keeping.{KeepsHistory, KeepsEither}
 
 -- the stored forms of a history with what was added are kept
-pub kept_forms : (history added : History) (before after : KeeperState) → map stored history ≡ before.kept → HasKept added before after → map stored (history ++ added) ≡ after.kept
+kept_forms : (history added : History) (before after : KeeperState) → map stored history ≡ before.kept → HasKept added before after → map stored (history ++ added) ≡ after.kept
 kept_forms history [] before after forms kept = ap (map stored) (append-nil history) ∙ forms ∙ sym kept.same
 kept_forms history (entry ∷ added) before after forms kept =
     map-append stored history (entry ∷ added) ∙ ap (λ (front : Store). front ++ map stored (entry ∷ added)) forms ∙ sym kept.0
@@ -44,6 +44,11 @@ KeepsHistory-after history (entry ∷ added) before after valid keeps kept =
       alone = λ store survives. store_as (history ++ entry ∷ added) store after.kept (kept.1.alone store survives) is;
       survives_stop = ∣ kept.1.survives_stop ∣₁;
     }
+
+-- what is kept is the same
+pub KeepsHistory-same : (history : History) (before after : KeeperState) → KeepsHistory history before → KeepsSame before after → KeepsHistory history after
+KeepsHistory-same history before after keeps same = subst (λ (h : History). KeepsHistory h after) (append-nil history)
+    (KeepsHistory-after history [] before after (ap (λ (h : History). is_valid meaning h) (append-nil history) ∙ keeps.kept.valid) keeps same)
 
 valid_longer : (history : History) (entry : Entry) → is_valid meaning history ≡ true → may_follow meaning history entry ≡ true → is_valid meaning (history ++ entry ∷ []) ≡ true
 valid_longer history entry valid follows = is_valid-append meaning history entry ∙ and_from _ _ valid follows

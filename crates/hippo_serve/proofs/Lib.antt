@@ -3,4 +3,5 @@ mod StatusLemmas
 mod KeptLemmas
 mod RunLemmas
 mod TurnLemmas
+mod TakenLemmas
 mod OutcomeLemmas

@@ -1,30 +1,34 @@
 -- A run, one line more.
-use Rattle.std.proofs.Common.{◌≡◌, ℕ, ◌<◌, ◌≤◌, ◌↔◌, List, [], ◌∷◌, ◌++◌, flat_map, length, drop, take, false, Option, Some, Result, Ok, Err, refl, ap, sym, subst, ◌∙◌, append_assoc, append-nil, arith, length-drop}
+use Rattle.std.proofs.Common.{◌≡◌, inl, inr, ℕ, ◌+◌, ◌*◌, ◌<◌, ◌≤◌, ◌↔◌, List, [], ◌∷◌, ◌++◌, flat_map, length, drop, take, true, false, cond, sum_by, Option, Some, Result, Ok, Err, refl, ap, sym, subst, ◌∙◌, append_assoc, append-nil, arith, length-drop}
+use Rattle.std.proofs.lemmas.List.Sums.{sum_by-cons, sum_by-append}
 use Rattle.hippo_values.specs.Texts.{Txt}
 use Rattle.hippo_io.specs.Lines.{LineText, lines}
 use Rattle.hippo_io.specs.declared.lines.Line.{Line}
 use Rattle.hippo_io.specs.declared.lines.LineFault.{LineFault}
 use Rattle.hippo_io.specs.declared.lines.LineFault.TheVariants.{TooMuch}
 use Rattle.hippo_io.specs.Position.{Position}
-use Rattle.hippo_io.specs.HandingOut.{HasHandedOut, input_limit}
+use Rattle.hippo_io.specs.HandingOut.{HasHandedOut, HasGivenUp, input_limit}
 use Rattle.hippo_io.specs.Told.{Appends, AppendsFront}
 use Rattle.hippo_model.specs.Terms.{History}
-use Rattle.hippo_keeper.specs.Answering.{has_failed}
+use Rattle.hippo_model.specs.declared.entry.Entry.{Entry}
+use Rattle.hippo_model.specs.Versions.{is_version, versions}
 use Rattle.hippo_keeper.specs.Keeping.{KeeperState}
-use Rattle.hippo_replay.specs.Standing.{StandsFor}
-use Rattle.hippo_replay.specs.TakingIn.{HasLoaded}
 use Rattle.hippo_world.specs.Worlds.{World}
 use Rattle.hippo_world.specs.Holding.{world_of}
 use Rattle.hippo_commands.specs.Commands.{Command, command_of}
 use Rattle.hippo_engine.specs.declared.engine.Engine.{Engine}
 use Rattle.hippo_engine.specs.declared.faults.EngineFault.{EngineFault}
-use Rattle.hippo_engine.specs.declared.faults.EngineFault.TheVariants.{Keeper}
-use Rattle.hippo_engine.specs.Carrying.{as_call, Carries, HasEffect, BreaksOff}
+use Rattle.hippo_engine.specs.declared.faults.EngineFault.TheVariants.{Keeper, Damaged}
+use Rattle.hippo_engine.specs.Carrying.{Holds, is_carried, Carries, HasEffect, BreaksOff, BreaksOffAdding, BreaksOffReading}
 use Rattle.hippo_engine.specs.Effects.{Effect, IsEffect, effect_of}
-use Rattle.hippo_engine.specs.Runs.{IsRun, replies, history_after, world_after}
+use Rattle.hippo_engine.specs.Ledgers.{reads_kept, audits_of, taken_of, Tallies, RunSum}
+use Rattle.hippo_engine.specs.Runs.{IsRun, IsAmple, audits_in, replies, history_after, world_after}
+use Rattle.hippo_engine.proofs.LedgerLemmas.{RunSum-start, RunSum-line, RunSum-end}
 use Rattle.hippo_serve.specs.Keeping.{KeepsHistory}
-use Rattle.hippo_serve.specs.Runs.{opening_after, IsServed, IsTakenFrom, IsUnwritten, IsBrokenOff, HasServed}
-use Rattle.hippo_serve.proofs.KeptLemmas.{kept_forms, KeepsHistory-after, KeepsEither-after}
+use Rattle.hippo_serve.specs.Outside.{Told, Outside, telling, outside}
+use Rattle.hippo_serve.specs.Runs.{opening_after, IsReading, ForInput, StepsWithin, HasRun, HasReadAll, IsServed, HasReadWhole, IsCutOff, HasReadFront, IsUnwritten, added_next, KeepsBroken, IsBrokenOff, HasServed}
+use Rattle.hippo_serve.proofs.KeptLemmas.{KeepsHistory-after, KeepsHistory-same, KeepsEither-after}
+use Rattle.hippo_serve.proofs.WriteLemmas.{both_whole}
 
 flat_map-last : {A B : Type 0} (f : A → List B) (front : List A) (last : A) → flat_map f (front ++ last ∷ []) ≡ flat_map f front ++ f last
 flat_map-last f [] last = append-nil (f last)
@@ -54,6 +58,29 @@ world_after-append world (first ∷ effects) effect = world_after-append first.w
 pub replies-append : (effects : List Effect) (effect : Effect) → replies (effects ++ effect ∷ []) ≡ replies effects ++ effect.reply
 replies-append effects effect = flat_map-last (λ (e : Effect). e.reply) effects effect
 
+-- memory was ample for the lines before the last, and for that one
+pub IsAmple-front : (history : History) (world : World) (replied : List LineText) (effects : List Effect) (line : LineText) (effect : Effect)
+    → IsRun history world replied effects → IsAmple history world (replied ++ line ∷ []) (effects ++ effect ∷ [])
+    → IsAmple history world replied effects × (reads_kept (command_of line) ≡ true → effect ≡ effect_of (history_after history effects) (world_after world effects) (command_of line))
+IsAmple-front history world [] [] line effect run ample =
+    (tt, λ reads. subst (λ (h : History). effect ≡ effect_of h world (command_of line)) (sym (append-nil history)) (ample.0 reads))
+IsAmple-front history world [] (first ∷ effects) line effect run ample = absurd run
+IsAmple-front history world (text ∷ replied) [] line effect run ample = absurd run
+IsAmple-front history world (text ∷ replied) (first ∷ effects) line effect run ample =
+    let rest = IsAmple-front (history ++ first.added) first.world replied effects line effect run.1 ample.1 in
+    ((ample.0, rest.0), λ reads. subst (λ (h : History). effect ≡ effect_of h (world_after first.world effects) (command_of line))
+    (append_assoc history first.added (flat_map (λ (e : Effect). e.added) effects)) (rest.1 reads))
+
+-- the audits of the lines before the last, and of that one
+audits_in-append : (replied : List LineText) (line : LineText) → audits_in (replied ++ line ∷ []) ≡ audits_in replied + audits_of (command_of line)
+audits_in-append replied line =
+    let count : LineText → ℕ = λ text. audits_of (command_of text) in
+    omega (arith, sum_by-append count replied (line ∷ []), sum_by-cons count line [])
+
+-- a longer history has no fewer versions
+versions-more : (history added : History) → versions history ≤ versions (history ++ added)
+versions-more history added = omega (arith, sum_by-append (λ (entry : Entry). cond (is_version entry.act) 1 0) history added)
+
 -- a line is answered where no more bytes were taken than are read
 pub within_limit : (line : Line) (taken : ℕ) → (◌≡◌ {A = Result Line LineFault} (Ok line) (Err TooMuch) ↔ (input_limit < taken)) → taken ≤ input_limit
 within_limit line taken same = not_above (λ more. differ (same.1 more))
@@ -65,123 +92,181 @@ within_limit line taken same = not_above (λ more. differ (same.1 more))
     not_above no_more = omega arith
 
 -- no line was handed out yet
-pub served_none : (history : History) (input before : Txt) (reader : Position) (left : Option Txt) (engine : Engine) (keeper : KeeperState) (output : Option Txt)
-    → HasHandedOut input [] reader left → StandsFor engine.state history → world_of engine.world ≡ opening_after history → (keeper.tells → KeepsHistory history keeper) → output ≡ Some before
-    → HasServed history input before reader left engine keeper output
-served_none history input before reader left engine keeper output handing stands world kept written = record {
+pub reading_none : (input : Txt) (reader : Position) (left : Option Txt) → left ≡ Some input → HasHandedOut input [] reader (Some input) → IsReading input reader left
+reading_none input reader left is handing = record { handed = []; handing = subst (λ (told : Option Txt). HasHandedOut input [] reader told) (sym is) handing }
+
+pub served_none : (history : History) (reader : Position) (left written : Option Txt) (engine : Engine) (keeper : KeeperState) (start steps : ℕ)
+    → ((input : Txt) → HasHandedOut input [] reader (Some input)) → Holds history engine keeper → world_of engine.world ≡ opening_after history → KeepsHistory history keeper
+    → steps ≡ start + versions history → HasServed history (telling left written start) reader engine (outside left written keeper steps)
+served_none history reader left written engine keeper start steps handing holds world kept counted = record {
   handed = [];
   effects = [];
-  handing = handing;
+  handing = λ input is. subst (λ (told : Option Txt). HasHandedOut input [] reader told) (sym is) (handing input);
   run = tt;
-  stands = subst (λ (h : History). StandsFor engine.state h) (sym (append-nil history)) stands;
   world = world;
-  written = written ∙ ap Some (sym (append-nil before));
-  kept = λ tells. subst (λ (h : History). KeepsHistory h keeper) (sym (append-nil history)) (kept tells);
+  holds = subst (λ (h : History). Holds h engine keeper) (sym (append-nil history)) holds;
+  kept = subst (λ (h : History). KeepsHistory h keeper) (sym (append-nil history)) kept;
+  sum = λ ample. subst (λ (h : History). RunSum start steps (versions h) 0 []) (sym (append-nil history)) (RunSum-start start steps (versions history) counted);
+  written = λ bytes is. is ∙ ap Some (sym (append-nil bytes));
 }
 
--- a line that was carried out leaves a keeper that keeps what the engine stands for
-pub loaded_after : (command : Command) (old new : Engine) (before after : KeeperState) → Carries {A = Unit {0}} command (Ok tt) old new before after
-    → (before.tells → HasLoaded old.state before.kept) → after.tells → HasLoaded new.state after.kept
-loaded_after command old new before after carries loaded tells =
-    let here = loaded (carries.call.told tells) in
-    let done = carries.carried refl here.history here.stands in
-    record {
-      history = here.history ++ done.effect.added;
-      forms = kept_forms here.history done.effect.added before after here.forms (done.kept tells);
-      stands = done.stands;
-    }
+-- a line that was carried out leaves a keeper that keeps what the engine holds
+pub held_after : (command : Command) (old new : Engine) (before after : KeeperState) (steps steps' : ℕ) → Carries {A = Unit {0}} command (Ok tt) old new before after steps steps'
+    → (before.tells → (history : History) × Holds history old before) → after.tells → (history : History) × Holds history new after
+held_after command old new before after steps steps' carries held tells =
+    let here = held (carries.call.told tells) in
+    let done : HasEffect here.0 command old new before after steps steps' = carries.carried refl tells here.0 here.1 in
+    (here.0 ++ done.effect.added, done.holds)
 
-module _ (history : History) (input before : Txt) (reader reader' : Position) (left left' : Option Txt) (engine engine' : Engine) (keeper keeper' : KeeperState) (output output' : Option Txt)
-    (served : HasServed history input before reader left engine keeper output) where
+module _ (history : History) (before : Told) (reader reader' : Position) (engine engine' : Engine) (left left' written written' : Option Txt) (keeper keeper' : KeeperState) (steps steps' : ℕ)
+    (served : HasServed history before reader engine (outside left written keeper steps)) where
   abbrev here : History
   here = history_after history served.effects
 
-  module _ (line : LineText) (handing : HasHandedOut input (served.handed ++ line ∷ []) reader' left') where
-    taken_from : reader'.taken ≤ input_limit → IsTakenFrom input left'
-    taken_from limit = record { count = reader'.taken; within = handing.within; left = handing.told; limit = limit }
+  abbrev now : Outside
+  now = outside left' written' keeper' steps'
 
-    module _ (result : Result (Unit {0}) EngineFault) (carries : Carries (command_of line) result engine engine' keeper keeper') (good : has_failed (as_call result) ≡ false) where
-      abbrev done : HasEffect here (command_of line) engine engine' keeper keeper'
-      done = carries.carried good here served.stands
+  -- so many steps as the lines so far are allowed
+  within_so_far : (after : Outside) → after.told.steps ≡ steps → StepsWithin history served.handed served.effects before after
+  within_so_far after same ample =
+      let at_most : steps ≤ before.steps + versions here * (1 + audits_in served.handed) = RunSum-end before.steps steps (versions here) (audits_in served.handed) (taken_of engine.world) (served.sum ample) in
+      subst (λ (n : ℕ). n ≤ before.steps + versions here * (1 + audits_in served.handed)) (sym same) at_most
+
+  module _ (line : LineText) (handing : ForInput before (λ input. HasHandedOut input (served.handed ++ line ∷ []) reader' left')) (tells : keeper'.tells) where
+    read_front : reader'.taken ≤ input_limit → ForInput before (λ input. HasReadFront (served.handed ++ line ∷ []) input left')
+    read_front limit input is =
+        let out : HasHandedOut input (served.handed ++ line ∷ []) reader' left' = handing input is in
+        record { following = lines (reader'.waiting ++ drop reader'.taken input); order = out.others; taken = reader'.taken; within = out.within; others = out.told; limit = limit }
+
+    module _ (result : Result (Unit {0}) EngineFault) (carries : Carries (command_of line) result engine engine' keeper keeper' steps steps') (good : is_carried result ≡ true) where
+      abbrev done : HasEffect here (command_of line) engine engine' keeper keeper' steps steps'
+      done = carries.carried good tells here served.holds
 
       abbrev longer : List Effect
       longer = served.effects ++ done.effect ∷ []
+
+      abbrev there : History
+      there = history_after history longer
+
+      there_is : there ≡ here ++ done.effect.added
+      there_is = history_after-append history served.effects done.effect
 
       run_on : IsRun history (opening_after history) (served.handed ++ line ∷ []) longer
       run_on = IsRun-append history (opening_after history) served.handed served.effects line done.effect served.run
           (subst (λ (w : World). IsEffect here w (command_of line) done.effect) served.world done.is)
 
-      stands_on : StandsFor engine'.state (history_after history longer)
-      stands_on = subst (λ (h : History). StandsFor engine'.state h) (sym (history_after-append history served.effects done.effect)) done.stands
+      holds_on : Holds there engine' keeper'
+      holds_on = subst (λ (h : History). Holds h engine' keeper') (sym there_is) done.holds
 
-      kept_on : keeper'.tells → KeepsHistory (history_after history longer) keeper'
-      kept_on tells = subst (λ (h : History). KeepsHistory h keeper') (sym (history_after-append history served.effects done.effect))
-          (KeepsHistory-after here done.effect.added keeper keeper' done.stands.valid (served.kept (carries.call.told tells)) (done.kept tells))
+      kept_on : KeepsHistory there keeper'
+      kept_on = subst (λ (h : History). KeepsHistory h keeper') (sym there_is)
+          (KeepsHistory-after here done.effect.added keeper keeper' done.holds.stands.valid served.kept done.kept)
+
+      sum_on : IsAmple history (opening_after history) (served.handed ++ line ∷ []) longer
+          → RunSum before.steps steps' (versions there) (audits_in (served.handed ++ line ∷ [])) (taken_of engine'.world)
+      sum_on ample =
+          let parts = IsAmple-front history (opening_after history) served.handed served.effects line done.effect served.run ample in
+          let tallies : Tallies (command_of line) (versions here) steps steps' (taken_of engine.world) (taken_of engine'.world) =
+              done.counts (λ reads. subst (λ (w : World). done.effect ≡ effect_of here w (command_of line)) (sym served.world) (parts.1 reads)) in
+          let more : versions here ≤ versions there = subst (λ (h : History). versions here ≤ versions h) (sym there_is) (versions-more here done.effect.added) in
+          subst (λ (n : ℕ). RunSum before.steps steps' (versions there) n (taken_of engine'.world)) (sym (audits_in-append served.handed line))
+          (RunSum-line (command_of line) before.steps steps steps' (versions here) (versions there) (audits_in served.handed) (taken_of engine.world) (taken_of engine'.world)
+          more (served.sum parts.0) tallies)
 
       -- the line has its reply
-      pub served_more : Appends output output' engine'.reply → HasServed history input before reader' left' engine' keeper' output'
+      pub served_more : Appends written written' engine'.reply → HasServed history before reader' engine' now
       served_more appends = record {
         handed = served.handed ++ line ∷ [];
         effects = longer;
         handing = handing;
         run = run_on;
-        stands = stands_on;
         world = done.world ∙ sym (world_after-append (opening_after history) served.effects done.effect);
-        written = appends (before ++ replies served.effects) served.written
-            ∙ ap Some (append_assoc before (replies served.effects) engine'.reply
-            ∙ ap (λ (rest : Txt). before ++ rest) (ap (λ (reply : Txt). replies served.effects ++ reply) done.reply ∙ sym (replies-append served.effects done.effect)));
+        holds = holds_on;
         kept = kept_on;
+        sum = sum_on;
+        written = subst (λ (bytes : Txt). Appends before.written written' bytes)
+            (ap (λ (reply : Txt). replies served.effects ++ reply) done.reply ∙ sym (replies-append served.effects done.effect))
+            (both_whole before.written written written' (replies served.effects) engine'.reply served.written appends);
       }
 
       -- its reply could not be written whole
-      pub unwritten : AppendsFront output output' engine'.reply → reader'.taken ≤ input_limit → keeper'.tells → IsUnwritten history input before left' output' keeper'
-      unwritten front limit tells = record {
+      pub unwritten : AppendsFront written written' engine'.reply → reader'.taken ≤ input_limit → IsUnwritten history before now
+      unwritten front limit = record {
+        replied = served.handed ++ line ∷ [];
         effects = served.effects;
         last = done.effect;
-        replied = served.handed ++ line ∷ [];
-        others = lines (reader'.waiting ++ drop reader'.taken input);
         front = front.0;
-        taken = taken_from limit;
-        order = handing.others;
-        run = run_on;
-        written = front.1 (before ++ replies served.effects) served.written
-            ∙ ap (λ (reply : Txt). Some (before ++ replies served.effects ++ take front.0 reply)) done.reply;
-        kept = kept_on tells;
+        ran = record {
+          run = run_on;
+          kept = kept_on;
+          bound = λ ample. RunSum-end before.steps steps' (versions there) (audits_in (served.handed ++ line ∷ [])) (taken_of engine'.world) (sum_on ample);
+        };
+        read = read_front limit;
+        written = subst (λ (reply : Txt). Appends before.written written' (replies served.effects ++ take front.0 reply)) done.reply
+            (both_whole before.written written written' (replies served.effects) (take front.0 engine'.reply) served.written front.1);
       }
 
-    -- the keeper failed
-    pub broken_off : Carries {A = Unit {0}} (command_of line) (Err Keeper) engine engine' keeper keeper' → output' ≡ output → reader'.taken ≤ input_limit → keeper'.tells → IsBrokenOff history input before left' output' keeper'
-    broken_off carries same limit tells =
-        let breaks : BreaksOff here (command_of line) engine keeper keeper' = carries.failed refl here served.stands in
-        record {
-          effects = served.effects;
-          replied = served.handed;
-          next = line;
-          others = lines (reader'.waiting ++ drop reader'.taken input);
-          taken = taken_from limit;
-          order = handing.others ∙ append_assoc served.handed (line ∷ []) (lines (reader'.waiting ++ drop reader'.taken input));
-          run = served.run;
-          written = same ∙ served.written;
-          kept = record {
-            entry = breaks.entry;
-            adds = subst (λ (w : World). (effect_of here w (command_of line)).added ≡ breaks.entry ∷ []) served.world breaks.adds;
-            follows = breaks.follows;
-            kept = KeepsEither-after here breaks.entry keeper keeper' breaks.follows (served.kept (carries.call.told tells)) (breaks.kept tells);
-          };
-        }
+    -- the keeper failed while it was to keep an entry, or while it was read
+    broken_at : BreaksOff here (command_of line) engine keeper keeper' → KeepsBroken history served.effects line keeper'
+    broken_at breaks = elim breaks [
+      | inl adding ↦ inl (record {
+          entry = adding.entry;
+          adds = subst (λ (w : World). (effect_of here w (command_of line)).added ≡ adding.entry ∷ []) served.world adding.adds;
+          follows = adding.follows;
+          kept = KeepsEither-after here adding.entry keeper keeper' adding.follows served.kept adding.kept;
+        })
+      | inr reading ↦ inr (record {
+          reads = reading.reads;
+          adds = subst (λ (w : World). (effect_of here w (command_of line)).added ≡ []) served.world reading.adds;
+          kept = KeepsHistory-same here keeper keeper' served.kept reading.kept;
+        })
+    ]
 
-  -- the input has ended
-  pub all_served : HasHandedOut input served.handed reader' left' → served.handed ≡ lines input → left' ≡ Some [] → reader'.taken ≤ input_limit → keeper.tells → IsServed history input before left' output keeper
-  all_served handing all nothing limit tells =
-      let ended : drop reader'.taken input ≡ [] = drop_told (drop reader'.taken input) (sym handing.told ∙ nothing) in
-      record {
-        effects = served.effects;
-        run = rw (← all) served.run;
-        written = served.written;
-        left = nothing;
-        limit = omega (arith, limit, length-drop reader'.taken input, ap length ended);
-        kept = served.kept tells;
-      }
+    pub broken_off : Carries {A = Unit {0}} (command_of line) (Err Keeper) engine engine' keeper keeper' steps steps' → written' ≡ written → reader'.taken ≤ input_limit → IsBrokenOff history before now
+    broken_off carries same limit = record {
+      replied = served.handed;
+      effects = served.effects;
+      next = line;
+      run = served.run;
+      kept = broken_at (carries.failed refl tells here served.holds);
+      bound = λ quiet. within_so_far now (carries.idle quiet);
+      read = read_front limit;
+      written = subst (λ (bytes : Option Txt). Appends before.written bytes (replies served.effects)) (sym same) served.written;
+    }
+
+    -- a keeper that tells what it keeps hands over nothing else
+    pub undamaged : (number : ℕ) → Carries {A = Unit {0}} (command_of line) (Err (Damaged number)) engine engine' keeper keeper' steps steps' → ⊥
+    undamaged number carries = carries.undamaged tells here served.holds number refl
+
+  -- the input has ended, or was cut off, and nothing else has changed
+  abbrev ran : HasRun history served.handed served.effects before (outside left' written keeper steps)
+  ran = record { run = served.run; kept = served.kept; bound = within_so_far (outside left' written keeper steps) refl }
+
+  pub all_served : ForInput before (λ input. HasHandedOut input served.handed reader' left' × (served.handed ≡ lines input) × (left' ≡ Some [])) → reader'.taken ≤ input_limit
+      → IsServed history before (outside left' written keeper steps)
+  all_served ended limit = record {
+    replied = served.handed;
+    effects = served.effects;
+    ran = ran;
+    read = λ input is. read_all input (ended input is);
+    written = served.written;
+  }
     where
       drop_told : (rest : Txt) → ◌≡◌ {A = Option Txt} (Some rest) (Some []) → rest ≡ []
       drop_told rest e = cc
+
+      read_all : (input : Txt) → HasHandedOut input served.handed reader' left' × (served.handed ≡ lines input) × (left' ≡ Some []) → HasReadAll served.handed input left'
+      read_all input (handing, all, nothing) =
+          let ended : drop reader'.taken input ≡ [] = drop_told (drop reader'.taken input) (sym handing.told ∙ nothing) in
+          record { all = all; nothing = nothing; limit = omega (arith, limit, length-drop reader'.taken input, ap length ended) }
+
+  pub cut_off : (amount : ℕ → Type 0) → amount reader'.taken → ForInput before (λ input. HasGivenUp input served.handed reader' left') → IsCutOff amount history before (outside left' written keeper steps)
+  cut_off amount is gives_up = record {
+    replied = served.handed;
+    effects = served.effects;
+    ran = ran;
+    read = λ input told.
+        let up : HasGivenUp input served.handed reader' left' = gives_up input told in
+        record { taken = reader'.taken; is = is; within = up.within; others = up.told; whole = up.whole };
+    written = served.written;
+  }

@@ -1,10 +1,10 @@
 -- What a keeper keeps of a history, and what a stop leaves of it.
 use Rattle.std.specs.Prelude.{◌≡◌, ◌⊎◌, true}
+use Rattle.hippo_values.specs.Texts.{Txt}
 use Rattle.hippo_model.specs.Terms.{History}
 use Rattle.hippo_model.specs.Stores.{IsStoreOf}
-use Rattle.hippo_keeper.specs.Keeping.{Store, Survivors, KeeperState}
+use Rattle.hippo_keeper.specs.Keeping.{Store, KeeperState}
 use Rattle.hippo_typing.specs.Meanings.{meaning}
-use Rattle.hippo_replay.specs.Loading.{KeepsFound}
 
 -- a keeper keeps the stored forms of a valid history, and a stop leaves just these
 pub record KeepsHistory (history : History) (keeper : KeeperState) : Type 0 where
@@ -17,6 +17,16 @@ pub record KeepsEither (history longer : History) (keeper : KeeperState) : Type 
   pub kept : IsStoreOf meaning keeper.kept history ⊎ IsStoreOf meaning keeper.kept longer
   pub alone : (store : Store) → keeper.survives store → IsStoreOf meaning store history ⊎ IsStoreOf meaning store longer
 
--- it was not started, or keeps what it found
-abbrev pub IsIdle : Survivors → KeeperState → Type 0
-IsIdle finds keeper = keeper.started ≡ true → KeepsFound finds keeper
+-- a start of the next keeper finds only what survives a stop of the last one
+abbrev pub FindsWhatSurvives : Txt → KeeperState → KeeperState → Type 0
+FindsWhatSurvives name last next = (store : Store) → next.finds name store → last.survives store
+
+-- a start finds only the stored forms of this history
+abbrev pub FindsHistory : Txt → History → KeeperState → Type 0
+FindsHistory name history keeper = (store : Store) → keeper.finds name store → IsStoreOf meaning store history
+
+-- or of one of these two
+abbrev pub FindsEither : Txt → History → History → KeeperState → Type 0
+FindsEither name history longer keeper =
+    (store : Store) → keeper.finds name store
+    → IsStoreOf meaning store history ⊎ IsStoreOf meaning store longer

@@ -2,5 +2,6 @@ pub mod Endings
 pub mod Jobs
 pub mod Saying
 pub mod Keeping
+pub mod Outside
 pub mod Runs
 pub mod Outcomes

@@ -1,5 +1,5 @@
 -- A run over the lines of an input, from a history on, and how it ends.
-use Rattle.std.specs.Prelude.{◌≡◌, ℕ, ◌<◌, ◌≤◌, min, true, List, [], ◌∷◌, ◌++◌, length, take, drop, Option, Some, None, Result, Ok, Err}
+use Rattle.std.specs.Prelude.{◌≡◌, ◌⊎◌, ℕ, ◌+◌, ◌*◌, ◌<◌, ◌≤◌, ◌↔◌, min, true, false, List, [], ◌∷◌, ◌++◌, length, take, drop, Option, Some, None, Ok, Err}
 use Rattle.hippo_values.specs.Texts.{Txt}
 use Rattle.hippo_io.specs.Lines.{LineText, lines}
 use Rattle.hippo_io.specs.HandingOut.{input_limit, whole_lines, HasHandedOut}
@@ -8,22 +8,24 @@ use Rattle.hippo_io.specs.Told.{Appends, AppendsFront}
 use Rattle.hippo_model.specs.declared.entry.Entry.{Entry}
 use Rattle.hippo_model.specs.Terms.{History}
 use Rattle.hippo_model.specs.Validity.{may_follow}
+use Rattle.hippo_model.specs.Versions.{versions}
 use Rattle.hippo_keeper.specs.Keeping.{KeeperState}
 use Rattle.hippo_typing.specs.Meanings.{meaning}
 use Rattle.hippo_report.specs.declared.format.Format.TheVariants.{Text}
-use Rattle.hippo_replay.specs.Standing.{StandsFor, latest_moment}
+use Rattle.hippo_replay.specs.Standing.{latest_moment}
 use Rattle.hippo_world.specs.Worlds.{World, opening}
 use Rattle.hippo_world.specs.Holding.{world_of}
 use Rattle.hippo_commands.specs.Commands.{Command, command_of}
 use Rattle.hippo_engine.specs.declared.engine.Engine.{Engine}
-use Rattle.hippo_engine.specs.declared.faults.EngineFault.{EngineFault}
-use Rattle.hippo_engine.specs.declared.faults.EngineFault.TheVariants.{Keeper, Write}
-use Rattle.hippo_engine.specs.Carrying.{Carries}
+use Rattle.hippo_engine.specs.declared.faults.EngineFault.TheVariants.{Keeper, Write, Damaged as DamagedAt}
+use Rattle.hippo_engine.specs.Carrying.{Holds, Carries}
 use Rattle.hippo_engine.specs.Effects.{Effect, effect_of}
-use Rattle.hippo_engine.specs.Runs.{IsRun, replies, history_after, world_after}
+use Rattle.hippo_engine.specs.Ledgers.{reads_kept, taken_of, RunSum}
+use Rattle.hippo_engine.specs.Runs.{IsRun, IsAmple, audits_in, replies, history_after, world_after}
 use Rattle.hippo_serve.specs.declared.endings.Ending.{Ending}
-use Rattle.hippo_serve.specs.declared.endings.Ending.TheVariants.{Served, KeeperFault, ReadFault, WriteFault, TooMuch}
+use Rattle.hippo_serve.specs.declared.endings.Ending.TheVariants.{Served, KeeperFault, ReadFault, WriteFault, Damaged, TooMuch}
 use Rattle.hippo_serve.specs.Keeping.{KeepsHistory, KeepsEither}
+use Rattle.hippo_serve.specs.Outside.{Told, Outside}
 
 -- how many entries a history may have
 abbrev pub entry_limit : ℕ
@@ -33,47 +35,94 @@ entry_limit = 4000000
 abbrev pub opening_after : History → World
 opening_after history = opening (latest_moment history) entry_limit Text
 
--- the input was read to its end, every line has its reply, and what the last one left is kept
-pub record IsServed (history : History) (input before : Txt) (rest output : Option Txt)
-    (keeper : KeeperState) : Type 0 where
-  pub effects : List Effect
-  pub run : IsRun history (opening_after history) (lines input) effects
-  pub written : output ≡ Some (before ++ replies effects)
-  pub left : rest ≡ Some []
-  pub limit : length input ≤ input_limit
-  pub kept : KeepsHistory (history_after history effects) keeper
+-- what holds of whatever input was told
+abbrev pub ForInput : Told → (Txt → Type 0) → Type 0
+ForInput before holds = (input : Txt) → before.left ≡ Some input → holds input
 
--- so many bytes were taken, and just the lines whose line feeds are among them, up to the limit, have their replies;
--- what the last one left is kept
-pub record IsCutOff (history : History) (input before : Txt) (rest output : Option Txt)
-    (keeper : KeeperState) (taken : ℕ) : Type 0 where
-  pub effects : List Effect
+-- where memory was ample, what is kept was read once by loading, and at most once for each audit that was asked for:
+-- a step is one version that was read
+abbrev pub StepsWithin : History → List LineText → List Effect → Told → Outside → Type 0
+StepsWithin history replied effects before after =
+    IsAmple history (opening_after history) replied effects
+    → after.told.steps ≤ before.steps + versions (history_after history effects) * (1 + audits_in replied)
+
+-- so many bytes of the input were taken, and the others are left: all at status 0, and more than are read just at 8
+pub record HasTaken (status : ℕ) (input : Txt) (left : Option Txt) : Type 0 where
+  pub taken : ℕ
   pub within : taken ≤ length input
-  pub left : rest ≡ Some (drop taken input)
-  pub run : IsRun history (opening_after history) (whole_lines input (min taken input_limit)) effects
-  pub written : output ≡ Some (before ++ replies effects)
-  pub kept : KeepsHistory (history_after history effects) keeper
+  pub others : left ≡ Some (drop taken input)
+  pub all : status ≡ 0 → taken ≡ length input
+  pub limit : (status ≡ 8) ↔ (input_limit < taken)
 
--- some bytes of the input were taken, within the limit, and the others are left
-pub record IsTakenFrom (input : Txt) (rest : Option Txt) : Type 0 where
-  pub count : ℕ
-  pub within : count ≤ length input
-  pub left : rest ≡ Some (drop count input)
-  pub limit : count ≤ input_limit
+-- some lines of the input were handed out so far
+pub record IsReading (input : Txt) (reader : Position) (left : Option Txt) : Type 0 where
+  pub handed : List LineText
+  pub handing : HasHandedOut input handed reader left
 
--- the first lines have their replies, and then a front of the next line's reply is written; what that line left is kept
-pub record IsUnwritten (history : History) (input before : Txt) (rest output : Option Txt)
-    (keeper : KeeperState) : Type 0 where
+-- lines have had their effects from a history on, and what the last one left is kept, and survives a stop
+pub record HasRun (history : History) (replied : List LineText) (effects : List Effect)
+    (before : Told) (after : Outside) : Type 0 where
+  pub run : IsRun history (opening_after history) replied effects
+  pub kept : KeepsHistory (history_after history effects) after.keeper
+  pub bound : StepsWithin history replied effects before after
+
+-- these are all lines of the input, and nothing of it is left
+pub record HasReadAll (replied : List LineText) (input : Txt) (left : Option Txt) : Type 0 where
+  pub all : replied ≡ lines input
+  pub nothing : left ≡ Some []
+  pub limit : length input ≤ input_limit
+
+-- every line has its reply
+pub record IsServed (history : History) (before : Told) (after : Outside) : Type 0 where
+  pub replied : List LineText
+  pub effects : List Effect
+  pub ran : HasRun history replied effects before after
+  pub read : ForInput before (λ input. HasReadAll replied input after.told.left)
+  pub written : Appends before.written after.told.written (replies effects)
+
+-- so many bytes of the input were taken, and these are just the lines whose line feeds are among them, up to the limit
+pub record HasReadWhole (amount : ℕ → Type 0) (replied : List LineText) (input : Txt) (left : Option Txt)
+    : Type 0 where
+  pub taken : ℕ
+  pub is : amount taken
+  pub within : taken ≤ length input
+  pub others : left ≡ Some (drop taken input)
+  pub whole : replied ≡ whole_lines input (min taken input_limit)
+
+-- just the lines that were read whole have their replies
+pub record IsCutOff (amount : ℕ → Type 0) (history : History) (before : Told) (after : Outside) : Type 0 where
+  pub replied : List LineText
+  pub effects : List Effect
+  pub ran : HasRun history replied effects before after
+  pub read : ForInput before (λ input. HasReadWhole amount replied input after.told.left)
+  pub written : Appends before.written after.told.written (replies effects)
+
+-- the source failed within the limit
+abbrev pub IsReadCut : History → Told → Outside → Type 0
+IsReadCut history before after = IsCutOff (λ taken. taken ≤ input_limit) history before after
+
+-- more bytes were taken than are read
+abbrev pub HasTooMuch : History → Told → Outside → Type 0
+HasTooMuch history before after = IsCutOff (λ taken. input_limit < taken) history before after
+
+-- these are the first lines of the input; some of its bytes were taken, within the limit, and the others are left
+pub record HasReadFront (first : List LineText) (input : Txt) (left : Option Txt) : Type 0 where
+  pub following : List LineText
+  pub order : lines input ≡ first ++ following
+  pub taken : ℕ
+  pub within : taken ≤ length input
+  pub others : left ≡ Some (drop taken input)
+  pub limit : taken ≤ input_limit
+
+-- the lines have their replies but the last, of whose reply a front is written; it has had its effect all the same
+pub record IsUnwritten (history : History) (before : Told) (after : Outside) : Type 0 where
+  pub replied : List LineText
   pub effects : List Effect
   pub last : Effect
-  pub replied : List LineText
-  pub others : List LineText
   pub front : ℕ
-  pub taken : IsTakenFrom input rest
-  pub order : lines input ≡ replied ++ others
-  pub run : IsRun history (opening_after history) replied (effects ++ last ∷ [])
-  pub written : output ≡ Some (before ++ replies effects ++ take front last.reply)
-  pub kept : KeepsHistory (history_after history (effects ++ last ∷ [])) keeper
+  pub ran : HasRun history replied (effects ++ last ∷ []) before after
+  pub read : ForInput before (λ input. HasReadFront replied input after.told.left)
+  pub written : Appends before.written after.told.written (replies effects ++ take front last.reply)
 
 -- what the rules add for a line behind some effects
 abbrev pub added_next : History → List Effect → LineText → History
@@ -88,51 +137,68 @@ pub record KeepsOrAdds (history added : History) (keeper : KeeperState) : Type 0
   pub follows : may_follow meaning history entry ≡ true
   pub kept : KeepsEither history (history ++ entry ∷ []) keeper
 
--- the first lines have their replies, and nothing is written of the next one's; what they left is kept, or that with
--- the one entry that the rules add for the next line
-pub record IsBrokenOff (history : History) (input before : Txt) (rest output : Option Txt)
-    (keeper : KeeperState) : Type 0 where
-  pub effects : List Effect
+-- the rules add nothing to a history for a line that reads it, and it is kept
+pub record KeepsRead (history added : History) (line : LineText) (keeper : KeeperState) : Type 0 where
+  pub reads : reads_kept (command_of line) ≡ true
+  pub adds : added ≡ []
+  pub kept : KeepsHistory history keeper
+
+-- the keeper failed at a line behind some effects: while it was to keep the entry that the rules add for the line, or
+-- while it was read
+abbrev pub KeepsBroken : History → List Effect → LineText → KeeperState → Type 0
+KeepsBroken history effects line keeper =
+    let here : History = history_after history effects in
+    let added : History = added_next history effects line in
+    KeepsOrAdds here added keeper ⊎ KeepsRead here added line keeper
+
+-- the lines have their replies, and nothing is written of the next one's; what they left is kept, or that with the one
+-- entry that the rules add for the next line
+pub record IsBrokenOff (history : History) (before : Told) (after : Outside) : Type 0 where
   pub replied : List LineText
+  pub effects : List Effect
   pub next : LineText
-  pub others : List LineText
-  pub taken : IsTakenFrom input rest
-  pub order : lines input ≡ replied ++ next ∷ others
   pub run : IsRun history (opening_after history) replied effects
-  pub written : output ≡ Some (before ++ replies effects)
-  pub kept : KeepsOrAdds (history_after history effects) (added_next history effects next) keeper
+  pub kept : KeepsBroken history effects next after.keeper
+  pub bound : reads_kept (command_of next) ≡ false → StepsWithin history replied effects before after
+  pub read : ForInput before (λ input. HasReadFront (replied ++ next ∷ []) input after.told.left)
+  pub written : Appends before.written after.told.written (replies effects)
 
--- how a run over lines ends, between what is left of an input and what a sink has written
-abbrev pub LinesEnd : Ending → History → Txt → Txt → Option Txt → Option Txt → KeeperState → Type 0
-LinesEnd Served history input before left written keeper = IsServed history input before left written keeper
-LinesEnd KeeperFault history input before left written keeper = IsBrokenOff history input before left written keeper
-LinesEnd ReadFault history input before left written keeper =
-    (taken : ℕ) × (taken ≤ input_limit) × IsCutOff history input before left written keeper taken
-LinesEnd WriteFault history input before left written keeper = IsUnwritten history input before left written keeper
-LinesEnd TooMuch history input before left written keeper =
-    (taken : ℕ) × (input_limit < taken) × IsCutOff history input before left written keeper taken
-LinesEnd ending history input before left written keeper = ⊥
+-- how a run over lines ends
+abbrev pub LinesEnd : Ending → History → Told → Outside → Type 0
+LinesEnd Served history before after = IsServed history before after
+LinesEnd KeeperFault history before after = IsBrokenOff history before after
+LinesEnd ReadFault history before after = IsReadCut history before after
+LinesEnd WriteFault history before after = IsUnwritten history before after
+LinesEnd TooMuch history before after = HasTooMuch history before after
+LinesEnd ending history before after = ⊥
 
--- so far the lines that were handed out have their replies, and the engine is as the last one left it; where the keeper
--- tells what it keeps, that is kept
-pub record HasServed (history : History) (input before : Txt) (reader : Position) (left : Option Txt)
-    (engine : Engine) (keeper : KeeperState) (output : Option Txt) : Type 0 where
+-- so far the lines that were handed out have their replies, and the engine and its keeper hold what the last one left
+pub record HasServed (history : History) (before : Told) (reader : Position) (engine : Engine)
+    (now : Outside) : Type 0 where
   pub handed : List LineText
   pub effects : List Effect
-  pub handing : HasHandedOut input handed reader left
+  pub handing : ForInput before (λ input. HasHandedOut input handed reader now.told.left)
   pub run : IsRun history (opening_after history) handed effects
-  pub stands : StandsFor engine.state (history_after history effects)
   pub world : world_of engine.world ≡ world_after (opening_after history) effects
-  pub written : output ≡ Some (before ++ replies effects)
-  pub kept : keeper.tells → KeepsHistory (history_after history effects) keeper
+  pub holds : Holds (history_after history effects) engine now.keeper
+  pub kept : KeepsHistory (history_after history effects) now.keeper
+  pub sum : IsAmple history (opening_after history) handed effects
+      → RunSum before.steps now.told.steps (versions (history_after history effects)) (audits_in handed)
+      (taken_of engine.world)
+  pub written : Appends before.written now.told.written (replies effects)
 
--- what a call with a line did: the line was carried out and replied to, or the keeper failed, or the sink did
+-- what a call with a line did: the line was carried out and replied to, or the keeper failed, or the sink did; or the
+-- keeper handed over what it did not keep, and that was said, or the sink failed then
 abbrev pub Turn : Option Ending → Command → Engine → Engine → KeeperState → KeeperState → Option Txt → Option Txt
-    → Type 0
-Turn None command old new before after written written' =
-    Carries {A = Unit {0}} command (Ok tt) old new before after × Appends written written' new.reply
-Turn (Some KeeperFault) command old new before after written written' =
-    Carries {A = Unit {0}} command (Err Keeper) old new before after × (written' ≡ written)
-Turn (Some WriteFault) command old new before after written written' =
-    Carries {A = Unit {0}} command (Err Write) old new before after × AppendsFront written written' new.reply
-Turn (Some ending) command old new before after written written' = ⊥
+    → ℕ → ℕ → Type 0
+Turn None command old new before after written written' steps steps' =
+    Carries {A = Unit {0}} command (Ok tt) old new before after steps steps' × Appends written written' new.reply
+Turn (Some KeeperFault) command old new before after written written' steps steps' =
+    Carries {A = Unit {0}} command (Err Keeper) old new before after steps steps' × (written' ≡ written)
+Turn (Some WriteFault) command old new before after written written' steps steps' =
+    (Carries {A = Unit {0}} command (Err Write) old new before after steps steps'
+    × AppendsFront written written' new.reply)
+    ⊎ ((number : ℕ) × Carries {A = Unit {0}} command (Err (DamagedAt number)) old new before after steps steps')
+Turn (Some Damaged) command old new before after written written' steps steps' =
+    (number : ℕ) × Carries {A = Unit {0}} command (Err (DamagedAt number)) old new before after steps steps'
+Turn (Some ending) command old new before after written written' steps steps' = ⊥

@@ -1,122 +1,136 @@
 //! The lines of the input, one after the other, each with its reply.
-ghost use Rattle.std.specs.Prelude.{◌≡◌, ◌≢◌, ◌<◌, ◌≤◌, List, [], ℕ, Some, None, IfNone, IfOk, MatchOption, true, false};
+ghost use Rattle.std.specs.Prelude.{◌≡◌, ◌≢◌, ℕ, ◌+◌, ◌<◌, ◌≤◌, List, [], Some, None, IfNone, IfOk, MatchOption, true, false};
 ghost use Rattle.hippo_io.specs.Faults.{HasRisen};
 ghost use Rattle.hippo_io.specs.HandingOut.{at_beginning, consumed, input_limit, HasHandedOut};
 ghost use Rattle.hippo_io.specs.LineTexts.{line_text};
 ghost use Rattle.hippo_model.specs.Terms.{History};
+ghost use Rattle.hippo_model.specs.Versions.{versions};
 ghost use Rattle.hippo_keeper.specs.Keeping.{IsAfterCall};
 ghost use Rattle.hippo_commands.specs.Commands.{commanded};
 ghost use Rattle.hippo_report.specs.declared.format.Format.TheVariants.{Text};
 ghost use Rattle.hippo_replay.specs.Standing.{StandsFor};
 ghost use Rattle.hippo_world.specs.Holding.{world_of};
 ghost use Rattle.hippo_world.specs.Worlds.{opening};
-ghost use Rattle.hippo_engine.specs.Carrying.{AtWork};
-ghost use Rattle.hippo_serve.specs.declared.endings.Ending.TheVariants.{Served, Refused, ReadFault, WriteFault, Damaged, NoMemory};
-ghost use Rattle.hippo_serve.specs.Endings.{as_call, as_line_call};
+ghost use Rattle.hippo_engine.specs.Carrying.{Holds, AtWork, IsBacked};
+ghost use Rattle.hippo_serve.specs.declared.endings.Ending.TheVariants.{Served, Refused, ReadFault, WriteFault, NoMemory};
+ghost use Rattle.hippo_serve.specs.Endings.{status_of, as_call, as_line_call};
 ghost use Rattle.hippo_serve.specs.Keeping.{KeepsHistory};
-ghost use Rattle.hippo_serve.specs.Outcomes.{ForTold};
-ghost use Rattle.hippo_serve.specs.Runs.{entry_limit, opening_after, LinesEnd, HasServed, Turn};
+ghost use Rattle.hippo_serve.specs.Outside.{Told, telling, outside};
+ghost use Rattle.hippo_serve.specs.Runs.{entry_limit, opening_after, HasTaken, IsReading, LinesEnd, HasServed, Turn};
 
 use crate::endings::Ending;
+use crate::printing::say_damaged;
 use hippo_engine::{Engine, EngineFault};
 use hippo_io::{Line, LineFault, LineReader, Sink, Source};
-use hippo_keeper::Keeper;
+use hippo_keeper::{Keeper, Steps};
 use hippo_replay::State;
 use hippo_report::Format;
 use hippo_values::Memory;
 use std::alloc::Global;
+use std::sync::ledger::Ledger;
 
 // How many entries a history may have.
 const ENTRY_LIMIT: u32 = 4_000_000;
 
 // Carries out a line and writes its reply; answers how the run ends, where it does.
-fn carry_out<K: Sink, P: Keeper>(
+fn carry_out<K: Sink, P: Keeper, L: Ledger>(
     alloc: Global,
     engine: &mut Engine,
     line: Line<'_>,
     keeper: &mut P,
     sink: &mut K,
+    steps: &mut Steps<L>,
 ) -> Option<Ending>
-    requires at_work { AtWork engine.old.state (P.state keeper.old) }
+    requires at_work { AtWork engine.old (P.state keeper.old) }
     ensures line { line_text line.entry ≢ None →
         Turn result (commanded (line_text line.entry)) engine.old engine.new (P.state keeper.old) (P.state keeper.new)
-        (K.written sink.old) (K.written sink.new) }
+        (K.written sink.old) (K.written sink.new) steps.old steps.new }
     ensures end { line_text line.entry ≡ None →
-        (result ≡ Some Served) × (engine.new ≡ engine.old) × (keeper.new ≡ keeper.old) × (sink.new ≡ sink.old) }
+        (result ≡ Some Served) × (engine.new ≡ engine.old) × (keeper.new ≡ keeper.old) × (sink.new ≡ sink.old)
+        × (steps.new ≡ steps.old) }
     ensures write_fault { result ≡ Some WriteFault → HasRisen (K.faults sink.old) (K.faults sink.new) }
     ensures unfailed_write { result ≢ Some WriteFault → K.faults sink.new ≡ K.faults sink.old }
 {
     if line == Line::End {
         return Some(Ending::Served);
     }
-    match engine.line(alloc, line, keeper, sink) {
+    match engine.line(alloc, line, keeper, sink, steps) {
         Ok(()) => None,
         Err(EngineFault::Keeper) => Some(Ending::KeeperFault),
         Err(EngineFault::Write) => Some(Ending::WriteFault),
+        Err(EngineFault::Damaged(number)) => Some(say_damaged(sink, number)),
     }
 }
 
 // Reads the next line and carries it out; answers how the run ends, where it does.
-fn serve_line<S: Source, K: Sink, P: Keeper>(
+fn serve_line<S: Source, K: Sink, P: Keeper, L: Ledger>(
     alloc: Global,
     engine: &mut Engine,
     reader: &mut LineReader,
     source: &mut S,
     keeper: &mut P,
     sink: &mut K,
+    steps: &mut Steps<L>,
 ) -> Option<Ending>
     requires reader { reader.old.failure ≡ None }
-    requires at_work { AtWork engine.old.state (P.state keeper.old) }
-    ensures status { (result ≢ Some Refused) × (result ≢ Some Damaged) × (result ≢ Some NoMemory) }
+    requires at_work { AtWork engine.old (P.state keeper.old) }
+    ensures status { (result ≢ Some Refused) × (result ≢ Some NoMemory) }
     ensures goes_on { IfNone result ((reader.new.failure ≡ None)
         × (consumed reader.old < consumed reader.new) × (reader.new.taken ≤ input_limit)) }
-    ensures at_work { IfNone result (AtWork engine.new.state (P.state keeper.new)) }
+    ensures at_work { IfNone result (AtWork engine.new (P.state keeper.new)) }
     ensures call { IsAfterCall true false (as_line_call result) (P.state keeper.old) (P.state keeper.new) }
-    ensures served { (history : History) (input before : List ℕ) →
-        HasServed history input before reader.old (S.left source.old) engine.old (P.state keeper.old)
-        (K.written sink.old) →
+    ensures read { (input : List ℕ) → IsReading input reader.old (S.left source.old) →
+        MatchOption result (IsReading input reader.new (S.left source.new))
+        (λ ending. HasTaken (status_of ending) input (S.left source.new)) }
+    ensures served { (P.state keeper.new).tells → (history : History) (before : Told) →
+        HasServed history before reader.old engine.old
+        (outside (S.left source.old) (K.written sink.old) (P.state keeper.old) steps.old) →
         MatchOption result
-        (HasServed history input before reader.new (S.left source.new) engine.new (P.state keeper.new)
-        (K.written sink.new))
-        (λ ending. (P.state keeper.new).tells →
-        LinesEnd ending history input before (S.left source.new) (K.written sink.new) (P.state keeper.new)) }
+        (HasServed history before reader.new engine.new
+        (outside (S.left source.new) (K.written sink.new) (P.state keeper.new) steps.new))
+        (λ ending. LinesEnd ending history before
+        (outside (S.left source.new) (K.written sink.new) (P.state keeper.new) steps.new)) }
     ensures read_fault { result ≡ Some ReadFault → HasRisen (S.faults source.old) (S.faults source.new) }
     ensures write_fault { result ≡ Some WriteFault → HasRisen (K.faults sink.old) (K.faults sink.new) }
     ensures unfailed_read { result ≢ Some ReadFault → S.faults source.new ≡ S.faults source.old }
     ensures unfailed_write { result ≢ Some WriteFault → K.faults sink.new ≡ K.faults sink.old }
 {
     match reader.next_line(source) {
-        Ok(line) => carry_out(alloc, engine, line, keeper, sink),
+        Ok(line) => carry_out(alloc, engine, line, keeper, sink, steps),
         Err(LineFault::Read) => Some(Ending::ReadFault),
         Err(LineFault::TooMuch) => Some(Ending::TooMuch),
     }
 }
 
 // Serves lines until the input ends or a fault stops it.
-fn serve_lines<S: Source, K: Sink, P: Keeper>(
+fn serve_lines<S: Source, K: Sink, P: Keeper, L: Ledger>(
     alloc: Global,
     engine: &mut Engine,
     reader: &mut LineReader,
     source: &mut S,
     keeper: &mut P,
     sink: &mut K,
+    steps: &mut Steps<L>,
 ) -> Ending
     requires reader { reader.old ≡ at_beginning }
     requires handed { (input : List ℕ) → HasHandedOut input [] reader.old (Some input) }
-    requires at_work { AtWork engine.old.state (P.state keeper.old) }
-    ensures status { (result ≢ Refused) × (result ≢ Damaged) × (result ≢ NoMemory) }
+    requires at_work { AtWork engine.old (P.state keeper.old) }
+    ensures status { (result ≢ Refused) × (result ≢ NoMemory) }
     ensures call { IsAfterCall true false (as_call result) (P.state keeper.old) (P.state keeper.new) }
-    ensures ends { (P.state keeper.new).tells → (history : History) → StandsFor engine.old.state history →
+    ensures read { (input : List ℕ) → S.left source.old ≡ Some input →
+        HasTaken (status_of result) input (S.left source.new) }
+    ensures ends { (P.state keeper.new).tells → (history : History) → Holds history engine.old (P.state keeper.old) →
         world_of engine.old.world ≡ opening_after history → KeepsHistory history (P.state keeper.old) →
-        ForTold (S.left source.old) (K.written sink.old) (λ input before.
-        LinesEnd result history input before (S.left source.new) (K.written sink.new) (P.state keeper.new)) }
+        (start : ℕ) → steps.old ≡ start + versions history →
+        LinesEnd result history (telling (S.left source.old) (K.written sink.old) start)
+        (outside (S.left source.new) (K.written sink.new) (P.state keeper.new) steps.new) }
     ensures read_fault { result ≡ ReadFault → HasRisen (S.faults source.old) (S.faults source.new) }
     ensures write_fault { result ≡ WriteFault → HasRisen (K.faults sink.old) (K.faults sink.new) }
     ensures unfailed_read { result ≢ ReadFault → S.faults source.new ≡ S.faults source.old }
     ensures unfailed_write { result ≢ WriteFault → K.faults sink.new ≡ K.faults sink.old }
 {
     loop {
-        if let Some(ending) = serve_line(alloc, engine, reader, source, keeper, sink) {
+        if let Some(ending) = serve_line(alloc, engine, reader, source, keeper, sink, steps) {
             return ending;
         }
     }
@@ -131,21 +145,25 @@ fn open(alloc: Global, state: State) -> Result<Engine, Memory>
 }
 
 /// Serves all lines over a state that was loaded from the keeper. Want of memory comes before anything is read.
-pub fn serve<S: Source, K: Sink, P: Keeper>(
+pub fn serve<S: Source, K: Sink, P: Keeper, L: Ledger>(
     alloc: Global,
     state: State,
     source: &mut S,
     keeper: &mut P,
     sink: &mut K,
+    steps: &mut Steps<L>,
 ) -> Ending
-    requires at_work { AtWork state (P.state keeper.old) }
-    ensures status { (result ≢ Refused) × (result ≢ Damaged) }
+    requires backed { IsBacked state (P.state keeper.old) }
+    ensures status { result ≢ Refused }
     ensures call { IsAfterCall true false (as_call result) (P.state keeper.old) (P.state keeper.new) }
     ensures nothing { result ≡ NoMemory →
         (source.new ≡ source.old) × (keeper.new ≡ keeper.old) × (sink.new ≡ sink.old) }
+    ensures read { (input : List ℕ) → S.left source.old ≡ Some input →
+        HasTaken (status_of result) input (S.left source.new) }
     ensures ends { result ≢ NoMemory → (P.state keeper.new).tells → (history : History) → StandsFor state history →
-        KeepsHistory history (P.state keeper.old) → ForTold (S.left source.old) (K.written sink.old) (λ input before.
-        LinesEnd result history input before (S.left source.new) (K.written sink.new) (P.state keeper.new)) }
+        KeepsHistory history (P.state keeper.old) → (start : ℕ) → steps.old ≡ start + versions history →
+        LinesEnd result history (telling (S.left source.old) (K.written sink.old) start)
+        (outside (S.left source.new) (K.written sink.new) (P.state keeper.new) steps.new) }
     ensures read_fault { result ≡ ReadFault → HasRisen (S.faults source.old) (S.faults source.new) }
     ensures write_fault { result ≡ WriteFault → HasRisen (K.faults sink.old) (K.faults sink.new) }
     ensures unfailed_read { result ≢ ReadFault → S.faults source.new ≡ S.faults source.old }
@@ -157,7 +175,7 @@ pub fn serve<S: Source, K: Sink, P: Keeper>(
     };
     match open(alloc, state) {
         Ok(mut engine) => {
-            let ending = serve_lines(alloc, &mut engine, &mut reader, source, keeper, sink);
+            let ending = serve_lines(alloc, &mut engine, &mut reader, source, keeper, sink, steps);
             drop(engine);
             ending
         }

@@ -1,17 +1,16 @@
 //! The top call: what the words ask for is done over a keeper, and the call has its exit status.
-ghost use Rattle.std.specs.Prelude.{◌≡◌, ◌≢◌, ◌⊎◌, ℕ, ◌<◌, ◌≤◌, [], ◌∷◌, Some, None, true, false, Any};
+ghost use Rattle.std.specs.Prelude.{◌≡◌, ◌≢◌, ◌⊎◌, ℕ, List, [], ◌∷◌, Option, Some, None, true, false, Any};
 ghost use Rattle.hippo_io.specs.Faults.{HasRisen};
-ghost use Rattle.hippo_io.specs.HandingOut.{input_limit};
 ghost use Rattle.hippo_io.specs.Told.{Appends, AppendsFront};
 ghost use Rattle.hippo_keeper.specs.Keeping.{IsReady, IsAfterCall};
-ghost use Rattle.hippo_serve.specs.declared.endings.Ending.TheVariants.{Refused, ReadFault, WriteFault, Damaged, NoMemory, TooMuch};
+ghost use Rattle.hippo_serve.specs.declared.endings.Ending.TheVariants.{Served, Refused, ReadFault, WriteFault, Damaged, NoMemory, TooMuch};
 ghost use Rattle.hippo_serve.specs.declared.jobs.Job.TheVariants.{Run, Check};
-ghost use Rattle.hippo_serve.specs.Endings.{as_call};
+ghost use Rattle.hippo_serve.specs.Endings.{status_of, as_call};
 ghost use Rattle.hippo_serve.specs.Jobs.{job_of};
-ghost use Rattle.hippo_serve.specs.Keeping.{IsIdle};
-ghost use Rattle.hippo_serve.specs.Outcomes.{ForRun, ServesAll, BeginsDamaged, SaysDamaged, RunEnds, Counts, CheckEnds, Stops};
-ghost use Rattle.hippo_serve.specs.Runs.{IsCutOff, IsUnwritten, IsBrokenOff};
-ghost use Rattle.hippo_serve.specs.Saying.{usage, entries_line};
+ghost use Rattle.hippo_serve.specs.Outcomes.{FromFound, IsIdle, BeginsDamaged, SaysDamaged, IsCounted, BeginsCount, RunEnds, CheckEnds, Stops};
+ghost use Rattle.hippo_serve.specs.Outside.{Outside, outside};
+ghost use Rattle.hippo_serve.specs.Runs.{HasTaken, IsServed, IsBrokenOff, IsReadCut, IsUnwritten, HasTooMuch};
+ghost use Rattle.hippo_serve.specs.Saying.{usage};
 
 use crate::endings::Ending;
 use crate::jobs::{Job, job_of};
@@ -26,6 +25,7 @@ use std::sync::ledger::Ledger;
 
 // How the program ends where what is kept was not loaded.
 fn stop<K: Sink>(fault: LoadFault, sink: &mut K) -> Ending
+    ensures status { (result ≢ Served) × (result ≢ TooMuch) }
     ensures stops { Stops fault result (sink.new ≡ sink.old)
         (K.written sink.old) (K.written sink.new) (K.faults sink.old) (K.faults sink.new) }
 {
@@ -45,9 +45,10 @@ fn count_of(state: State) -> u64
     count
 }
 
-// Loads what is kept, and serves all lines.
+// Loads what a store keeps, and serves all lines.
 fn run<S: Source, K: Sink, P: Keeper, L: Ledger>(
     alloc: Global,
+    store: &str,
     source: &mut S,
     sink: &mut K,
     keeper: &mut P,
@@ -57,25 +58,30 @@ fn run<S: Source, K: Sink, P: Keeper, L: Ledger>(
     ensures status { result ≢ Refused }
     ensures call { IsAfterCall (P.state keeper.new).started (P.state keeper.new).closed (as_call result)
         (P.state keeper.old) (P.state keeper.new) }
-    ensures ends { (P.state keeper.new).tells → RunEnds result (source.new ≡ source.old) (sink.new ≡ sink.old)
-        ((P.state keeper.old).finds []) (S.left source.old) (K.written sink.old)
-        (S.left source.new) (K.written sink.new) (P.state keeper.new) steps.old steps.new }
-    ensures unread { (result ≡ Damaged) ⊎ (result ≡ NoMemory) → source.new ≡ source.old }
+    ensures ends { (P.state keeper.new).tells →
+        RunEnds result (source.new ≡ source.old) (sink.new ≡ sink.old) store.now
+        (outside (S.left source.old) (K.written sink.old) (P.state keeper.old) steps.old)
+        (outside (S.left source.new) (K.written sink.new) (P.state keeper.new) steps.new) }
+    ensures damaged { result ≡ Damaged → (P.state keeper.new).tells → source.new ≡ source.old }
+    ensures unread { result ≡ NoMemory → source.new ≡ source.old }
     ensures unwritten { result ≡ NoMemory → sink.new ≡ sink.old }
+    ensures read { (input : List ℕ) → S.left source.old ≡ Some input →
+        HasTaken (status_of result) input (S.left source.new) }
     ensures read_fault { result ≡ ReadFault → HasRisen (S.faults source.old) (S.faults source.new) }
     ensures write_fault { result ≡ WriteFault → HasRisen (K.faults sink.old) (K.faults sink.new) }
     ensures unfailed_read { result ≢ ReadFault → S.faults source.new ≡ S.faults source.old }
     ensures unfailed_write { result ≢ WriteFault → K.faults sink.new ≡ K.faults sink.old }
 {
-    match load(keeper, alloc, "", steps) {
-        Ok(state) => serve(alloc, state, source, keeper, sink),
+    match load(keeper, alloc, store, steps) {
+        Ok(state) => serve(alloc, state, source, keeper, sink, steps),
         Err(fault) => stop(fault, sink),
     }
 }
 
-// Loads what is kept, and says how many entries there are.
+// Loads what a store keeps, and says how many entries there are. The source is not handed over, and stays as it is.
 fn check<K: Sink, P: Keeper, L: Ledger>(
     alloc: Global,
+    store: &str,
     sink: &mut K,
     keeper: &mut P,
     steps: &mut Steps<L>,
@@ -84,14 +90,18 @@ fn check<K: Sink, P: Keeper, L: Ledger>(
     ensures status { (result ≢ Refused) × (result ≢ ReadFault) × (result ≢ TooMuch) }
     ensures call { IsAfterCall (P.state keeper.new).started (P.state keeper.new).closed (as_call result)
         (P.state keeper.old) (P.state keeper.new) }
-    ensures ends { (P.state keeper.new).tells → CheckEnds result (sink.new ≡ sink.old) ((P.state keeper.old).finds [])
-        (K.written sink.old) (K.written sink.new) (P.state keeper.new) steps.old steps.new }
-    ensures idle { (P.state keeper.new).tells → IsIdle ((P.state keeper.old).finds []) (P.state keeper.new) }
+    ensures ends { (P.state keeper.new).tells → (left : Option (List ℕ)) →
+        CheckEnds result (sink.new ≡ sink.old) store.now
+        (outside left (K.written sink.old) (P.state keeper.old) steps.old)
+        (outside left (K.written sink.new) (P.state keeper.new) steps.new) }
+    ensures idle { (P.state keeper.new).tells → (left : Option (List ℕ)) → IsIdle store.now
+        (outside left (K.written sink.old) (P.state keeper.old) steps.old)
+        (outside left (K.written sink.new) (P.state keeper.new) steps.new) }
     ensures unwritten { result ≡ NoMemory → sink.new ≡ sink.old }
     ensures write_fault { result ≡ WriteFault → HasRisen (K.faults sink.old) (K.faults sink.new) }
     ensures unfailed_write { result ≢ WriteFault → K.faults sink.new ≡ K.faults sink.old }
 {
-    match load(keeper, alloc, "", steps) {
+    match load(keeper, alloc, store, steps) {
         Ok(state) => say_entries(sink, count_of(state)),
         Err(fault) => stop(fault, sink),
     }
@@ -108,7 +118,8 @@ fn check<K: Sink, P: Keeper, L: Ledger>(
 /// - 4: the source failed; just the lines that were read whole have their replies.
 /// - 5: the sink failed; what was written is a front of what was to be written.
 /// - 6: the kept entries are those of no valid history; the line `damaged PLACE` is written, with the place, counted
-///   from 1, of the first entry up to which they are not. Nothing is read.
+///   from 1, of the first entry up to which they are not. Nothing is read. Over a keeper that does not tell what it
+///   keeps a line may find such an entry too, and `damaged NUMBER` is written behind the replies of the lines before.
 /// - 7: memory was short before the first byte was read; nothing was read or written.
 /// - 8: more than 2^40 bytes were read; just the lines that end among the first 2^40 have their replies.
 pub fn hippo_top<S: Source, K: Sink, P: Keeper, L: Ledger>(
@@ -130,49 +141,60 @@ pub fn hippo_top<S: Source, K: Sink, P: Keeper, L: Ledger>(
     ensures usage_cut { job_of words.now ≡ None → result ≡ 5 →
         AppendsFront (K.written sink.old) (K.written sink.new) usage }
 
-    // A run over what a start may find, where the keeper tells, and over an input and an output that are told.
+    // What a run comes to, where the keeper tells, from what a start may find; of an input and an output that are told,
+    // which lines were read, and what is written.
     ensures served { job_of words.now ≡ Some Run → result ≡ 0 → (P.state keeper.new).tells →
-        ServesAll ((P.state keeper.old).finds []) (S.left source.old) (K.written sink.old)
-        (S.left source.new) (K.written sink.new) (P.state keeper.new) steps.old steps.new }
+        FromFound [] IsServed
+        (outside (S.left source.old) (K.written sink.old) (P.state keeper.old) steps.old)
+        (outside (S.left source.new) (K.written sink.new) (P.state keeper.new) steps.new) }
     ensures keeper_cut { job_of words.now ≡ Some Run → result ≡ 3 → (P.state keeper.new).tells →
-        ((source.new ≡ source.old) × (sink.new ≡ sink.old)
-        × IsIdle ((P.state keeper.old).finds []) (P.state keeper.new))
-        ⊎ ForRun ((P.state keeper.old).finds []) (S.left source.old) (K.written sink.old) (λ history input before.
-        IsBrokenOff history input before (S.left source.new) (K.written sink.new) (P.state keeper.new)) }
+        let before : Outside = outside (S.left source.old) (K.written sink.old) (P.state keeper.old) steps.old in
+        let after : Outside = outside (S.left source.new) (K.written sink.new) (P.state keeper.new) steps.new in
+        ((source.new ≡ source.old) × (sink.new ≡ sink.old) × IsIdle [] before after)
+        ⊎ FromFound [] IsBrokenOff before after }
     ensures read_cut { result ≡ 4 → (P.state keeper.new).tells →
-        ForRun ((P.state keeper.old).finds []) (S.left source.old) (K.written sink.old) (λ history input before.
-        (taken : ℕ) × (taken ≤ input_limit)
-        × IsCutOff history input before (S.left source.new) (K.written sink.new) (P.state keeper.new) taken) }
+        FromFound [] IsReadCut
+        (outside (S.left source.old) (K.written sink.old) (P.state keeper.old) steps.old)
+        (outside (S.left source.new) (K.written sink.new) (P.state keeper.new) steps.new) }
     ensures write_cut { job_of words.now ≡ Some Run → result ≡ 5 → (P.state keeper.new).tells →
-        ((source.new ≡ source.old)
-        × BeginsDamaged ((P.state keeper.old).finds []) (K.written sink.old) (K.written sink.new)
-        (P.state keeper.new))
-        ⊎ ForRun ((P.state keeper.old).finds []) (S.left source.old) (K.written sink.old) (λ history input before.
-        IsUnwritten history input before (S.left source.new) (K.written sink.new) (P.state keeper.new)) }
+        let before : Outside = outside (S.left source.old) (K.written sink.old) (P.state keeper.old) steps.old in
+        let after : Outside = outside (S.left source.new) (K.written sink.new) (P.state keeper.new) steps.new in
+        ((source.new ≡ source.old) × BeginsDamaged [] before after) ⊎ FromFound [] IsUnwritten before after }
     ensures too_much { result ≡ 8 → (P.state keeper.new).tells →
-        ForRun ((P.state keeper.old).finds []) (S.left source.old) (K.written sink.old) (λ history input before.
-        (taken : ℕ) × (input_limit < taken)
-        × IsCutOff history input before (S.left source.new) (K.written sink.new) (P.state keeper.new) taken) }
+        FromFound [] HasTooMuch
+        (outside (S.left source.old) (K.written sink.old) (P.state keeper.old) steps.old)
+        (outside (S.left source.new) (K.written sink.new) (P.state keeper.new) steps.new) }
+
+    // Of an input that is told, a run takes all where it ends with 0, and more than are read just where it ends with 8,
+    // whatever the keeper.
+    ensures taken { job_of words.now ≡ Some Run → (input : List ℕ) → S.left source.old ≡ Some input →
+        HasTaken result input (S.left source.new) }
 
     // A check reads nothing and keeps what it finds.
     ensures counted { job_of words.now ≡ Some Check → result ≡ 0 → (P.state keeper.new).tells →
-        Counts ((P.state keeper.old).finds []) (P.state keeper.new) steps.old steps.new
-        (λ count. Appends (K.written sink.old) (K.written sink.new) (entries_line count)) }
+        FromFound [] IsCounted
+        (outside (S.left source.old) (K.written sink.old) (P.state keeper.old) steps.old)
+        (outside (S.left source.new) (K.written sink.new) (P.state keeper.new) steps.new) }
     ensures count_cut { job_of words.now ≡ Some Check → result ≡ 5 → (P.state keeper.new).tells →
-        BeginsDamaged ((P.state keeper.old).finds []) (K.written sink.old) (K.written sink.new) (P.state keeper.new)
-        ⊎ Counts ((P.state keeper.old).finds []) (P.state keeper.new) steps.old steps.new
-        (λ count. AppendsFront (K.written sink.old) (K.written sink.new) (entries_line count)) }
+        let before : Outside = outside (S.left source.old) (K.written sink.old) (P.state keeper.old) steps.old in
+        let after : Outside = outside (S.left source.new) (K.written sink.new) (P.state keeper.new) steps.new in
+        BeginsDamaged [] before after ⊎ FromFound [] BeginsCount before after }
     ensures uncounted { job_of words.now ≡ Some Check → result ≡ 3 → (P.state keeper.new).tells →
         sink.new ≡ sink.old }
-    ensures same { job_of words.now ≡ Some Check → (P.state keeper.new).tells →
-        IsIdle ((P.state keeper.old).finds []) (P.state keeper.new) }
+    ensures uncut { job_of words.now ≡ Some Check → (result ≢ 4) × (result ≢ 8) }
     ensures unread { job_of words.now ≡ Some Check → source.new ≡ source.old }
+    ensures same { job_of words.now ≡ Some Check → (P.state keeper.new).tells → IsIdle []
+        (outside (S.left source.old) (K.written sink.old) (P.state keeper.old) steps.old)
+        (outside (S.left source.new) (K.written sink.new) (P.state keeper.new) steps.new) }
 
-    // Either finds damage, or no memory, before it reads.
-    ensures damaged { result ≡ 6 → (source.new ≡ source.old) × ((P.state keeper.new).tells →
-        SaysDamaged ((P.state keeper.old).finds []) (K.written sink.old) (K.written sink.new) (P.state keeper.new)) }
-    ensures nothing { result ≡ 7 → (source.new ≡ source.old) × (sink.new ≡ sink.old)
-        × ((P.state keeper.new).tells → IsIdle ((P.state keeper.old).finds []) (P.state keeper.new)) }
+    // Either finds damage, where the keeper tells, or no memory, before it reads.
+    ensures damaged { result ≡ 6 → (P.state keeper.new).tells → (source.new ≡ source.old) × SaysDamaged []
+        (outside (S.left source.old) (K.written sink.old) (P.state keeper.old) steps.old)
+        (outside (S.left source.new) (K.written sink.new) (P.state keeper.new) steps.new) }
+    ensures nothing { result ≡ 7 → (source.new ≡ source.old) × (sink.new ≡ sink.old) × ((P.state keeper.new).tells →
+        IsIdle []
+        (outside (S.left source.old) (K.written sink.old) (P.state keeper.old) steps.old)
+        (outside (S.left source.new) (K.written sink.new) (P.state keeper.new) steps.new)) }
 
     // A fault comes where its object's count rose, and only there.
     ensures keeper_fault { result ≡ 3 → HasRisen (P.state keeper.old).faults (P.state keeper.new).faults
@@ -185,8 +207,8 @@ pub fn hippo_top<S: Source, K: Sink, P: Keeper, L: Ledger>(
     ensures unfailed_write { result ≢ 5 → K.faults sink.new ≡ K.faults sink.old }
 {
     match job_of(words) {
-        Some(Job::Run) => run(alloc, source, sink, keeper, steps).status(),
-        Some(Job::Check) => check(alloc, sink, keeper, steps).status(),
+        Some(Job::Run) => run(alloc, "", source, sink, keeper, steps).status(),
+        Some(Job::Check) => check(alloc, "", sink, keeper, steps).status(),
         None => refuse(sink).status(),
     }
 }

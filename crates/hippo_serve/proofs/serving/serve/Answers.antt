@@ -5,16 +5,21 @@ use Rattle.hippo_report.specs.declared.format.Format.TheVariants.{Text}
 use Rattle.hippo_replay.specs.declared.state.State.{State}
 use Rattle.hippo_replay.specs.Standing.{StandsFor}
 use Rattle.hippo_world.specs.Worlds.{opening}
-use Rattle.hippo_engine.specs.Carrying.{AtWork}
 use Rattle.hippo_serve.specs.Runs.{entry_limit}
+use Rattle.hippo_serve.proofs.TurnLemmas.{AtWork-begun}
 use Rattle.hippo_serve.proofs.serving.serve.Goals as goal
 
 pub returns-in-Ok-open-clause-ends : goal.returns-in-Ok-open-clause-ends
-returns-in-Ok-open-clause-ends g c = λ some tells history stands keeps.
+returns-in-Ok-open-clause-ends g c = λ some tells history stands keeps start counted.
     c.serve_lines-ending.ensures.ends tells history
-    (subst (λ (state : State). StandsFor state history) (sym c.in-Ok-open.ensures.state) stands)
-    (c.in-Ok-open.ensures.world ∙ ap (λ (moment : Moment). opening moment entry_limit Text) stands.last) keeps
+    (record {
+      forms = keeps.kept.forms;
+      stands = subst (λ (state : State). StandsFor state history) (sym c.in-Ok-open.ensures.state) stands;
+      jobs = tt;
+      watches = tt;
+    })
+    (c.in-Ok-open.ensures.world ∙ ap (λ (moment : Moment). opening moment entry_limit Text) stands.last) keeps start counted
 
 pub serve_lines-ending-requires-clause-at_work : goal.serve_lines-ending-requires-clause-at_work
 serve_lines-ending-requires-clause-at_work g c =
-    subst (λ (state : State). AtWork state (g.P.Keeper.state c.args.keeper.now)) (sym c.in-Ok-open.ensures.state) c.requires.at_work
+    AtWork-begun c.args.state c.in-Ok-open.engine (g.P.Keeper.state c.args.keeper.now) c.in-Ok-open.ensures.state c.requires.backed

@@ -1,6 +1,6 @@
 use Rattle.std.proofs.Common.{rules}
 use Rattle.hippo_replay.proofs.KeeperLemmas.{IsAfterCall-none}
-use Rattle.hippo_serve.proofs.RunLemmas.{served_none}
+use Rattle.hippo_serve.proofs.RunLemmas.{reading_none, served_none}
 use Rattle.hippo_serve.proofs.serving.serve_lines.Goals as goal
 
 pub loop-ending-init : goal.loop-ending-init
@@ -11,7 +11,8 @@ loop-ending-init g c = record {
   sink_faults = search rules;
   call = IsAfterCall-none (g.P.Keeper.state c.args.keeper.now) c.requires.at_work.ready;
   at_work = c.requires.at_work;
-  served = λ history stands world keeps input before left written.
-      served_none history input before c.args.reader.now (g.S.Source.left c.args.source.now) c.args.engine.now (g.P.Keeper.state c.args.keeper.now) (g.K.Sink.written c.args.sink.now)
-      (rw left (c.requires.handed input)) stands world (λ tells. keeps) written;
+  reading = λ input is. reading_none input c.args.reader.now (g.S.Source.left c.args.source.now) is (c.requires.handed input);
+  served = λ tells history holds world keeps start counted.
+      served_none history c.args.reader.now (g.S.Source.left c.args.source.now) (g.K.Sink.written c.args.sink.now) c.args.engine.now (g.P.Keeper.state c.args.keeper.now) start c.args.steps.now
+      c.requires.handed holds world keeps counted;
 }
