@@ -1,5 +1,5 @@
 -- What the checks let a question ask may follow.
-use Rattle.std.proofs.Common.{◌≡◌, ℕ, ◌+◌, ◌-◌, ◌<◌, ◌≤◌, Bool, true, false, ◌&&◌, List, [], ◌∷◌, length, Option, Some, None, refl, sym, ap, subst, ◌∙◌, arith}
+use Rattle.std.proofs.Common.{◌≡◌, ℕ, true, List, length, ap, ◌∙◌, arith}
 use Rattle.std.specs.Prelude.{is_some, slice_range, IsUtf8}
 use Rattle.std.proofs.lemmas.Bool.{and_from, le-leb}
 use Rattle.std.proofs.lemmas.Str.{IsUtf8-between, is_utf8-from_IsUtf8}
@@ -8,15 +8,13 @@ use Rattle.hippo_values.specs.Texts.{Txt}
 use Rattle.hippo_values.specs.declared.names.Name.{Name}
 use Rattle.hippo_model.specs.declared.entry.Act.TheVariants.{Asked}
 use Rattle.hippo_model.specs.declared.name_fault.NameFault.{NameFault}
-use Rattle.hippo_model.specs.declared.policy.Authorization.{Authorization}
-use Rattle.hippo_model.specs.declared.query.Query.{Query}
 use Rattle.hippo_model.specs.declared.statement.RawSelect.{RawSelect}
 use Rattle.hippo_model.specs.Keepable.{question_is_keepable}
 use Rattle.hippo_model.specs.Terms.{History}
 use Rattle.hippo_model.specs.Validity.{is_authorized}
 use Rattle.hippo_catalog.specs.Catalogs.{known_at}
 use Rattle.hippo_catalog.specs.Selects.{query_of}
-use Rattle.hippo_typing.specs.Meanings.{unrefused, query_in, meaning_in, meaning}
+use Rattle.hippo_typing.specs.Meanings.{unrefused, meaning}
 use Rattle.hippo_following.specs.QuestionLaws.{MayBeAsked, QuestionsMayFollow}
 use Rattle.hippo_following.proofs.FitActs.{IsFit, fit_follows}
 

@@ -1,5 +1,5 @@
 -- The statement that a line commands: where it stands, and how it reads.
-use Rattle.std.proofs.Common.{◌≡◌, ℕ, ◌+◌, ◌-◌, ◌<◌, Bool, true, false, List, [], ◌∷◌, length, get_or, Option, Some, None, Result, Ok, Err, option_map, if◌then◌else◌, codes, bytes_eq, refl, sym, ap, subst, ◌∙◌, arith}
+use Rattle.std.proofs.Common.{◌≡◌, ℕ, ◌+◌, ◌<◌, Bool, true, false, List, [], ◌∷◌, length, get_or, Option, Some, None, Result, Ok, Err, option_map, if◌then◌else◌, codes, bytes_eq, refl, ap, subst, ◌∙◌, arith}
 use Rattle.std.specs.Prelude.{IsUtf8, nat_lt, ok_or}
 use Rattle.std.specs.Bool.{then_some}
 use Rattle.std.specs.List.{position_or_len, before_first, after_first}
@@ -24,10 +24,10 @@ use Rattle.hippo_model.specs.declared.statement.Stmt.{Stmt}
 use Rattle.hippo_report.specs.declared.refusal.Refusal.{Refusal}
 use Rattle.hippo_report.specs.declared.refusal.Refusal.TheVariants.{BadSyntax}
 use Rattle.hippo_stmt_reader.specs.StatementFinder.{statement_of}
-use Rattle.hippo_commands.specs.Commands.{state, wrong, statement_by, statement_among, statement_in, state_command, clock_command, command_by, command_of}
+use Rattle.hippo_commands.specs.Commands.{state, wrong, statement_by, statement_among, statement_in, state_command, clock_command, command_by}
 use Rattle.hippo_commands.specs.Moments.{moment_in}
 use Rattle.hippo_reading_laws.proofs.QuestionTheorem.{found_read_by_themselves}
-use Rattle.hippo_following.specs.CommandLaws.{IsOfLine, CommandsAreWritten}
+use Rattle.hippo_following.specs.CommandLaws.{CommandsAreWritten}
 use Rattle.hippo_following.proofs.TokenTheorem.{tokens_are_typed}
 use Rattle.hippo_following.proofs.WrittenTheorem.{statements_are_written}
 

@@ -1,25 +1,22 @@
 -- What the checks say of a table that is created.
-use Rattle.std.proofs.Common.{◌≡◌, ℕ, zero, suc, ◌+◌, ◌<◌, ◌≤◌, Bool, true, false, ◌&&◌, List, [], ◌∷◌, ◌++◌, map, length, Option, Some, None, refl, sym, ap, subst, ◌∙◌, arith}
-use Rattle.std.specs.Prelude.{is_none, is_some, not, ◌||◌, nat_lt, nat_le, nat_eq, count_by, filter_map, flat_map, slice_get, option_map, option_and_then, option_to_list, bytes_eq}
+use Rattle.std.proofs.Common.{◌≡◌, ℕ, ◌<◌, ◌≤◌, Bool, true, false, ◌&&◌, List, [], ◌∷◌, ◌++◌, map, length, Option, Some, None, refl, sym, ap, subst, ◌∙◌, arith}
+use Rattle.std.specs.Prelude.{is_none, is_some, not, ◌||◌, nat_lt, nat_le, nat_eq, slice_get, option_map, option_and_then, option_to_list, bytes_eq}
 use Rattle.std.specs.Cmp.Lexicographic.{nat_list_eq_equiv}
 use Rattle.std.specs.List.{list_any, list_all, cons_option}
 use Rattle.std.specs.Option.{option_map_or}
-use Rattle.std.proofs.lemmas.Bool.{and_parts, and_from, or_left, or_right, ltb-true, lt-ltb, leb-true, leb-false, le-leb, ltb-false}
+use Rattle.std.proofs.lemmas.Bool.{and_parts, and_from, or_left, or_right, lt-ltb, leb-true, leb-false, le-leb, ltb-false}
 use Rattle.std.proofs.lemmas.List.{length-map}
 use Rattle.std.proofs.lemmas.List.Concat.{flat_map-append}
 use Rattle.std.proofs.lemmas.Option.{slice_get-map}
 use Rattle.hippo_values.specs.Limits.{table_limit, column_limit}
 use Rattle.hippo_values.specs.declared.names.Name.{Name}
-use Rattle.hippo_model.specs.declared.entry.Entry.{Entry}
 use Rattle.hippo_model.specs.declared.name_fault.NameFault.{NameFault}
 use Rattle.hippo_model.specs.declared.name_fault.NameFault.TheVariants.{UnknownColumn, TypeMismatch, TooManyParts, AlreadyThere}
 use Rattle.hippo_model.specs.declared.schema.Column.{Column}
-use Rattle.hippo_model.specs.declared.schema.ColumnKind.{ColumnKind}
 use Rattle.hippo_model.specs.declared.schema.Schema.{Schema}
-use Rattle.hippo_model.specs.Histories.{schema_at}
-use Rattle.hippo_model.specs.Keepable.{is_folded_name, is_short, is_place, columns_are_keepable, key_is_keepable, subject_is_keepable, schema_is_keepable}
+use Rattle.hippo_model.specs.Keepable.{is_folded_name, columns_are_keepable, key_is_keepable, subject_is_keepable, schema_is_keepable}
 use Rattle.hippo_model.specs.Terms.{History, Place}
-use Rattle.hippo_model.specs.Validity.{all_differ, is_integer, column_passes, key_column_fits, subject_column_fits, is_well_formed, create_fits, creates_table}
+use Rattle.hippo_model.specs.Validity.{all_differ, is_integer, column_passes, key_column_fits, subject_column_fits, is_well_formed, create_fits}
 use Rattle.hippo_catalog.specs.Catalogs.{known_at, table_of}
 use Rattle.hippo_catalog.specs.ChangesRefused.{places_of, column_named, draft_of, unknown_columns, in_column, subject_refused, sizes_refused, taken, create_refused}
 use Rattle.hippo_catalog.specs.ChangesWanted.{with_not_null, table_made}
@@ -28,7 +25,7 @@ use Rattle.hippo_catalog.specs.StatementLimits.{too_many}
 use Rattle.hippo_catalog.specs.WrittenColumns.{place_of}
 use Rattle.hippo_typing.specs.ResolutionLaws.{NamesAreThoseOf}
 use Rattle.hippo_following.specs.Written.{has_members, columns_written}
-use Rattle.hippo_following.proofs.PlaceLemmas.{IsColumnAt, found_at, IsParted, parted, length-places, places_within, names_differ, places_differ, no_more_than, below_more}
+use Rattle.hippo_following.proofs.PlaceLemmas.{found_at, parted, length-places, places_within, names_differ, places_differ, no_more_than, below_more}
 use Rattle.hippo_following.proofs.RefusalLemmas.{none_of_both, not_refused, absent}
 
 module _ (table : Name) (columns : List Column) (key : List Name) (subject : Option Name) where

@@ -1,5 +1,5 @@
 -- Acts that can be kept and are acceptable make entries that may follow.
-use Rattle.std.proofs.Common.{◌≡◌, ◌+◌, Bool, true, ◌&&◌, Option, Some, Result, Ok, refl, sym, ap, ◌∙◌, length}
+use Rattle.std.proofs.Common.{◌≡◌, ◌+◌, true, Ok, refl, ap, ◌∙◌, length}
 use Rattle.std.proofs.lemmas.Bool.{and_from, eq-eqb}
 use Rattle.hippo_values.specs.declared.moments.Moment.{Moment}
 use Rattle.hippo_model.specs.declared.entry.Act.{Act}

@@ -1,10 +1,9 @@
 -- What may follow, at small histories.
-use Rattle.std.proofs.Common.{◌≡◌, List, [], ◌∷◌, codes, Option, Some, None, true, false, refl, pos}
+use Rattle.std.proofs.Common.{◌≡◌, [], ◌∷◌, codes, Some, None, true, false, refl, pos}
 use Rattle.std.specs.Prelude.{⊤}
 use Rattle.hippo_values.specs.Names.{keywords, unsupported_words}
 use Rattle.hippo_values.specs.declared.names.Name.{Name}
 use Rattle.hippo_model.specs.declared.entry.Act.TheVariants as acts
-use Rattle.hippo_model.specs.declared.schema.Column.{Column}
 use Rattle.hippo_model.specs.declared.schema.ColumnKind.TheVariants.{Integer, Text}
 use Rattle.hippo_model.specs.declared.schema.Schema.{Schema}
 use Rattle.hippo_model.specs.declared.statement.Stmt.{Stmt}

@@ -1,36 +1,31 @@
 -- What the checks let pass may follow.
-use Rattle.std.proofs.Common.{◌≡◌, ℕ, ◌+◌, ◌<◌, ◌≤◌, Bool, true, false, ◌&&◌, List, [], ◌∷◌, ◌++◌, map, length, Option, Some, None, Result, Ok, Err, refl, sym, ap, subst, ◌∙◌, arith}
-use Rattle.std.specs.Prelude.{is_none, is_some, not, nat_lt, nat_le, nat_eq, option_map, option_and_then, unwrap_or, bytes_eq}
+use Rattle.std.proofs.Common.{◌≡◌, ℕ, true, ◌&&◌, List, [], ◌++◌, length, Option, Some, None, Ok, Err, refl, sym, ap, subst, ◌∙◌, arith}
+use Rattle.std.specs.Prelude.{is_none, is_some, not, option_map, option_and_then, unwrap_or, bytes_eq}
 use Rattle.std.specs.Cmp.Lexicographic.{nat_list_eq_equiv}
 use Rattle.std.specs.List.{list_all, zip}
 use Rattle.std.specs.Option.{option_map_or}
-use Rattle.std.proofs.lemmas.Bool.{and_parts, and_from, eq-eqb, lt-ltb, leb-true}
+use Rattle.std.proofs.lemmas.Bool.{and_parts, and_from, lt-ltb}
 use Rattle.std.proofs.lemmas.List.{length-map}
 use Rattle.std.proofs.lemmas.List.Concat.{flat_map-append}
-use Rattle.hippo_values.specs.Moments.{is_signed_number}
-use Rattle.hippo_values.specs.declared.moments.Moment.{Moment}
 use Rattle.hippo_values.specs.declared.names.Name.{Name}
-use Rattle.hippo_values.specs.declared.values.Value.{Value}
 use Rattle.hippo_model.specs.declared.entry.Act.{Act}
 use Rattle.hippo_model.specs.declared.entry.Act.TheVariants as acts
 use Rattle.hippo_model.specs.declared.name_fault.NameFault.TheVariants.{UnknownColumn}
-use Rattle.hippo_model.specs.declared.schema.Column.{Column}
 use Rattle.hippo_model.specs.declared.schema.Schema.{Schema}
 use Rattle.hippo_model.specs.declared.statement.Stmt.{Stmt}
 use Rattle.hippo_model.specs.declared.statement.Stmt.TheVariants.{CreateTable, CreatePurpose, CreateRecipient, CreateItem, Authorize, Deauthorize, Allow, Revoke, Choice, Insert, Update, Delete}
 use Rattle.hippo_model.specs.declared.statement.Wanted.{Wanted}
 use Rattle.hippo_model.specs.declared.statement.Wanted.TheVariants.{Ready, Add, Set, Remove}
-use Rattle.hippo_model.specs.declared.table_fault.TableFault.{TableFault}
 use Rattle.hippo_model.specs.declared.table_fault.TableFault.TheVariants.{KeyThere, KeyMissing}
 use Rattle.hippo_model.specs.Histories.{schema_at}
-use Rattle.hippo_model.specs.Keepable.{is_folded_name, is_short, item_is_keepable, act_is_keepable, columns_are_keepable, key_is_keepable, subject_is_keepable, is_place, has_count, value_is_keepable, schema_is_keepable}
+use Rattle.hippo_model.specs.Keepable.{is_folded_name, item_is_keepable, has_count, value_is_keepable, schema_is_keepable}
 use Rattle.hippo_model.specs.Rows.{key_of, row_at, last_at}
-use Rattle.hippo_model.specs.Terms.{History, Meaning, Row, Key, Place}
-use Rattle.hippo_model.specs.Validity.{is_acceptable, is_valid, may_follow, days_fit, has_columns, column_passes, key_column_fits, subject_column_fits, is_well_formed, all_differ}
-use Rattle.hippo_model.specs.Versions.{is_live, key_fits, version_fits, row_fits}
+use Rattle.hippo_model.specs.Terms.{History, Meaning, Row, Key}
+use Rattle.hippo_model.specs.Validity.{is_valid, days_fit, has_columns, column_passes, key_column_fits, subject_column_fits, is_well_formed}
+use Rattle.hippo_model.specs.Versions.{is_live, key_fits, version_fits}
 use Rattle.hippo_model.proofs.RowsAfter.{key_of-row_at}
 use Rattle.hippo_catalog.specs.Catalogs.{known_at, table_of}
-use Rattle.hippo_catalog.specs.ChangesRefused.{places_of, unknown_columns, in_table, unknown_item_if_any, rule_refused, item_refused, insert_refused, update_refused, delete_refused, key_refused, key_changed, assignments_refused, change_refused}
+use Rattle.hippo_catalog.specs.ChangesRefused.{places_of, unknown_columns, in_table, unknown_item_if_any, rule_refused, item_refused, insert_refused, update_refused, key_refused, key_changed, assignments_refused, change_refused}
 use Rattle.hippo_catalog.specs.ChangesWanted.{key_written, table_made, wanted_by}
 use Rattle.hippo_catalog.specs.WrittenColumns.{place_of}
 use Rattle.hippo_catalog.specs.Refusals.{refused, unknown_table, unknown_pair, repeated_names}
@@ -42,9 +37,9 @@ use Rattle.hippo_following.specs.FollowingLaws.{ChangesMayFollow}
 use Rattle.hippo_following.specs.Written.{is_typed, has_members, names_fit, is_written}
 use Rattle.hippo_following.proofs.CreateAct.{created_fits, created_kept}
 use Rattle.hippo_following.proofs.FitActs.{IsFit, at_once, fit_follows}
-use Rattle.hippo_following.proofs.HistoryLemmas.{schema_kept, IsKept, rows_fit}
+use Rattle.hippo_following.proofs.HistoryLemmas.{schema_kept, rows_fit}
 use Rattle.hippo_following.proofs.NameActs.{new_purpose, new_recipient, new_item, known_item, known_pair}
-use Rattle.hippo_following.proofs.RefusalLemmas.{none_of_both, IsFrom, mapped, refused_there}
+use Rattle.hippo_following.proofs.RefusalLemmas.{none_of_both, mapped, refused_there}
 use Rattle.hippo_following.proofs.RowActs.{row_kept, row_typed, inserted_fits, written_typed, first_unrefused, written_fits, key_stays, key_of-fits, key_of-kept}
 use Rattle.hippo_following.proofs.RuleActs.{few_columns, few_key, columns_there, columns_kept, days_kept, table_so, item_there}
 

@@ -1,5 +1,5 @@
 -- What a valid history says of its schemas and rows: who said it, and what was tested when it was said.
-use Rattle.std.proofs.Common.{◌≡◌, Bool, true, false, ◌&&◌, List, [], ◌∷◌, ◌++◌, Option, Some, None, refl, sym, ap, subst, ◌∙◌, append_assoc, length, ◌+◌}
+use Rattle.std.proofs.Common.{◌≡◌, Bool, true, false, ◌&&◌, [], ◌∷◌, ◌++◌, Option, Some, None, refl, sym, ap, subst, ◌∙◌, append_assoc, length, ◌+◌}
 use Rattle.std.specs.Prelude.{option_and_then, bytes_eq, not, ◌==◌, nat_lt}
 use Rattle.std.specs.Bool.{then_some}
 use Rattle.std.specs.Option.{option_or, option_map_or}
@@ -8,13 +8,13 @@ use Rattle.std.proofs.lemmas.Slice.Eq.{bytes_eq-Decides}
 use Rattle.hippo_values.specs.declared.names.Name.{Name}
 use Rattle.hippo_values.specs.Moments.{is_moment}
 use Rattle.hippo_model.specs.declared.entry.Act.{Act}
-use Rattle.hippo_model.specs.declared.entry.Act.TheVariants.{Create, Insert, Update, Delete}
+use Rattle.hippo_model.specs.declared.entry.Act.TheVariants.{Create, Insert, Update}
 use Rattle.hippo_model.specs.declared.entry.Entry.{Entry}
 use Rattle.hippo_model.specs.declared.schema.Schema.{Schema}
 use Rattle.hippo_model.specs.Terms.{History, Meaning, Row, Key}
 use Rattle.hippo_model.specs.Histories.{last_word, created, schema_at}
 use Rattle.hippo_model.specs.Keepable.{is_keepable, act_is_keepable, cells_are_keepable, schema_is_keepable, is_folded_name}
-use Rattle.hippo_model.specs.Rows.{key_of, key_named, names_key, row_left, row_at}
+use Rattle.hippo_model.specs.Rows.{key_of, names_key, row_left, row_at}
 use Rattle.hippo_model.specs.Validity.{is_acceptable, is_valid, is_well_formed, keeps_order, may_follow}
 use Rattle.hippo_model.specs.Versions.{row_fits, is_live, version_fits}
 use Rattle.hippo_values.specs.Order.{same_cells}
@@ -146,7 +146,7 @@ rows_fit meaning history table schema key row valid found live =
     let parts = word_parts (names_key schema key said.entry.act) (row_left said.entry.act) row said.says in
     let here : schema.name ≡ table = same_name schema.name table (schema_at-named history table schema found) in
     let last : (other : Name) (made : Schema) → bytes_eq other schema.name ≡ true → schema_at said.front other ≡ Some made → made ≡ schema = λ other made named is.
-        let there : schema_at history other ≡ Some made = ap (λ (h : History). schema_at h other) said.parts ∙ schemas_last meaning said.front (said.entry ∷ said.later) other made whole is in
-        let same : other ≡ table = same_name other schema.name named ∙ here in
-        let again : Some made ≡ Some schema = sym there ∙ ap (schema_at history) same ∙ found in cc in
+    let there : schema_at history other ≡ Some made = ap (λ (h : History). schema_at h other) said.parts ∙ schemas_last meaning said.front (said.entry ∷ said.later) other made whole is in
+    let same : other ≡ table = same_name other schema.name named ∙ here in
+    let again : Some made ≡ Some schema = sym there ∙ ap (schema_at history) same ∙ found in cc in
     left_fits meaning said.front schema key row last said.entry.act parts.1 parts.0 (keepable meaning said.front said.entry may) (acceptable meaning said.front said.entry may)

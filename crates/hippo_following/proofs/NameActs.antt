@@ -1,20 +1,15 @@
 -- What the checks say of the names of a statement that changes something.
-use Rattle.std.proofs.Common.{◌≡◌, Bool, true, false, ◌&&◌, List, [], ◌++◌, Option, Some, None, Result, Ok, Err, refl, sym, ap, subst, ◌∙◌}
-use Rattle.std.specs.Prelude.{is_none, is_some, not, option_to_list, flat_map}
-use Rattle.std.proofs.lemmas.Bool.{and_parts, and_from, not_from_false}
+use Rattle.std.proofs.Common.{◌≡◌, true, [], sym, ap, ◌∙◌}
+use Rattle.std.specs.Prelude.{is_none, is_some, not}
+use Rattle.std.proofs.lemmas.Bool.{and_from, not_from_false}
 use Rattle.hippo_values.specs.declared.names.Name.{Name}
-use Rattle.hippo_model.specs.declared.entry.Act.{Act}
 use Rattle.hippo_model.specs.declared.name_fault.NameFault.TheVariants.{UnknownPurpose, UnknownRecipient, UnknownItem, AlreadyThere}
-use Rattle.hippo_model.specs.declared.statement.Wanted.{Wanted}
-use Rattle.hippo_model.specs.declared.statement.Wanted.TheVariants.{Ready}
 use Rattle.hippo_model.specs.Histories.{item_at}
-use Rattle.hippo_model.specs.Keepable.{act_is_keepable}
-use Rattle.hippo_model.specs.Terms.{History, Meaning}
-use Rattle.hippo_model.specs.Validity.{is_acceptable, is_purpose, is_recipient, pair_exists}
+use Rattle.hippo_model.specs.Terms.{History}
+use Rattle.hippo_model.specs.Validity.{is_purpose, is_recipient, pair_exists}
 use Rattle.hippo_catalog.specs.Catalogs.{known_at, has_purpose, has_recipient, item_of}
 use Rattle.hippo_catalog.specs.ChangesRefused.{taken}
-use Rattle.hippo_catalog.specs.Refusals.{refused, unknown_purpose, unknown_recipient, unknown_pair, unknown_item}
-use Rattle.hippo_tables.specs.Finished.{finished}
+use Rattle.hippo_catalog.specs.Refusals.{unknown_purpose, unknown_recipient, unknown_pair, unknown_item}
 use Rattle.hippo_typing.specs.ResolutionLaws.{NamesAreThoseOf}
 use Rattle.hippo_following.proofs.RefusalLemmas.{none_of_both, not_refused, passed, there, absent}
 

@@ -1,16 +1,14 @@
 -- What the checks say of a row that is inserted, updated or deleted.
-use Rattle.std.proofs.Common.{◌≡◌, ℕ, zero, suc, ◌+◌, ◌<◌, ◌≤◌, Bool, true, false, ◌&&◌, List, [], ◌∷◌, ◌++◌, map, length, get_or, Option, Some, None, refl, sym, ap, subst, ◌∙◌, arith}
-use Rattle.std.specs.Prelude.{is_none, is_some, not, ◌||◌, ◌==◌, nat_lt, nat_le, nat_eq, filter_map, flat_map, slice_get, slice_set, option_map, option_and_then, bytes_eq}
+use Rattle.std.proofs.Common.{◌≡◌, zero, suc, ◌≤◌, true, false, List, [], ◌∷◌, ◌++◌, length, Option, Some, None, refl, sym, ap, subst, ◌∙◌, arith}
+use Rattle.std.specs.Prelude.{◌==◌, nat_le, nat_eq, filter_map, slice_get, slice_set, option_and_then}
 use Rattle.std.specs.Cmp.Lexicographic.{pointwise}
 use Rattle.std.specs.List.{list_any, list_all, zip, cons_option}
 use Rattle.std.specs.Option.{option_map_or}
 use Rattle.std.specs.Str.{is_utf8}
-use Rattle.std.proofs.lemmas.Bool.{and_parts, and_from, or_parts, ltb-true, lt-ltb, leb-true, le-leb, eqb-true, eqb-false, not_from_false, false≢true}
-use Rattle.std.proofs.lemmas.List.{get_or-set_other, length-map}
+use Rattle.std.proofs.lemmas.Bool.{and_parts, and_from, or_parts, lt-ltb, eqb-true, eqb-false, not_from_false}
+use Rattle.std.proofs.lemmas.List.{get_or-set_other}
 use Rattle.std.proofs.lemmas.List.Concat.{flat_map-append}
-use Rattle.std.proofs.lemmas.Option.{slice_get_within, get_or_from_slice_get}
 use Rattle.hippo_values.specs.Limits.{text_limit}
-use Rattle.hippo_values.specs.Moments.{is_day, is_signed_number}
 use Rattle.hippo_values.specs.Texts.{is_plain, keeps_text_rule}
 use Rattle.hippo_values.specs.declared.names.Name.{Name}
 use Rattle.hippo_values.specs.declared.values.Value.{Value}
@@ -18,17 +16,14 @@ use Rattle.hippo_values.specs.declared.values.Value.TheVariants.{Null, Int, Text
 use Rattle.hippo_model.specs.declared.name_fault.NameFault.{NameFault}
 use Rattle.hippo_model.specs.declared.name_fault.NameFault.TheVariants.{TypeMismatch, NullNotAllowed, BadText, WrongCount, KeyChanged}
 use Rattle.hippo_model.specs.declared.schema.Column.{Column}
-use Rattle.hippo_model.specs.declared.schema.ColumnKind.{ColumnKind}
 use Rattle.hippo_model.specs.declared.schema.Schema.{Schema}
-use Rattle.hippo_model.specs.Conditions.{is_null}
-use Rattle.hippo_model.specs.Keepable.{is_text, has_count, value_is_keepable, cells_are_keepable}
+use Rattle.hippo_model.specs.Keepable.{value_is_keepable, cells_are_keepable}
 use Rattle.hippo_model.specs.Rows.{cell_at, key_of}
-use Rattle.hippo_model.specs.Terms.{Row, Key, Place}
+use Rattle.hippo_model.specs.Terms.{Row, Place}
 use Rattle.hippo_model.specs.Validity.{column_passes, key_column_fits}
 use Rattle.hippo_model.specs.Values.{has_kind, fits}
-use Rattle.hippo_model.specs.Versions.{row_fits, key_fits}
+use Rattle.hippo_model.specs.Versions.{row_fits}
 use Rattle.hippo_catalog.specs.ChangesRefused.{places_of, unknown_columns, in_column, column_named, kind_refused, null_refused, text_refused, row_refused, assigned_refused, assignments_refused, count_refused, insert_refused, key_changed, is_of_key}
-use Rattle.hippo_catalog.specs.Kinds.{may_have_kind, is_bad_text}
 use Rattle.hippo_catalog.specs.Refusals.{refused}
 use Rattle.hippo_catalog.specs.WrittenColumns.{place_of}
 use Rattle.hippo_tables.specs.Finished.{written}

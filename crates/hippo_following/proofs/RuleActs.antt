@@ -1,27 +1,26 @@
 -- What the checks say of a rule.
-use Rattle.std.proofs.Common.{◌≡◌, ℕ, ◌+◌, ◌<◌, ◌≤◌, Bool, true, false, ◌&&◌, List, [], ◌∷◌, ◌++◌, length, Option, Some, None, refl, sym, ap, subst, ◌∙◌, arith}
-use Rattle.std.specs.Prelude.{is_none, is_some, not, nat_lt, nat_le, nat_eq, flat_map, option_to_list}
+use Rattle.std.proofs.Common.{◌≡◌, ℕ, ◌≤◌, Bool, true, false, ◌&&◌, List, [], length, Option, Some, None, refl, ap, ◌∙◌, arith}
+use Rattle.std.specs.Prelude.{not, nat_le, nat_eq}
 use Rattle.std.specs.List.{list_all}
 use Rattle.std.specs.Option.{option_map_or}
-use Rattle.std.proofs.lemmas.Bool.{and_parts, and_from, ltb-true, lt-ltb, leb-true, le-leb}
+use Rattle.std.proofs.lemmas.Bool.{and_parts, and_from, lt-ltb, leb-true}
 use Rattle.hippo_values.specs.declared.names.Name.{Name}
 use Rattle.hippo_values.specs.Limits.{retention_limit, column_limit}
 use Rattle.hippo_model.specs.declared.name_fault.NameFault.TheVariants.{NoSubject}
 use Rattle.hippo_model.specs.declared.schema.Column.{Column}
 use Rattle.hippo_model.specs.declared.schema.Schema.{Schema}
-use Rattle.hippo_model.specs.Histories.{schema_at, item_at}
+use Rattle.hippo_model.specs.Histories.{schema_at}
 use Rattle.hippo_model.specs.Keepable.{is_folded_name, is_short, columns_are_keepable, key_is_keepable, subject_is_keepable, schema_is_keepable, is_place, places_are_keepable, days_are_keepable}
-use Rattle.hippo_model.specs.Terms.{History, Meaning, Place}
-use Rattle.hippo_model.specs.Validity.{is_valid, all_differ, has_columns, has_subject, item_fits, table_passes, days_fit}
-use Rattle.hippo_catalog.specs.Catalogs.{known_at, table_of, item_of}
+use Rattle.hippo_model.specs.Terms.{History}
+use Rattle.hippo_model.specs.Validity.{all_differ, has_columns, has_subject, item_fits, table_passes, days_fit}
+use Rattle.hippo_catalog.specs.Catalogs.{known_at}
 use Rattle.hippo_catalog.specs.ChangesRefused.{places_of, unknown_columns, unknown_item_if_any, rule_refused, item_refused}
 use Rattle.hippo_catalog.specs.Refusals.{refused, repeated_names, unknown_item}
 use Rattle.hippo_typing.specs.ResolutionLaws.{NamesAreThoseOf}
 use Rattle.hippo_following.specs.Written.{has_members}
-use Rattle.hippo_following.proofs.HistoryLemmas.{schema_kept}
 use Rattle.hippo_following.proofs.NameActs.{known_item}
 use Rattle.hippo_following.proofs.PlaceLemmas.{length-places, places_within, names_differ, places_differ, no_more_than, below_more}
-use Rattle.hippo_following.proofs.RefusalLemmas.{none_of_both, not_refused}
+use Rattle.hippo_following.proofs.RefusalLemmas.{none_of_both}
 
 -- a table that can be kept has at most 64 columns
 pub few_columns : (schema : Schema) → schema_is_keepable schema ≡ true → length schema.columns ≤ 64

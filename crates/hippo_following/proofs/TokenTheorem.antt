@@ -1,19 +1,19 @@
 -- The tokens of a text are typed: what each says is as its type has it.
-use Rattle.std.proofs.Common.{◌≡◌, ℕ, zero, suc, ◌+◌, ◌-◌, ◌<◌, ◌≤◌, Bool, true, false, ◌&&◌, List, [], ◌∷◌, ◌++◌, length, get_or, take, drop, Result, Ok, Err, IfOk, refl, sym, ap, subst, ◌∙◌, append_assoc, length-append, arith, ℤ, int_le}
-use Rattle.std.specs.Prelude.{IsUtf8, IsCharBoundary, if◌then◌else◌, bytes_eq}
+use Rattle.std.proofs.Common.{◌≡◌, ℕ, zero, suc, ◌+◌, ◌-◌, ◌<◌, ◌≤◌, true, false, List, [], ◌∷◌, ◌++◌, length, get_or, Result, Ok, Err, IfOk, refl, sym, subst, append_assoc, length-append, arith, ℤ}
+use Rattle.std.specs.Prelude.{IsUtf8, IsCharBoundary, if◌then◌else◌}
 use Rattle.std.specs.List.{list_all}
 use Rattle.std.specs.Str.{is_utf8}
 use Rattle.std.proofs.lemmas.Bool.{and_from, eqb-true}
 use Rattle.std.proofs.lemmas.Int.{ints}
 use Rattle.std.proofs.lemmas.List.{take_at, drop_at, get_or_at, get_or_append_left}
 use Rattle.std.proofs.lemmas.Str.{IsUtf8-take, IsUtf8-drop, IsUtf8-append, IsUtf8-from_ascii, is_utf8-from_IsUtf8, IsCharBoundary-before_ascii, IsCharBoundary-after_ascii}
-use Rattle.hippo_values.specs.Moments.{first_day, last_day, is_day, IsDayNumber}
+use Rattle.hippo_values.specs.Moments.{is_day, IsDayNumber}
 use Rattle.hippo_lexer.specs.Grammar.{IsToken, a_keyword, a_refused_word, a_name, a_number, a_quoted_text, a_day, a_sign, IsCut, at_end, at_blank, at_token, at_fault, with_first, IsOutcome, quoted}
-use Rattle.hippo_lexer.specs.Spelling.{is_quote, is_blank, doubled}
+use Rattle.hippo_lexer.specs.Spelling.{is_quote, doubled}
 use Rattle.hippo_lexer.specs.declared.faults.LexFault.{LexFault}
 use Rattle.hippo_lexer.specs.declared.kinds.Token.{Token}
 use Rattle.hippo_lexer.specs.declared.kinds.TokenKind.{TokenKind}
-use Rattle.hippo_lexer.proofs.EdgeLemmas.{BeginsPlain, EndsPlain, token_begins, token_ends}
+use Rattle.hippo_lexer.proofs.EdgeLemmas.{token_ends}
 use Rattle.hippo_lexer.proofs.FrontLemmas.{boundary-ascii, small_blank}
 use Rattle.hippo_lexer.proofs.NumberLemmas.{signed-fits}
 use Rattle.hippo_lexer.proofs.OutcomeLemmas.{outcome-one}

@@ -1,6 +1,5 @@
 -- What the grammar finds over typed tokens is written.
-use Rattle.std.proofs.Common.{◌≡◌, ℕ, ◌+◌, ◌<◌, ◌≤◌, Bool, true, false, ◌&&◌, List, [], ◌∷◌, map, length, Option, Some, None, refl, sym, ap, subst, ◌∙◌, arith}
-use Rattle.std.specs.Prelude.{nat_le}
+use Rattle.std.proofs.Common.{◌≡◌, ℕ, Bool, true, false, ◌&&◌, List, [], ◌∷◌, length, Option, refl, sym, subst, arith}
 use Rattle.std.specs.List.{list_all}
 use Rattle.std.proofs.lemmas.Bool.{and_parts, and_from, le-leb}
 use Rattle.hippo_values.specs.Limits.{retention_limit}
@@ -10,8 +9,7 @@ use Rattle.hippo_values.specs.declared.values.Value.{Value}
 use Rattle.hippo_lexer.specs.declared.kinds.Symbol.TheVariants.{Comma}
 use Rattle.hippo_lexer.specs.declared.kinds.Token.{Token}
 use Rattle.hippo_lexer.specs.declared.kinds.TokenKind.{TokenKind}
-use Rattle.hippo_lexer.specs.declared.kinds.TokenKind.TheVariants.{Symbol, Keyword}
-use Rattle.hippo_values.specs.declared.keywords.Keyword.TheVariants.{KAnd}
+use Rattle.hippo_lexer.specs.declared.kinds.TokenKind.TheVariants.{Symbol}
 use Rattle.hippo_model.specs.declared.schema.Column.{Column}
 use Rattle.hippo_model.specs.declared.statement.Stmt.{Stmt}
 use Rattle.hippo_model.specs.Keepable.{is_folded_name, item_is_keepable}
@@ -22,7 +20,7 @@ use Rattle.hippo_spj_reader.specs.ListGrammar.{IsName, name, IsListOf, last_part
 use Rattle.hippo_stmt_reader.specs.StatementGrammar.{IsColumnDef, nullable, not_null, IsWith, no_item, with_item, IsRetention, no_retention, retain, IsAssignment, assignment, AreNames, values_of, IsConsole, create_table, create_purpose, create_recipient, create_opt_in, create_opt_out, authorize, deauthorize, allow, revoke, choice_yes, choice_no, insert, update, delete, explain, audit, begin_audit, watch, IsStatement, console, open_select, extract_select}
 use Rattle.hippo_stmt_reader.specs.StatementGrammar as statements
 use Rattle.hippo_stmt_reader.proofs.StatementTheorem as statement_theorem
-use Rattle.hippo_following.specs.Written.{is_typed, has_members, kind_is_typed, columns_written, is_written}
+use Rattle.hippo_following.specs.Written.{is_typed, has_members, kind_is_typed, is_written}
 use Rattle.hippo_following.specs.WrittenLaws.{StatementsAreWritten}
 
 abbrev are_typed : Kinds → Bool

@@ -34,4 +34,4 @@ QuestionsMayFollow =
     (history : History) (moment : Moment) (user purpose recipient : Name) (text : Txt) (select : RawSelect)
     (start end : ℕ) → HasRoomAt history moment → MayBeAsked history user purpose recipient text select start end
     → may_follow meaning history
-      (next_entry history moment (Asked user purpose recipient (slice_range text start end))) ≡ true
+    (next_entry history moment (Asked user purpose recipient (slice_range text start end))) ≡ true
