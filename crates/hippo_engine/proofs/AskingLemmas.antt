@@ -6,21 +6,18 @@ use Rattle.hippo_values.specs.declared.names.Name.{Name}
 use Rattle.hippo_model.specs.declared.name_fault.NameFault.{NameFault}
 use Rattle.hippo_model.specs.declared.name_fault.NameFault.TheVariants.{UnknownTable, Memory as NoRoom}
 use Rattle.hippo_model.specs.declared.query.Query.{Query}
-use Rattle.hippo_model.specs.declared.schema.Schema.{Schema}
-use Rattle.hippo_model.specs.declared.statement.RawForm.{RawForm}
-use Rattle.hippo_model.specs.declared.statement.RawForm.TheVariants as forms
 use Rattle.hippo_model.specs.declared.statement.RawSelect.{RawSelect}
 use Rattle.hippo_model.specs.Terms.{History}
 use Rattle.hippo_model.specs.Histories.{schema_at}
 use Rattle.hippo_catalog.specs.Catalogs.{KnownNames, known_at, table_of}
 use Rattle.hippo_catalog.specs.Refusals.{refused, unknown_table, IsFirstOf}
-use Rattle.hippo_catalog.specs.Selects.{form_of, select_refused, query_of}
+use Rattle.hippo_catalog.specs.Selects.{select_refused, query_of}
 use Rattle.hippo_typing.specs.Meanings.{meaning}
 use Rattle.hippo_typing.specs.ResolutionLaws.{NamesAreThoseOf}
 use Rattle.hippo_typing.proofs.CatalogTheorem.{valid_names}
 use Rattle.hippo_report.specs.declared.refusal.Refusal.{Refusal}
-use Rattle.hippo_report.specs.declared.refusal.Refusal.TheVariants.{Memory, Meaningless, NotBuilt}
-use Rattle.hippo_answering.specs.States.{are_created, is_grouped}
+use Rattle.hippo_report.specs.declared.refusal.Refusal.TheVariants.{Memory, Meaningless}
+use Rattle.hippo_answering.specs.States.{are_created}
 use Rattle.hippo_commands.specs.Commands as commands
 use Rattle.hippo_world.specs.Worlds.{World}
 use Rattle.hippo_replay.specs.declared.state.State.{State}
@@ -31,7 +28,7 @@ use Rattle.hippo_engine.specs.Checks.{Checked, Finds, ◌>>=◌, open_session, a
 use Rattle.hippo_engine.specs.declared.asking.Asking.{Asking}
 use Rattle.hippo_engine.specs.declared.asking.Handing.{Handing}
 use Rattle.hippo_engine.specs.declared.asking.Handing.TheVariants.{Rows, Cursor}
-use Rattle.hippo_engine.specs.Judging.{is_plain, text_between, cursor_wanted, deed_for, judged_question, judged}
+use Rattle.hippo_engine.specs.Judging.{text_between, cursor_wanted, deed_for, judged_question, judged}
 use Rattle.hippo_engine.specs.Asking.{statement_asked, cursor_in_room, asking_with, deed_asked, IsAnswerable}
 
 -- where nothing is refused, the form is meant
@@ -49,18 +46,12 @@ meant_not (head ∷ more) form fault refusal first (inl (other, is)) =
     let told : Meaningless head ≡ refusal = ap Meaningless same ∙ sym is in
     inl (λ i. Err (told i))
 
--- a SELECT or an OPEN is judged as a question where it is plain, and else is not built
-pub judged_plain : (handing : Handing) (history : History) (world : World) (session : ℕ) (select : RawSelect) (start end : ℕ) (text : Txt)
-    → is_plain select.form ≡ true
+-- a SELECT or an OPEN is judged as a question
+pub judged_asked : (handing : Handing) (history : History) (world : World) (session : ℕ) (select : RawSelect) (start end : ℕ) (text : Txt)
     → judged history world (commands.state session (statement_asked handing select start end) text)
     ≡ judged_question handing history world session select (text_between text start end)
-judged_plain Rows history world session select start end text plain = rw plain refl
-judged_plain Cursor history world session select start end text plain = rw plain refl
-
-pub judged_unbuilt : (handing : Handing) (history : History) (world : World) (session : ℕ) (select : RawSelect) (start end : ℕ) (text : Txt)
-    → is_plain select.form ≡ false → judged history world (commands.state session (statement_asked handing select start end) text) ≡ Err NotBuilt
-judged_unbuilt Rows history world session select start end text unbuilt = rw unbuilt refl
-judged_unbuilt Cursor history world session select start end text unbuilt = rw unbuilt refl
+judged_asked Rows history world session select start end text = refl
+judged_asked Cursor history world session select start end text = refl
 
 front_none : {A : Type 0} (front rest : List A) → front ++ rest ≡ [] → front ≡ []
 front_none [] rest none = refl
@@ -90,15 +81,10 @@ created history (name ∷ names) known none =
 tables_known : (known : KnownNames) (select : RawSelect) → select_refused known select ≡ [] → flat_map (unknown_table known) select.tables ≡ []
 tables_known known select none = front_none _ _ (front_none _ _ (front_none _ _ (front_none _ _ (front_none _ _ (front_none _ _ none)))))
 
-ungrouped : (schemas : List Schema) (form : RawForm) → is_plain form ≡ true → is_grouped (form_of schemas form) ≡ false
-ungrouped schemas forms.Plain plain = refl
-ungrouped schemas forms.Distinct plain = refl
-ungrouped schemas (forms.Grouped outs by) plain = absurd cc
-
--- a plain select that is not refused can be answered
+-- a select that is not refused can be answered
 pub answerable : (state : State) (history : History) (select : RawSelect) (query : Query) → StandsFor state history
-    → select_refused state.catalog.names select ≡ [] → query ≡ query_of state.catalog.names select → is_plain select.form ≡ true → IsAnswerable state query
-answerable state history select query stands none is plain =
+    → select_refused state.catalog.names select ≡ [] → query ≡ query_of state.catalog.names select → IsAnswerable state query
+answerable state history select query stands none is =
     let none_at : select_refused (known_at history) select ≡ [] = subst (λ (known : KnownNames). select_refused known select ≡ []) stands.names none in
     record {
       tables = record {
@@ -107,7 +93,6 @@ answerable state history select query stands none is plain =
         created = ap (λ (q : Query). are_created history q.tables) is
             ∙ created history select.tables (valid_names meaning history stands.valid) (tables_known (known_at history) select none_at);
       };
-      form = ap (λ (q : Query). is_grouped q.form) is ∙ ungrouped _ select.form plain;
     }
 
 -- a cursor and then room, or both at once

@@ -1,6 +1,6 @@
 -- A line that takes memory may be answered by want of it.
-use Rattle.std.proofs.Common.{◌≡◌, inl, inr, refl, ap, sym, true, Bool, false, Option, Some, None, Ok, Err, List}
-use Rattle.std.specs.Prelude.{ℕ, int_lt, ok_or, if◌then◌else◌}
+use Rattle.std.proofs.Common.{◌≡◌, inl, inr, refl, ap, sym, true, false, Option, Some, None, Ok, Err, List}
+use Rattle.std.specs.Prelude.{ℕ, int_lt, ok_or}
 use Rattle.hippo_model.specs.declared.audit.Pair.{Pair}
 use Rattle.hippo_model.specs.declared.entry.Act.{Act}
 use Rattle.hippo_model.specs.declared.name_fault.NameFault.{NameFault}
@@ -16,7 +16,7 @@ use Rattle.hippo_catalog.specs.ChangesRefused.{change_refused}
 use Rattle.hippo_catalog.specs.ChangesWanted.{wanted_by}
 use Rattle.hippo_tables.specs.Finished.{finished}
 use Rattle.hippo_report.specs.declared.refusal.Refusal.{Refusal}
-use Rattle.hippo_report.specs.declared.refusal.Refusal.TheVariants.{Memory, NotBuilt, BadSyntax, NoCursor, MomentBack}
+use Rattle.hippo_report.specs.declared.refusal.Refusal.TheVariants.{Memory, BadSyntax, NoCursor, MomentBack}
 use Rattle.hippo_report.specs.Refusals.{refusal_line}
 use Rattle.hippo_world.specs.declared.cursors.Cursor.{Cursor as HeldCursor}
 use Rattle.hippo_world.specs.declared.sessions.Session.{Session}
@@ -29,7 +29,7 @@ use Rattle.hippo_engine.specs.declared.asking.Handing.TheVariants.{Rows, Cursor}
 use Rattle.hippo_engine.specs.Deeds.{Deed, Question}
 use Rattle.hippo_engine.specs.Deeds as deeds
 use Rattle.hippo_engine.specs.Checks.{Checked, ◌>>=◌, refused_if, by_console, open_session, may_log_in, meant, act_made, has_room}
-use Rattle.hippo_engine.specs.Judging.{judged, judged_login, judged_fetch, judged_close, judged_wanted, judged_change, text_between, question_in, cursor_wanted, deed_for, judged_question, is_plain}
+use Rattle.hippo_engine.specs.Judging.{judged, judged_login, judged_fetch, judged_close, judged_wanted, judged_change, text_between, question_in, cursor_wanted, deed_for, judged_question}
 use Rattle.hippo_engine.specs.Effects.{only_reply, carried_out, effect_of, IsShort, IsEffect}
 
 -- a judgement is no step of a job
@@ -40,10 +40,6 @@ Stepless judgement = Unit {0}
 check : {A : Type 0} (found : Checked A) (next : A → Checked Deed) → ((one : A) → Stepless (next one)) → Stepless (found >>= next)
 check (Ok one) next all = all one
 check (Err refusal) next all = tt
-
-built : (is : Bool) (judgement : Checked Deed) → Stepless judgement → Stepless (if is then judgement else Err NotBuilt)
-built true judgement none = none
-built false judgement none = tt
 
 made : (history : History) (world : World) (wanted : Wanted) → Stepless (judged_wanted history world wanted)
 made history world wanted =
@@ -110,11 +106,9 @@ stepless history world (ask number (drops job)) = tt
 stepless history world (ask number (unwatches watch)) = tt
 stepless history world (ask number (loads table text)) = tt
 stepless history world (state number (stmt.Select written start end) text) =
-    built (is_plain written.form) (judged_question Rows history world number written (text_between text start end))
-    (question history world Rows number written (text_between text start end))
+    question history world Rows number written (text_between text start end)
 stepless history world (state number (stmt.Ask written start end) text) =
-    built (is_plain written.form) (judged_question Cursor history world number written (text_between text start end))
-    (question history world Cursor number written (text_between text start end))
+    question history world Cursor number written (text_between text start end)
 stepless history world (state number (stmt.Extract written start end) text) = tt
 stepless history world (state number (stmt.Explain question) text) = tt
 stepless history world (state number (stmt.Audit audit) text) = tt

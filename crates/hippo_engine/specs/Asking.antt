@@ -17,7 +17,7 @@ use Rattle.hippo_keeper.specs.declared.faults.KeeperFault.TheVariants.{Failed, M
 use Rattle.hippo_keeper.specs.Keeping.{KeeperState}
 use Rattle.hippo_eval.specs.declared.answers.EvalFault.{EvalFault}
 use Rattle.hippo_eval.specs.Answering.{IsAnswered}
-use Rattle.hippo_answering.specs.States.{AreKept, is_grouped}
+use Rattle.hippo_answering.specs.States.{AreKept}
 use Rattle.hippo_replay.specs.declared.state.State.{State}
 use Rattle.hippo_replay.specs.Standing.{StandsFor}
 use Rattle.hippo_replay.specs.Recording.{Keeps}
@@ -63,10 +63,9 @@ asking_with asking (Err refusal) = Err refusal
 abbrev pub deed_asked : ℕ → Asking → Deed
 deed_asked session asking = deed_for asking.asker.now (question_of session asking) asking.cursor
 
--- a query that a state can answer: its tables are kept, and it has no GROUP BY
+-- a query that a state can answer: its tables are kept
 pub record IsAnswerable (state : State) (query : Query) : Type 0 where
   pub tables : AreKept state.tables query.tables
-  pub form : is_grouped query.form ≡ false
 
 -- the entry of a question that comes next
 abbrev pub entry_of : State → Moment → Question → Entry

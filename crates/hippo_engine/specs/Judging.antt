@@ -10,8 +10,6 @@ use Rattle.hippo_model.specs.declared.name_fault.NameFault.TheVariants as faults
 use Rattle.hippo_model.specs.declared.schema.Column.{Column}
 use Rattle.hippo_model.specs.declared.schema.Schema.{Schema}
 use Rattle.hippo_model.specs.declared.statement.RawAudit.{RawAudit}
-use Rattle.hippo_model.specs.declared.statement.RawForm.{RawForm}
-use Rattle.hippo_model.specs.declared.statement.RawForm.TheVariants as forms
 use Rattle.hippo_model.specs.declared.statement.RawSelect.{RawSelect}
 use Rattle.hippo_model.specs.declared.statement.Stmt.{Stmt}
 use Rattle.hippo_model.specs.declared.statement.Stmt.TheVariants as stmt
@@ -198,13 +196,7 @@ judged_statement history world number (stmt.Watch audit) text = judged_watch his
 judged_statement history world number statement text = judged_change history world number statement
 
 -- what is carried out so far
-abbrev pub is_plain : RawForm → Bool
-is_plain forms.Plain = true
-is_plain form = false
-
 abbrev pub is_statement_built : Stmt → Bool
-is_statement_built (stmt.Select select start end) = is_plain select.form
-is_statement_built (stmt.Ask select start end) = is_plain select.form
 is_statement_built (stmt.Extract select start end) = false
 is_statement_built (stmt.Explain question) = false
 is_statement_built (stmt.Audit audit) = false

@@ -14,12 +14,12 @@ ghost use Rattle.hippo_world.specs.Worlds.{free_number};
 ghost use Rattle.hippo_world.specs.Holding.{world_of};
 ghost use Rattle.hippo_commands.specs.Commands.{state as command};
 ghost use Rattle.hippo_engine.specs.Checks.{Finds, refused_if, open_session, meant};
-ghost use Rattle.hippo_engine.specs.Judging.{is_plain, text_between, question_in, cursor_wanted, judged_question, judged};
+ghost use Rattle.hippo_engine.specs.Judging.{text_between, question_in, cursor_wanted, judged_question, judged};
 ghost use Rattle.hippo_engine.specs.Asking.{IsAnswerable, statement_asked, cursor_in_room, asking_with, deed_asked};
 
 use crate::refusals::{check_room, name_refusal};
 use crate::session_checks::{check_allowed, open_session};
-use hippo_model::{NameFault, Query, RawForm, RawSelect};
+use hippo_model::{NameFault, Query, RawSelect};
 use hippo_replay::State;
 use hippo_report::Refusal;
 use hippo_typing::resolve_select;
@@ -43,12 +43,6 @@ pub struct Asking<'a> {
     pub cursor: Option<u8>,
 }
 
-fn is_plain(form: &RawForm) -> bool
-    ensures { result ≡ is_plain form.now }
-{
-    matches!(form, RawForm::Plain)
-}
-
 // Who asks in a session.
 fn asker(world: &World, session: u8) -> Result<&Session, Refusal>
     ensures { MatchResult result (λ asker. open_session (world_of world.now) session ≡ Good asker.now)
@@ -57,10 +51,9 @@ fn asker(world: &World, session: u8) -> Result<&Session, Refusal>
     open_session(world, session)
 }
 
-// The query that a plain select means.
+// The query that a select means.
 fn meaning(alloc: Global, state: &State, select: &RawSelect) -> Result<Query, Refusal>
-    requires sound { IsSound state.now }
-    requires plain { is_plain select.now.form ≡ true }
+    requires { IsSound state.now }
     ensures found { (history : History) → StandsFor state.now history
         → Finds (λ query. query)
         (meant (select_refused (known_at history) select.now) (query_of (known_at history) select.now)) result }
@@ -129,7 +122,7 @@ fn with_cursor(
     }
 }
 
-// What a plain question asks.
+// What a question asks.
 fn question<'a>(
     alloc: Global,
     state: &State,
@@ -139,8 +132,7 @@ fn question<'a>(
     select: &RawSelect,
     text: &'a str,
 ) -> Result<Asking<'a>, Refusal>
-    requires sound { IsSound state.now }
-    requires plain { is_plain select.now.form ≡ true }
+    requires { IsSound state.now }
     ensures found { (history : History) → StandsFor state.now history → Finds (deed_asked session)
         (judged_question handing history (world_of world.now) session select.now text.now) result }
     ensures asker { IfOk result (λ asking. open_session (world_of world.now) session ≡ Good asking.asker.now) }
@@ -184,7 +176,7 @@ pub fn asks<'a>(
     start: usize,
     end: usize,
 ) -> Result<Asking<'a>, Refusal>
-    requires sound { IsSound state.now }
+    requires { IsSound state.now }
     ensures found { (history : History) → StandsFor state.now history → Finds (deed_asked session)
         (judged history (world_of world.now)
         (command session (statement_asked handing select.now start end) text.now)) result }
@@ -192,9 +184,6 @@ pub fn asks<'a>(
     ensures answerable { IfOk result (λ asking. IsAnswerable state.now asking.query) }
     ensures below { OnOk result (state.now.count + 1 < 2 ^ 63) }
 {
-    if !is_plain(&select.form) {
-        return Err(Refusal::NotBuilt);
-    }
     let text = cut(text, start, end)?;
     question(alloc, state, world, session, handing, select, text)
 }

@@ -15,7 +15,7 @@ returns-in-Ok-clause-found c = λ history stands.
 
 pub returns-in-Ok-clause-answerable : goal.returns-in-Ok-clause-answerable
 returns-in-Ok-clause-answerable c =
-    answerable c.args.state.now c.requires.sound.history c.args.select.now c.in-Ok.query c.requires.sound.stands c.in-Ok.ensures.0 c.in-Ok.ensures.1 c.requires.plain
+    answerable c.args.state.now c.requires.history c.args.select.now c.in-Ok.query c.requires.stands c.in-Ok.ensures.0 c.in-Ok.ensures.1
 
 pub returns-in-Err-clause-found : goal.returns-in-Err-clause-found
 returns-in-Err-clause-found c = λ history stands.
