@@ -1,5 +1,7 @@
 -- Rows that are brought forward, and what fits a history when it grows.
-use Rattle.std.proofs.Common.{◌≡◌, sym, refl, arith, subst, ℕ, ◌≤◌, true, [], ◌∷◌, ◌++◌, Some, Result}
+use Rattle.std.proofs.Common.{◌≡◌, ◌∙◌, sym, ap, refl, arith, subst, ℕ, ◌+◌, ◌≤◌, true, [], ◌∷◌, ◌++◌, length, take, drop, Some, Result, length-append}
+use Rattle.std.proofs.lemmas.List.{take-append-drop}
+use Rattle.std.proofs.lemmas.List.Elements.{filter-append}
 use Rattle.hippo_model.specs.declared.entry.Entry.{Entry}
 use Rattle.hippo_model.specs.declared.schema.Schema.{Schema}
 use Rattle.hippo_model.specs.Terms.{History, Meaning}
@@ -7,9 +9,9 @@ use Rattle.hippo_model.specs.Histories.{schema_at}
 use Rattle.hippo_model.specs.Validity.{is_valid}
 use Rattle.hippo_keeper.specs.Keeping.{KeeperState}
 use Rattle.hippo_backlog.specs.declared.faults.ReadFault.{ReadFault}
-use Rattle.hippo_backlog.specs.Backlogs.{HeldVersions, BringsUp}
+use Rattle.hippo_backlog.specs.Backlogs.{is_version_of, versions_of, HeldVersions, BringsUp}
 use Rattle.hippo_backlog.proofs.SnapshotLemmas.{AreAt-first, AreAt-grown, rows_at, handed_is}
-use Rattle.hippo_intervals.specs.Living.{HeldLives, no_lives, LivesFit, AreThoseOf, Advances}
+use Rattle.hippo_intervals.specs.Living.{HeldLives, no_lives, taken_by, LivesFit, AreThoseOf, Advances}
 
 -- new ones fit each history in which the table has this schema
 pub LivesFit-first : (meaning : Meaning) (schema : Schema) (history : History) → is_valid meaning history ≡ true → schema_at history schema.name ≡ Some schema → LivesFit (no_lives schema) history
@@ -25,6 +27,17 @@ AreThoseOf-fits meaning lives history valid fits = record {
   rows = rows_at lives.schema meaning history lives.versions valid fits;
   taken_is = handed_is lives.schema meaning history lives.versions valid fits;
 }
+
+-- each version of the table is taken in, or is behind the number that is reached
+pub taken_and_unread : (meaning : Meaning) (lives : HeldLives) (history : History) → is_valid meaning history ≡ true → LivesFit lives history → taken_by lives + length (versions_of lives.schema.name (drop lives.versions.ahead.reached history)) ≡ length (versions_of lives.schema.name history)
+taken_and_unread meaning lives history valid fits =
+    let reached = lives.versions.ahead.reached in
+    let front : History = versions_of lives.schema.name (take reached history) in
+    let rest : History = versions_of lives.schema.name (drop reached history) in
+    let taken : taken_by lives ≡ length front = handed_is lives.schema meaning history lives.versions valid fits in
+    let whole : versions_of lives.schema.name history ≡ front ++ rest = ap (versions_of lives.schema.name) (sym (take-append-drop reached history)) ∙ filter-append (is_version_of lives.schema.name) (take reached history) (drop reached history) in
+    let both = ap length whole in
+    omega (arith, taken, both, length-append front rest)
 
 pub Advances-brings : {A : Type 0} (schema : Schema) (number end : ℕ) (result : Result A ReadFault) (old new : HeldVersions) (before after : KeeperState) (steps_old steps_new : ℕ) → old.place ≤ number → BringsUp schema number end result old new before after steps_old steps_new → Advances number end result (record { schema = schema; versions = old }) (record { schema = schema; versions = new }) before after steps_old steps_new
 Advances-brings schema number end result old new before after steps_old steps_new within brings =

@@ -3,6 +3,8 @@
 #![tactic(auto)]
 
 #[cfg(test)]
+mod backlogs;
+#[cfg(test)]
 mod codec;
 #[cfg(test)]
 mod keepers;

@@ -34,16 +34,20 @@ fn first_place(alloc: Global) -> Result<Places, Memory> {
     Ok(places)
 }
 
-fn create(alloc: Global) -> Result<Act, Memory> {
+pub(crate) fn table(alloc: Global) -> Result<Schema, Memory> {
     let columns = columns(alloc)?;
     let key = first_place(alloc)?;
     let name = name(alloc, "ward")?;
-    Ok(Act::Create(Schema {
+    Ok(Schema {
         name,
         columns,
         key,
         subject: None,
-    }))
+    })
+}
+
+pub(crate) fn create(alloc: Global) -> Result<Act, Memory> {
+    Ok(Act::Create(table(alloc)?))
 }
 
 fn bed(alloc: Global) -> Result<Cells, Memory> {
@@ -52,13 +56,13 @@ fn bed(alloc: Global) -> Result<Cells, Memory> {
     Ok(bed)
 }
 
-fn insert(alloc: Global) -> Result<Act, Memory> {
+pub(crate) fn insert(alloc: Global) -> Result<Act, Memory> {
     let table = name(alloc, "ward")?;
     let row = bed(alloc)?;
     Ok(Act::Insert { table, row })
 }
 
-fn delete(alloc: Global) -> Result<Act, Memory> {
+pub(crate) fn delete(alloc: Global) -> Result<Act, Memory> {
     let table = name(alloc, "ward")?;
     let key = bed(alloc)?;
     Ok(Act::Delete { table, key })
@@ -77,7 +81,7 @@ fn entry(seq: u64, act: Result<Act, Memory>) -> Result<Entry, Memory>
     Ok(Entry { seq, moment, act })
 }
 
-fn record<K: Keeper>(
+pub(crate) fn record<K: Keeper>(
     alloc: Global,
     state: &mut State,
     keeper: &mut K,
