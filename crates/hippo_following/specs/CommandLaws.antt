@@ -8,7 +8,8 @@ use Rattle.hippo_reading_laws.specs.QuestionLaws.{question_of, ReadsByItself}
 use Rattle.hippo_commands.specs.Commands.{state, command_of}
 use Rattle.hippo_following.specs.Written.{is_written}
 
--- a statement is written and stands in a text of UTF-8, which is shorter than its line; a question reads by itself there
+-- a statement is written and stands in a text of UTF-8, which is shorter than its line; a question reads by itself in
+-- it
 pub record IsOfLine (line : Txt) (statement : Stmt) (text : Txt) : Type 0 where
   pub written : is_written statement ≡ true
   pub utf8 : IsUtf8 text
