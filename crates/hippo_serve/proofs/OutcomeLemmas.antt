@@ -16,7 +16,7 @@ use Rattle.hippo_serve.specs.declared.endings.Ending.{Ending}
 use Rattle.hippo_serve.specs.declared.endings.Ending.TheVariants.{Served, Refused, KeeperFault, ReadFault, WriteFault, Damaged, NoMemory, TooMuch}
 use Rattle.hippo_serve.specs.Keeping.{KeepsHistory}
 use Rattle.hippo_serve.specs.Outcomes.{FromFound, KeepsDamaged, RunEnds, CheckEnds, Stops}
-use Rattle.hippo_serve.specs.Outside.{Told, Outside, telling, outside}
+use Rattle.hippo_serve.specs.Outside.{Told, Outside, outside}
 use Rattle.hippo_serve.specs.Runs.{LinesEnd}
 use Rattle.hippo_serve.proofs.KeptLemmas.{KeepsHistory-found}
 

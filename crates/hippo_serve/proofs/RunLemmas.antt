@@ -1,5 +1,5 @@
 -- A run, one line more.
-use Rattle.std.proofs.Common.{◌≡◌, inl, inr, ℕ, ◌+◌, ◌*◌, ◌<◌, ◌≤◌, ◌↔◌, List, [], ◌∷◌, ◌++◌, flat_map, length, drop, take, true, false, cond, sum_by, Option, Some, Result, Ok, Err, refl, ap, sym, subst, ◌∙◌, append_assoc, append-nil, arith, length-drop}
+use Rattle.std.proofs.Common.{◌≡◌, inl, inr, ℕ, ◌+◌, ◌*◌, ◌<◌, ◌≤◌, ◌↔◌, List, [], ◌∷◌, ◌++◌, flat_map, length, drop, take, true, cond, Option, Some, Result, Ok, Err, refl, ap, sym, subst, ◌∙◌, append_assoc, append-nil, arith, length-drop}
 use Rattle.std.proofs.lemmas.List.Sums.{sum_by-cons, sum_by-append}
 use Rattle.hippo_values.specs.Texts.{Txt}
 use Rattle.hippo_io.specs.Lines.{LineText, lines}
@@ -19,14 +19,14 @@ use Rattle.hippo_commands.specs.Commands.{Command, command_of}
 use Rattle.hippo_engine.specs.declared.engine.Engine.{Engine}
 use Rattle.hippo_engine.specs.declared.faults.EngineFault.{EngineFault}
 use Rattle.hippo_engine.specs.declared.faults.EngineFault.TheVariants.{Keeper, Damaged}
-use Rattle.hippo_engine.specs.Carrying.{Holds, is_carried, Carries, HasEffect, BreaksOff, BreaksOffAdding, BreaksOffReading}
+use Rattle.hippo_engine.specs.Carrying.{Holds, is_carried, Carries, HasEffect, BreaksOff}
 use Rattle.hippo_engine.specs.Effects.{Effect, IsEffect, effect_of}
 use Rattle.hippo_engine.specs.Ledgers.{reads_kept, audits_of, taken_of, Tallies, RunSum}
 use Rattle.hippo_engine.specs.Runs.{IsRun, IsAmple, audits_in, replies, history_after, world_after}
 use Rattle.hippo_engine.proofs.LedgerLemmas.{RunSum-start, RunSum-line, RunSum-end}
 use Rattle.hippo_serve.specs.Keeping.{KeepsHistory}
 use Rattle.hippo_serve.specs.Outside.{Told, Outside, telling, outside}
-use Rattle.hippo_serve.specs.Runs.{opening_after, IsReading, ForInput, StepsWithin, HasRun, HasReadAll, IsServed, HasReadWhole, IsCutOff, HasReadFront, IsUnwritten, added_next, KeepsBroken, IsBrokenOff, HasServed}
+use Rattle.hippo_serve.specs.Runs.{opening_after, IsReading, ForInput, StepsWithin, HasRun, HasReadAll, IsServed, IsCutOff, HasReadFront, IsUnwritten, KeepsBroken, IsBrokenOff, HasServed}
 use Rattle.hippo_serve.proofs.KeptLemmas.{KeepsHistory-after, KeepsHistory-same, KeepsEither-after}
 use Rattle.hippo_serve.proofs.WriteLemmas.{both_whole}
 
@@ -67,9 +67,11 @@ IsAmple-front history world [] [] line effect run ample =
 IsAmple-front history world [] (first ∷ effects) line effect run ample = absurd run
 IsAmple-front history world (text ∷ replied) [] line effect run ample = absurd run
 IsAmple-front history world (text ∷ replied) (first ∷ effects) line effect run ample =
-    let rest = IsAmple-front (history ++ first.added) first.world replied effects line effect run.1 ample.1 in
-    ((ample.0, rest.0), λ reads. subst (λ (h : History). effect ≡ effect_of h (world_after first.world effects) (command_of line))
-    (append_assoc history first.added (flat_map (λ (e : Effect). e.added) effects)) (rest.1 reads))
+    let rest = IsAmple-front (history ++ first.added) first.world replied effects line effect run.1 ample.1 in (
+      (ample.0, rest.0),
+      λ reads. subst (λ (h : History). effect ≡ effect_of h (world_after first.world effects) (command_of line))
+          (append_assoc history first.added (flat_map (λ (e : Effect). e.added) effects)) (rest.1 reads),
+    )
 
 -- the audits of the lines before the last, and of that one
 audits_in-append : (replied : List LineText) (line : LineText) → audits_in (replied ++ line ∷ []) ≡ audits_in replied + audits_of (command_of line)
@@ -167,7 +169,7 @@ module _ (history : History) (before : Told) (reader reader' : Position) (engine
       sum_on ample =
           let parts = IsAmple-front history (opening_after history) served.handed served.effects line done.effect served.run ample in
           let tallies : Tallies (command_of line) (versions here) steps steps' (taken_of engine.world) (taken_of engine'.world) =
-              done.counts (λ reads. subst (λ (w : World). done.effect ≡ effect_of here w (command_of line)) (sym served.world) (parts.1 reads)) in
+          done.counts (λ reads. subst (λ (w : World). done.effect ≡ effect_of here w (command_of line)) (sym served.world) (parts.1 reads)) in
           let more : versions here ≤ versions there = subst (λ (h : History). versions here ≤ versions h) (sym there_is) (versions-more here done.effect.added) in
           subst (λ (n : ℕ). RunSum before.steps steps' (versions there) n (taken_of engine'.world)) (sym (audits_in-append served.handed line))
           (RunSum-line (command_of line) before.steps steps steps' (versions here) (versions there) (audits_in served.handed) (taken_of engine.world) (taken_of engine'.world)
@@ -210,16 +212,16 @@ module _ (history : History) (before : Told) (reader reader' : Position) (engine
     broken_at : BreaksOff here (command_of line) engine keeper keeper' → KeepsBroken history served.effects line keeper'
     broken_at breaks = elim breaks [
       | inl adding ↦ inl (record {
-          entry = adding.entry;
-          adds = subst (λ (w : World). (effect_of here w (command_of line)).added ≡ adding.entry ∷ []) served.world adding.adds;
-          follows = adding.follows;
-          kept = KeepsEither-after here adding.entry keeper keeper' adding.follows served.kept adding.kept;
-        })
+        entry = adding.entry;
+        adds = subst (λ (w : World). (effect_of here w (command_of line)).added ≡ adding.entry ∷ []) served.world adding.adds;
+        follows = adding.follows;
+        kept = KeepsEither-after here adding.entry keeper keeper' adding.follows served.kept adding.kept;
+      })
       | inr reading ↦ inr (record {
-          reads = reading.reads;
-          adds = subst (λ (w : World). (effect_of here w (command_of line)).added ≡ []) served.world reading.adds;
-          kept = KeepsHistory-same here keeper keeper' served.kept reading.kept;
-        })
+        reads = reading.reads;
+        adds = subst (λ (w : World). (effect_of here w (command_of line)).added ≡ []) served.world reading.adds;
+        kept = KeepsHistory-same here keeper keeper' served.kept reading.kept;
+      })
     ]
 
     pub broken_off : Carries {A = Unit {0}} (command_of line) (Err Keeper) engine engine' keeper keeper' steps steps' → written' ≡ written → reader'.taken ≤ input_limit → IsBrokenOff history before now

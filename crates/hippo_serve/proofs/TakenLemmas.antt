@@ -1,5 +1,5 @@
 -- How many bytes of an input were taken.
-use Rattle.std.proofs.Common.{◌≡◌, ◌≢◌, ℕ, ◌<◌, ◌≤◌, ◌↔◌, List, ◌++◌, ◌∷◌, [], length, drop, Option, Some, None, MatchOption, Result, Ok, Err, refl, sym, ap, subst, ◌∙◌, arith, length-drop}
+use Rattle.std.proofs.Common.{◌≡◌, ◌≢◌, ℕ, ◌<◌, ◌≤◌, ◌↔◌, List, ◌++◌, ◌∷◌, [], length, drop, Option, Some, None, MatchOption, Result, Err, sym, ap, subst, ◌∙◌, arith, length-drop}
 use Rattle.hippo_values.specs.Texts.{Txt}
 use Rattle.hippo_io.specs.Lines.{LineText, lines}
 use Rattle.hippo_io.specs.declared.lines.Line.{Line}
@@ -80,6 +80,7 @@ module _ (line : Option LineText) (result : Option Ending) (engine engine' : Eng
         (λ text is carries writes. record { handed = reading.handed ++ text ∷ []; handing = subst Handed is handed })
         (λ text is carries writes. some_taken (reading.handed ++ text ∷ []) (subst Handed is handed) (status_of KeeperFault) (λ e. omega (arith, e)) (λ e. omega (arith, e)))
         (λ text is carries writes. some_taken (reading.handed ++ text ∷ []) (subst Handed is handed) (status_of WriteFault) (λ e. omega (arith, e)) (λ e. omega (arith, e)))
-        (λ text is number carries.
-        (some_taken (reading.handed ++ text ∷ []) (subst Handed is handed) (status_of Damaged) (λ e. omega (arith, e)) (λ e. omega (arith, e)),
-        some_taken (reading.handed ++ text ∷ []) (subst Handed is handed) (status_of WriteFault) (λ e. omega (arith, e)) (λ e. omega (arith, e))))
+        (λ text is number carries. (
+          some_taken (reading.handed ++ text ∷ []) (subst Handed is handed) (status_of Damaged) (λ e. omega (arith, e)) (λ e. omega (arith, e)),
+          some_taken (reading.handed ++ text ∷ []) (subst Handed is handed) (status_of WriteFault) (λ e. omega (arith, e)) (λ e. omega (arith, e)),
+        ))

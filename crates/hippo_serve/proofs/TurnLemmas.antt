@@ -16,7 +16,7 @@ use Rattle.hippo_commands.specs.Commands.{Command, command_of, commanded}
 use Rattle.hippo_engine.specs.declared.engine.Engine.{Engine}
 use Rattle.hippo_engine.specs.declared.faults.EngineFault.{EngineFault}
 use Rattle.hippo_engine.specs.declared.faults.EngineFault.TheVariants.{Keeper, Write, Damaged as DamagedAt}
-use Rattle.hippo_engine.specs.Carrying.{Holds, AtWork, IsBacked, Carries}
+use Rattle.hippo_engine.specs.Carrying.{AtWork, IsBacked, Carries}
 use Rattle.hippo_serve.specs.declared.endings.Ending.{Ending}
 use Rattle.hippo_serve.specs.declared.endings.Ending.TheVariants.{Served, Refused, KeeperFault, ReadFault, WriteFault, Damaged, NoMemory}
 use Rattle.hippo_serve.specs.Endings.{as_line_call}

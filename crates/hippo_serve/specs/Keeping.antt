@@ -1,5 +1,5 @@
 -- What a keeper keeps of a history, and what a stop leaves of it.
-use Rattle.std.specs.Prelude.{◌≡◌, ◌⊎◌, true}
+use Rattle.std.specs.Prelude.{◌⊎◌}
 use Rattle.hippo_values.specs.Texts.{Txt}
 use Rattle.hippo_model.specs.Terms.{History}
 use Rattle.hippo_model.specs.Stores.{IsStoreOf}

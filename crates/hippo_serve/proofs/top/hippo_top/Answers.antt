@@ -31,10 +31,13 @@ returns-in-Some-Check-clause-count_cut g c = λ job is tells. (check-by-status [
     _ c.check.result (c.check.ensures.ends tells (g.S.Source.left c.args.source.now))).2 (sym c.status-in-Some-Check.ensures ∙ is)
 
 pub returns-in-Some-Check-clause-damaged : goal.returns-in-Some-Check-clause-damaged
-returns-in-Some-Check-clause-damaged g c = λ is tells. (refl, (check-by-status []
-    (outside (g.S.Source.left c.args.source.now) (g.K.Sink.written c.args.sink.now) (g.P.Keeper.state c.args.keeper.now) c.args.steps.now)
-    (outside (g.S.Source.left c.args.source.now) (g.K.Sink.written c.check.new.sink) (g.P.Keeper.state c.check.new.keeper) c.check.new.steps)
-    _ c.check.result (c.check.ensures.ends tells (g.S.Source.left c.args.source.now))).3 (sym c.status-in-Some-Check.ensures ∙ is))
+returns-in-Some-Check-clause-damaged g c = λ is tells. (
+  refl,
+  (check-by-status []
+      (outside (g.S.Source.left c.args.source.now) (g.K.Sink.written c.args.sink.now) (g.P.Keeper.state c.args.keeper.now) c.args.steps.now)
+      (outside (g.S.Source.left c.args.source.now) (g.K.Sink.written c.check.new.sink) (g.P.Keeper.state c.check.new.keeper) c.check.new.steps)
+      _ c.check.result (c.check.ensures.ends tells (g.S.Source.left c.args.source.now))).3 (sym c.status-in-Some-Check.ensures ∙ is),
+)
 
 pub returns-in-Some-Check-clause-same : goal.returns-in-Some-Check-clause-same
 returns-in-Some-Check-clause-same g c = λ job tells. c.check.ensures.idle tells (g.S.Source.left c.args.source.now)
