@@ -1,0 +1,129 @@
+//! A keeper over a SQLite store.
+ghost use Rattle.std.specs.Prelude.{◌≡◌, ◌+◌, ◌≤◌, length, false, IfOk};
+ghost use Rattle.hippo_keeper.specs.Keeping.{RisesAbove};
+ghost use Rattle.hippo_keeper.specs.Selecting.{versions_read};
+ghost use Rattle.hippo_sqlite.specs.Standings.{new_standing, seen, after_answer};
+
+use crate::entries::count_versions;
+use crate::link::Link;
+use crate::opener::Opener;
+use crate::standing::Standing;
+use crate::statements::Question;
+use hippo_keeper::{Keeper, KeeperFault, Steps};
+use hippo_model::{StoredEntry, StoredList};
+use hippo_values::{Moment, Name};
+use std::alloc::Global;
+use std::sync::ledger::Ledger;
+
+/// A keeper over the store that its opener connects to, or over a new store in memory where the store has no name.
+/// Entries stand in the table `history`. Each refusal of `sqlite` but for memory is a counted failure.
+pub struct SqliteKeeper<O: Opener> {
+    opener: O,
+    link: Link<O::Store>,
+    standing: Standing,
+}
+
+impl<O: Opener> SqliteKeeper<O> {
+    /// A keeper that is not started.
+    pub fn new(opener: O) -> SqliteKeeper<O>
+        requires { O.Opener.used opener ≡ false }
+        ensures opener { result.opener ≡ opener }
+        ensures standing { result.standing ≡ new_standing }
+    {
+        SqliteKeeper {
+            opener,
+            link: Link::Absent,
+            standing: Standing::new(),
+        }
+    }
+
+    // Connects to the store with a name.
+    fn connect(&mut self, alloc: Global, name: &str) -> Result<Link<O::Store>, KeeperFault>
+        requires { O.Opener.used self.old.opener ≡ false }
+        ensures { self.new.standing ≡ self.old.standing }
+    {
+        if name.is_empty() {
+            return Link::in_memory(alloc);
+        }
+        let connection = self.opener.connect(alloc, name)?;
+        Link::opened(connection)
+    }
+
+    // Connects to the store with a name, and keeps the connection.
+    fn join(&mut self, alloc: Global, name: &str) -> Result<(), KeeperFault>
+        requires { O.Opener.used self.old.opener ≡ false }
+        ensures { self.new.standing ≡ self.old.standing }
+    {
+        self.link = self.connect(alloc, name)?;
+        Ok(())
+    }
+
+    // The first kept entries above a number that a read asks for.
+    fn read(
+        &mut self,
+        alloc: Global,
+        question: &Question<'_>,
+        after: u64,
+        max: u64,
+    ) -> Result<StoredList, KeeperFault>
+        requires { max ≤ 1000 }
+        ensures few { IfOk result (λ list. length list ≤ max) }
+        ensures order { IfOk result (RisesAbove after) }
+        ensures counted { self.new.standing ≡ after_answer result self.old.standing }
+        ensures rises { self.old.standing.faults ≤ self.new.standing.faults }
+        ensures opener { self.new.opener ≡ self.old.opener }
+    {
+        let answer = self.link.read(alloc, question, after, max);
+        self.standing.settle(answer)
+    }
+}
+
+impl<O: Opener> Keeper for SqliteKeeper<O> {
+    ghost state = { λ keeper. seen keeper.standing (O.Opener.used keeper.opener) };
+
+    fn start(&mut self, alloc: Global, name: &str) -> Result<(), KeeperFault> {
+        let answer = self.join(alloc, name);
+        self.standing.settle_start(answer)
+    }
+
+    fn append(&mut self, _alloc: Global, entry: &StoredEntry) -> Result<(), KeeperFault> {
+        let answer = self.link.append(entry);
+        self.standing.settle(answer)
+    }
+
+    fn read_all<L: Ledger>(
+        &mut self,
+        alloc: Global,
+        after: u64,
+        max: u64,
+        steps: &mut Steps<L>,
+    ) -> Result<StoredList, KeeperFault> {
+        let list = self.read(alloc, &Question::All, after, max)?;
+        count_versions(list.as_slice(), steps);
+        Ok(list)
+    }
+
+    fn read_backlog<L: Ledger>(
+        &mut self,
+        alloc: Global,
+        table: &Name,
+        after: u64,
+        max: u64,
+        steps: &mut Steps<L>,
+    ) -> Result<StoredList, KeeperFault> {
+        let list = self.read(alloc, &Question::VersionsOf(table), after, max)?;
+        count_versions(list.as_slice(), steps);
+        Ok(list)
+    }
+
+    fn read_asked(
+        &mut self,
+        alloc: Global,
+        from: Moment,
+        to: Moment,
+        after: u64,
+        max: u64,
+    ) -> Result<StoredList, KeeperFault> {
+        self.read(alloc, &Question::AskedIn(from, to), after, max)
+    }
+}
