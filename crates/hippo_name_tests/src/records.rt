@@ -136,11 +136,20 @@ fn values(rt: HostRuntime) -> Result<(), Fail> {
     let wanted = row(alloc, -7, "Ada", "2024-02-29")?;
     assert!(rt; is_loaded_as(alloc, "-007,Ada,2024-02-29", &wanted)?);
     let least = row(alloc, i64::MIN, "O'Hara, Pat", "0001-01-01")?;
-    assert!(rt; is_loaded_as(alloc, "-9223372036854775808,\"O'Hara, Pat\",0001-01-01", &least)?);
+    assert!(rt;
+        is_loaded_as(
+            alloc,
+            "-9223372036854775808,\"O'Hara, Pat\",0001-01-01",
+            &least
+        )?
+    );
     assert_eq!(rt; fault_of(alloc, "1,Ada"), Some(CsvFault::Count));
     assert_eq!(rt; fault_of(alloc, "1,Ada,,"), Some(CsvFault::Count));
     assert_eq!(rt; fault_of(alloc, "+1,Ada,x"), Some(CsvFault::Field(0)));
-    assert_eq!(rt; fault_of(alloc, "9223372036854775808,Ada,"), Some(CsvFault::Field(0)));
+    assert_eq!(rt;
+        fault_of(alloc, "9223372036854775808,Ada,"),
+        Some(CsvFault::Field(0))
+    );
     assert_eq!(rt; fault_of(alloc, ",,2023-02-29"), Some(CsvFault::Field(2)));
     assert_eq!(rt; fault_of(alloc, ",,"), None);
     Ok(())
@@ -178,13 +187,17 @@ fn lines_of(alloc: Global, session: u8, rows: &Answer) -> Result<Txt, Memory> {
 fn extracts(rt: HostRuntime) -> Result<(), Fail> {
     let alloc = rt.alloc();
     let out = lines_of(alloc, 64, &answer(alloc)?)?;
-    assert_eq!(
-        rt;
+    assert_eq!(rt;
         out.as_str(),
         "64 csv -7,\"O'Hara, \"\"Pat\"\"\",2024-02-29\n64 csv ,DENIED(12)\n64 csv \"\"\n"
     );
     let mut out = Txt::from_str(alloc, "1 ok\n")?;
-    extract_line(alloc, 1, &shown(alloc, &row(alloc, 3, "Ada", "2024-02-29")?)?, &mut out)?;
+    extract_line(
+        alloc,
+        1,
+        &shown(alloc, &row(alloc, 3, "Ada", "2024-02-29")?)?,
+        &mut out,
+    )?;
     assert_eq!(rt; out.as_str(), "1 ok\n1 csv 3,Ada,2024-02-29\n");
     Ok(())
 }

@@ -54,7 +54,10 @@ impl Standing {
     }
 
     /// The same for a start.
-    pub(crate) fn settle_start(&mut self, answer: Result<(), KeeperFault>) -> Result<(), KeeperFault>
+    pub(crate) fn settle_start(
+        &mut self,
+        answer: Result<(), KeeperFault>,
+    ) -> Result<(), KeeperFault>
         ensures same { result ≡ answer }
         ensures counted { self.new ≡ after_start answer self.old }
         ensures rises { self.old.faults ≤ self.new.faults }
