@@ -1,4 +1,5 @@
 pub mod Sharing
+pub mod Needs
 pub mod FirstPlaces
 pub mod Searching
 pub mod Tuples
