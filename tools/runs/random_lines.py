@@ -175,6 +175,51 @@ class Lines:
         column = self.column(table)
         return "%s.%s" % (table, column) if len(tables) > 1 and self.chance(0.9) else column
 
+    def audit(self):
+        """An audit expression over tables whose columns questions name, most of it right."""
+        tables = list(dict.fromkeys(self.table() for _ in range(self.pick([1, 1, 2]))))
+        columns = ", ".join(self.column_of(tables) for _ in range(self.pick([1, 1, 1, 2])))
+        first, last = sorted(self.pick(["0001-01-01", "2024-01-01", "2024-01-02", "2024-01-20", "2024-02-10"]) for _ in range(2))
+        first, last = first + "T00:00:00Z", self.pick(["2024-01-15", "2024-03-01", "9999-12-31", last]) + "T23:59:59Z"
+        if self.chance(0.03):
+            first, last = last, self.pick([first, "yesterday"])
+        exempt = " OTHERTHAN " + ", ".join("(%s, %s)" % self.pair() for _ in range(self.pick([1, 1, 2]))) if self.chance(0.15) else ""
+        where = " WHERE " + self.condition(tables) if self.chance(0.5) else ""
+        return "DURING '%s' TO '%s'%s AUDIT %s%s FROM %s%s" % (first, last, exempt, "SHOWN " if self.chance(0.3) else "", columns,
+                                                               ", ".join(tables), where)
+
+    def looking_back(self):
+        kind = self.random.random()
+        if kind < 0.35:
+            return "0 " + self.in_case(self.audit()) + self.pick(["", "", ";"])
+        if kind < 0.45:
+            return "0 BEGIN AUDIT " + self.audit()
+        if kind < 0.65:
+            return "0 step %d %d" % (self.pick([1, 1, 1, 2, 3, 8]), self.pick([1, 3, 10, 40, 1000000]))
+        if kind < 0.68:
+            return "0 drop %d" % self.pick([1, 1, 2, 3])
+        if kind < 0.76:
+            return "0 %s %s" % (self.pick(["WATCH", "watch"]), self.audit())
+        if kind < 0.79:
+            return "0 unwatch %d" % self.pick([1, 1, 2, 3])
+        return "0 EXPLAIN %d" % self.random.randint(-1, 160)
+
+    def in_record(self, kind):
+        if self.chance(0.1):
+            return ""
+        if self.chance(0.05):
+            kind = self.pick(["INTEGER", "TEXT", "DATE"])
+        return {"INTEGER": lambda: self.pick([self.number(), self.number(), "007", "-0", "+1", "1x", "9223372036854775808"]),
+                "TEXT": lambda: self.pick(["Ada", "Bob", '"O\'Hara, Pat"', '"say ""hi"""', "a\tb", " x", "\u00e9", '"x', 'a"b']),
+                "DATE": lambda: self.pick(["2024-03-01", "2024-02-30", "0001-01-01", '"2024-02-29"'])}[kind]()
+
+    def load(self):
+        table = self.table()
+        record = ",".join(self.in_record(k) for _, k in TABLES.get(table, TABLES["patient"]))
+        if self.chance(0.05):
+            record = self.pick(["", "1", record + ",", record + "\r", "\r" + record, "1\r2", "\ufeff" + record])
+        return "0 load %s %s" % (table, record)
+
     def broken(self, text):
         """The text with one place changed."""
         place = self.random.randrange(len(text) + 1)
@@ -188,16 +233,22 @@ class Lines:
 
     def line(self):
         kind = self.random.random()
-        number = self.pick([1, 1, 1, 1, 1, 1, 2, 2, 64])
-        if kind < 0.34:
+        number = self.pick([1] * 12 + [2, 2, 64])
+        if kind < 0.28:
             return "%d %s" % (0 if not self.chance(0.02) else number, self.in_case(self.change()))
-        if kind < 0.62:
+        if kind < 0.33:
+            return self.load()
+        if kind < 0.54:
             return "%d %s" % (0 if self.chance(0.02) else number, self.in_case(self.select()) + self.pick(["", "", "", ";", " "]))
+        if kind < 0.58:
+            return "%d EXTRACT %s" % (number, self.in_case(self.select()))
         if kind < 0.70:
+            return self.looking_back()
+        if kind < 0.75:
             return "%d OPEN %s" % (number, self.in_case(self.select()))
-        if kind < 0.79:
+        if kind < 0.81:
             return "%d fetch %d %d" % (number, self.random.randint(1, 4), self.pick([1, 2, 3, 100000]))
-        if kind < 0.82:
+        if kind < 0.83:
             return "%d close %d" % (number, self.random.randint(1, 5))
         if kind < 0.915:
             purpose, recipient = ("treatment", "nurse") if self.chance(0.6) else self.pair()

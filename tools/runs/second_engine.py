@@ -1,10 +1,11 @@
 #!/usr/bin/env python3
-"""A second engine for what `hippo run` carries out, written from the rules of the language alone: it shares no code with the
-proved one, and searches lists where that has maps and plans. It reads statements with the second reader.
+"""A second engine for `hippo run`, written from the rules of the language alone: it shares no code with the proved one, searches
+lists where that has maps and plans, and audits by taking each tuple out of whole products. It reads statements with the second reader.
 
-Standard input is the input of a run; the replies are printed.
+Standard input is the input of a run; the replies are printed. usage: second_engine.py [text|json|csv], the format of flags.
 """
 import itertools
+import json
 import os
 import re
 import sys
@@ -162,10 +163,13 @@ def truth(condition, look):
 
 
 class Engine:
-    def __init__(self):
+    def __init__(self, format_of_flags="text"):
         self.clock = -62135596800
         self.entries = []  # (moment, act); the number is the place, from 1
         self.sessions = {}
+        self.jobs = {}  # number: audit, length, place
+        self.watches = {}  # number: audit
+        self.format = format_of_flags
 
     def last(self, test):
         """The last entry that passes, with its number; (0, None) where none does."""
@@ -250,19 +254,7 @@ class Engine:
                 raise Refused("30 UnknownTable", name)
         repeated(names)
         tables = [self.table(name) for name in names]
-
-        def find(column):
-            qualifier = field(column, "table")
-            wanted = qualifier.args[0] if qualifier.name == "Some" else None
-            name = field(column, "column")
-            homes = [(place, at) for place, table in enumerate(tables) if wanted in (None, table[1])
-                     for at, other in enumerate(table[2]) if other[0] == name]
-            if not homes:
-                raise Refused("31 UnknownColumn", name if wanted is None else wanted + "." + name)
-            if len(homes) > 1:
-                raise Refused("32 AmbiguousColumn", name)
-            return homes[0]
-
+        find = finder(tables)
         shown = []
         for item in items:
             if item.name == "One":
@@ -288,20 +280,8 @@ class Engine:
                 if find(column) not in [find(other) for other in others]:
                     raise Refused("60 NotGrouped", field(column, "column"))
 
-        def kind_of(operand):
-            if operand.name == "Column":
-                place, at = find(operand.args[0])
-                return tables[place][2][at][1]
-            value = value_of(operand.args[0])
-            return None if value is None else value[0]
-
-        for group in compared:
-            if len({kind_of(operand) for operand in group} - {None}) > 1:
-                raise Refused("40 TypeMismatch", None)
-        for group in compared:
-            for operand in group:
-                if operand.name == "Literal" and is_bad_text(value_of(operand.args[0])):
-                    raise Refused("47 BadText", None)
+        check_kinds(tables, find, compared)
+        check_texts(compared)
         for most, count in ((4, len(names)), (128, len(items)), (128, len(outs)), (128, len(by))):
             if count > most:
                 raise Refused("50 TooManyParts", most)
@@ -309,18 +289,11 @@ class Engine:
                 "outs": [(out.name, find(out.args[0])) for out in outs], "by": [find(column) for column in by]}
 
     def answer(self, session, asked):
-        find = asked["find"]
         views = [self.view(session["purpose"], session["recipient"], table) for table in asked["tables"]]
-        found = []
-        for combination in itertools.product(*views):
-            def look(operand):
-                if operand.name == "Literal":
-                    return value_of(operand.args[0])
-                place, at = find(operand.args[0])
-                cell = combination[place][at]
-                return None if isinstance(cell, list) else cell
-            if truth(asked["condition"], look) == TRUE:
-                found.append(combination)
+        return self.rows_of(asked, passing(asked, views))
+
+    def rows_of(self, asked, found):
+        """The rows that a query makes of the combinations that pass."""
         if asked["form"] == "Grouped":
             return self.groups(asked, found)
         rows = [[combination[place][at] for place, at in asked["shown"]] for combination in found]
@@ -348,6 +321,178 @@ class Engine:
                     row.append((min if kind == "Min" else max)(values, key=order_of))
             rows.append(row)
         return rows
+
+    # ------------------------------------------------------------ audits
+
+    def before(self, number):
+        """What was before an entry, at its moment."""
+        past = Engine()
+        past.clock = self.entries[number - 1][0]
+        past.entries = self.entries[:number - 1]
+        return past
+
+    def audit(self, number, written):
+        """What an audit asks for, once its names are found; raises the first refusal."""
+        if number != 0:
+            raise Refused("24 ConsoleOnly", None)
+        names, condition = field(written, "tables"), field(written, "cond")
+        for name in names:
+            if self.table(name) is None:
+                raise Refused("30 UnknownTable", name)
+        for pair in field(written, "exempt"):
+            self.known_pair(pair)
+        repeated(names)
+        tables = [self.table(name) for name in names]
+        find = finder(tables)
+        columns = [find(column) for column in field(written, "columns")]
+        compared = operands(condition)
+        for group in compared:
+            for operand in group:
+                if operand.name == "Column":
+                    find(operand.args[0])
+        check_kinds(tables, find, compared)
+        check_texts(compared)
+        for most, count in ((4, len(names)), (128, len(columns)), (64, len(field(written, "exempt")))):
+            if count > most:
+                raise Refused("50 TooManyParts", most)
+        begin, end = (read_moment(field(written, word).encode()) for word in ("from", "to"))
+        if begin is None or end is None:
+            raise Refused("18 BadMoment", None)
+        if end < begin:
+            raise Refused("56 PeriodBack", None)
+        exempt = [(field(pair, "purpose"), field(pair, "recipient")) for pair in field(written, "exempt")]
+        return {"names": names, "tables": tables, "columns": columns, "find": find, "condition": condition,
+                "begin": begin, "end": end, "exempt": exempt, "seen": field(written, "shown")}
+
+    def shared(self, audit, number):
+        """The first virtual tuple that serves, of an entry and an audit; or None."""
+        moment, act = self.entries[number - 1]
+        if act[0] != "Asked" or not audit["begin"] <= moment <= audit["end"] or act[2:4] in audit["exempt"]:
+            return None
+        past = self.before(number)
+        asked = past.resolve(select_of(act[4]))
+        wanted = {(audit["names"][place], at) for place, at in audit["columns"]}
+        if not wanted <= named(asked):
+            return None
+        names = [table[1] for table in asked["tables"]]
+        common = [table for table in audit["tables"] if table[1] in names]
+        combinations = passing(asked, [past.view(act[2], act[3], table) for table in asked["tables"]])
+        whole = bag(past.rows_of(asked, combinations))
+        audited = passing(audit, [[row for row, _ in past.rows(table)] for table in audit["tables"]])
+        cells = lambda some: bag([[rows[place][at] for place, at in audit["columns"]] for rows in some])
+        for keys in itertools.product(*[[past.key_of(table, row) for row, _ in past.rows(table)] for table in common]):
+            chosen = {table[1]: key for table, key in zip(common, keys)}
+            has = lambda tables, rows: all(past.key_of(table, row) == chosen[table[1]]
+                                           for table, row in zip(tables, rows) if table[1] in chosen)
+            left = [rows for rows in combinations if not has(asked["tables"], rows)]
+            if bag(past.rows_of(asked, left)) == whole:
+                continue
+            if cells([rows for rows in audited if not has(audit["tables"], rows)]) == cells(audited):
+                continue
+            if audit["seen"] and not all(past.was_seen(act, audit["tables"][place], chosen, at) for place, at in audit["columns"]):
+                continue
+            return list(chosen.items())
+        return None
+
+    def was_seen(self, act, table, chosen, at):
+        row, born, _ = self.live(table, chosen[table[1]])
+        return self.verdict(act[2], act[3], table, row, born, at) is None
+
+    def flags(self, audit, above, upto):
+        found = []
+        for number in range(above + 1, upto + 1):
+            shared = self.shared(audit, number)
+            if shared is not None:
+                found.append("0 flag " + self.flag(number, shared))
+        return found
+
+    def flag(self, number, shared):
+        moment, act = self.entries[number - 1]
+        if self.format == "json":
+            keys = [[table, [None if v is None else v[1] if v[0] != "Date" else day_text(v[1]) for v in key]] for table, key in shared]
+            return json.dumps({"moment": moment_text(moment), "pair": [act[2], act[3]], "query": number, "shared": keys,
+                               "user": act[1]}, separators=(",", ":"), ensure_ascii=False)
+        parts = [str(number), moment_text(moment), act[1], act[2], act[3], tuple_text(shared)]
+        return record_text(parts) if self.format == "csv" else " ".join(parts)
+
+    def alarms(self, number):
+        """What the watches say of an entry."""
+        found = [(watch, self.shared(audit, number)) for watch, audit in sorted(self.watches.items())]
+        return ["0 alarm %d %d %s" % (watch, number, tuple_text(shared)) for watch, shared in found if shared is not None]
+
+    def explain(self, number, asked_for):
+        if number != 0:
+            raise Refused("24 ConsoleOnly", None)
+        if not 1 <= asked_for <= len(self.entries) or self.entries[asked_for - 1][1][0] != "Asked":
+            raise Refused("58 NoSuchQuery", asked_for)
+        act, past = self.entries[asked_for - 1][1], self.before(asked_for)
+        asked, lines = past.resolve(select_of(act[4])), []
+        for table in asked["tables"]:
+            for row, born in past.rows(table):
+                for at in range(len(row)):
+                    if at in table[3] or (table[1], at) in named(asked):
+                        rule = past.verdict(act[2], act[3], table, row, born, at)
+                        if rule is not None:
+                            where = tuple_text([(table[1], past.key_of(table, row))])
+                            lines.append("0 denied %s %s %d" % (where, table[2][at][0], rule))
+        if len(lines) > 100000:
+            raise Refused("51 TooManyRows", None)
+        return lines + ["0 end %d" % len(lines)]
+
+    def begin(self, number, written):
+        audit = self.audit(number, written)
+        free = next((j for j in range(1, 9) if j not in self.jobs), None)
+        if free is None:
+            raise Refused("54 JobLimit", None)
+        self.jobs[free] = {"audit": audit, "length": len(self.entries), "place": 0}
+        return ["0 job %d" % free]
+
+    def step(self, number, job, count):
+        if number != 0:
+            raise Refused("24 ConsoleOnly", None)
+        if job not in self.jobs:
+            raise Refused("55 NoJob", job)
+        held = self.jobs[job]
+        upto = min(held["place"] + count, held["length"])
+        found = self.flags(held["audit"], held["place"], upto)
+        held["place"] = upto
+        if upto < held["length"]:
+            return found + ["0 part %d" % upto]
+        return found + ["0 end %d" % len(self.flags(held["audit"], 0, upto))]
+
+    def watch(self, number, written):
+        audit = self.audit(number, written)
+        free = next((w for w in range(1, 9) if w not in self.watches), None)
+        if free is None:
+            raise Refused("63 WatchLimit", None)
+        self.watches[free] = audit
+        return ["0 watch %d" % free]
+
+    def let_go(self, number, held, at, missing):
+        if number != 0:
+            raise Refused("24 ConsoleOnly", None)
+        if at not in held:
+            raise Refused(missing, at)
+        del held[at]
+        return ["0 ok"]
+
+    def load(self, number, name, text):
+        """Inserts the row that a record writes."""
+        if number != 0:
+            raise Refused("24 ConsoleOnly", None)
+        table = self.table(name)
+        if table is None:
+            raise Refused("30 UnknownTable", name)
+        fields = record_fields(text)
+        if fields is None:
+            raise Refused("61 BadRecord", None)
+        if len(fields) != len(table[2]):
+            raise Refused("42 WrongCount", len(table[2]))
+        row = [field_value(written, kind, column) for written, (column, kind, _) in zip(fields, table[2])]
+        self.entries.append((self.clock, self.inserted(table, row)))
+        return ["0 ok %d" % len(self.entries)]
+
+    # ------------------------------------------------------------ questions
 
     def question(self, number, select, text):
         """The session that asks, and what it asks, resolved."""
@@ -454,6 +599,9 @@ class Engine:
         row = [value_of(v) for v in field(statement, "values")]
         if len(row) != len(table[2]):
             raise Refused("42 WrongCount", len(table[2]))
+        return self.inserted(table, row)
+
+    def inserted(self, table, row):
         fit(table, list(zip(range(len(row)), row)))
         found = self.live(table, self.key_of(table, row))
         if found is not None:
@@ -544,12 +692,14 @@ class Engine:
             del self.sessions[number]["cursors"][cursor]
             return ["%d ok" % number]
         if word == "step":
-            right = len(words) == 2 and number_in(1, 8, words[0]) and number_in(1, 1000000, words[1])
-        else:
-            right = len(words) == 1 and number_in(1, 8, words[0])
-        if not right:
+            if len(words) != 2 or number_in(1, 8, words[0]) is None or number_in(1, 1000000, words[1]) is None:
+                return None
+            return self.step(number, int(words[0]), int(words[1]))
+        at = number_in(1, 8, words[0]) if len(words) == 1 else None
+        if at is None:
             return None
-        raise Refused("99 NotBuilt", None)
+        held, missing = (self.jobs, "55 NoJob") if word == "drop" else (self.watches, "64 NoWatch")
+        return self.let_go(number, held, at, missing)
 
     def cursor(self, number, cursor):
         cursors = self.session(number)["cursors"]
@@ -580,8 +730,15 @@ class Engine:
             if number != 0:
                 raise Refused("24 ConsoleOnly", None)
             return self.change(statement)
-        if kind not in ("Select", "Ask"):
-            raise Refused("99 NotBuilt", None)
+        if kind == "Explain":
+            return self.explain(number, statement.args[0])
+        if kind == "BeginAudit":
+            return self.begin(number, statement.args[0])
+        if kind == "Watch":
+            return self.watch(number, statement.args[0])
+        if kind == "Audit":
+            found = self.flags(self.audit(number, statement.args[0]), 0, len(self.entries))
+            return found + ["0 end %d" % len(found)]
         asked = data[field(statement, "start"):field(statement, "end")].decode()
         session, resolved = self.question(number, field(statement, "select"), asked)
         free = next((c for c in (1, 2, 3, 4) if c not in session["cursors"]), None)
@@ -589,11 +746,16 @@ class Engine:
             raise Refused("52 CursorLimit", None)
         rows = self.answer(session, resolved)
         self.log(session, asked)
+        return self.handed_out(number, kind, session, free, rows) + self.alarms(len(self.entries))
+
+    def handed_out(self, number, kind, session, free, rows):
         if len(rows) > 100000:
-            raise Refused("51 TooManyRows", None)
+            return ["%d no 51 TooManyRows" % number]
         if kind == "Ask":
             session["cursors"][free] = {"rows": rows, "given": 0}
             return ["%d cursor %d" % (number, free)]
+        if kind == "Extract":
+            return ["%d csv %s" % (number, record_text([in_field(cell) for cell in row])) for row in rows] + ["%d end %d" % (number, len(rows))]
         return row_lines(number, rows) + ["%d end %d" % (number, len(rows))]
 
     def at(self, word):
@@ -630,7 +792,9 @@ class Engine:
         if word == "load":
             behind = text[len(words[0]):].lstrip(" ")[4:].lstrip(" ")
             table, space, _ = behind.partition(" ")
-            return ["%d no 99 NotBuilt" % number] if space and name_of(table) else bad
+            if not space or name_of(table) is None:
+                return bad
+            return guarded(number, lambda: self.load(number, name_of(table), behind[len(table) + 1:]))
         if word in SHORT_WORDS:
             replies = guarded(number, lambda: self.short_word(number, word, words[2:]))
             return bad if replies is None else replies
@@ -647,6 +811,131 @@ def guarded(who, call):
 
 def row_lines(number, rows):
     return ["%d row %s" % (number, ", ".join(printed(cell) for cell in row)) for row in rows]
+
+
+# ---------------------------------------------------------------- names and combinations
+
+
+def finder(tables):
+    """What finds the one column that a reference names."""
+    def find(column):
+        qualifier = field(column, "table")
+        wanted = qualifier.args[0] if qualifier.name == "Some" else None
+        name = field(column, "column")
+        homes = [(place, at) for place, table in enumerate(tables) if wanted in (None, table[1])
+                 for at, other in enumerate(table[2]) if other[0] == name]
+        if not homes:
+            raise Refused("31 UnknownColumn", name if wanted is None else wanted + "." + name)
+        if len(homes) > 1:
+            raise Refused("32 AmbiguousColumn", name)
+        return homes[0]
+    return find
+
+
+def check_kinds(tables, find, compared):
+    def kind_of(operand):
+        if operand.name == "Column":
+            place, at = find(operand.args[0])
+            return tables[place][2][at][1]
+        value = value_of(operand.args[0])
+        return None if value is None else value[0]
+    for group in compared:
+        if len({kind_of(operand) for operand in group} - {None}) > 1:
+            raise Refused("40 TypeMismatch", None)
+
+
+def check_texts(compared):
+    for group in compared:
+        for operand in group:
+            if operand.name == "Literal" and is_bad_text(value_of(operand.args[0])):
+                raise Refused("47 BadText", None)
+
+
+def passing(asked, tables):
+    """The combinations of rows of which a condition is true."""
+    found = []
+    for combination in itertools.product(*tables):
+        def look(operand):
+            if operand.name == "Literal":
+                return value_of(operand.args[0])
+            place, at = asked["find"](operand.args[0])
+            cell = combination[place][at]
+            return None if isinstance(cell, list) else cell
+        if truth(asked["condition"], look) == TRUE:
+            found.append(combination)
+    return found
+
+
+def bag(rows):
+    return sorted(repr(row) for row in rows)
+
+
+def named(asked):
+    """The columns that stand anywhere in a query, by table and place."""
+    places = list(asked["shown"]) + [at for _, at in asked["outs"]] + asked["by"]
+    places += [asked["find"](operand.args[0]) for group in operands(asked["condition"]) for operand in group if operand.name == "Column"]
+    return {(asked["tables"][place][1], at) for place, at in places}
+
+
+def select_of(text):
+    """The select that a logged text writes."""
+    return field(Reader(cut(text.encode())).statement(), "select")
+
+
+def tuple_text(shared):
+    return " ".join("%s(%s)" % (table, ", ".join(printed(value) for value in key)) for table, key in shared)
+
+
+# ---------------------------------------------------------------- records of CSV
+
+
+def in_field(cell):
+    return "" if cell is None else cell[1] if isinstance(cell, tuple) and cell[0] == "Text" else printed(cell)
+
+
+def record_text(fields):
+    if fields == [""]:
+        return '""'
+    return ",".join('"%s"' % f.replace('"', '""') if any(c in f for c in ',"\r\n') else f for f in fields)
+
+
+def record_fields(text):
+    """The fields of the one record that a text is, or None."""
+    records, fields, now, state = [], [], "", "record"
+    for c in text[1:] if text.startswith("\ufeff") else text:
+        if state == "record" and c == "\r":
+            continue
+        if state in ("record", "field") and c == '"':
+            state = "quoted"
+        elif state == "quoted" and c != '"':
+            now += c
+        elif state == "quoted":
+            state = "quote"
+        elif state == "quote" and c == '"':
+            now, state = now + c, "quoted"
+        elif c == ",":
+            fields, now, state = fields + [now], "", "field"
+        elif c == "\r":
+            records, fields, now, state = records + [fields + [now]], [], "", "record"
+        else:
+            now, state = now + c, "text"
+    if state != "record":
+        records.append(fields + [now])
+    return records[0] if len(records) == 1 else None
+
+
+def field_value(text, kind, column):
+    if text == "":
+        return None
+    if kind == "Text":
+        return ("Text", text)
+    if kind == "Date":
+        day = read_day(text.encode())
+        if day is not None:
+            return ("Date", day)
+    elif re.match(r"-?[0-9]+\Z", text, re.ASCII) and -2 ** 63 <= int(text) < 2 ** 63:
+        return ("Integer", int(text))
+    raise Refused("62 BadField", column)
 
 
 def repeated(names):
@@ -676,7 +965,7 @@ def fit(table, values):
 
 
 def main():
-    engine = Engine()
+    engine = Engine(*sys.argv[1:2])
     data = sys.stdin.buffer.read()
     lines = data.split(b"\n")
     if lines[-1] == b"":
