@@ -78,7 +78,7 @@ impl Mark {
     /// Adds the places of the tuple that all these combinations have, if there is one.
     pub fn add_to(self, candidates: &mut BTreeSet<Places>) -> Result<(), Memory>
         ensures { OnOk result ((places : List Place)
-            → has_places places candidates.new.keys ≡ (is_one places self.entry || has_places places candidates.old.keys)) }
+            → has_places places candidates.new.keys ≡ (is_one places self || has_places places candidates.old.keys)) }
     {
         match self {
             Mark::One(places) => {
