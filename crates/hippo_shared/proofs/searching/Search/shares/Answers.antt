@@ -42,8 +42,8 @@ returns-then-branch g c =
     (c.deref_mut.ensures.value ∙ c.in_ok-audit.ensures ∙ (λ i. with_rows (c.deref-2.ensures.value i) c.args.places.now (replicate {A = Option ℕ} (c.len-3.ensures i) None)))
     c.in_ok-has.field-0 c.if-branch.true c.in_ok-has.ensures.one c.has-then-branch.result c.has-then-branch.ensures.one
 
-pub returns-else-branch : goal.returns-else-branch
-returns-else-branch g c =
+pub returns : goal.returns
+returns g c =
     not-there (HasOneOf g.C.ChoiceView.choices c.args.self.now.query.now c.args.self.now.seen.now) (HasOneOf g.C.ChoiceView.choices c.args.self.now.audit.now []) c.args.common.now.query.items c.args.common.now.audit.items
     (replicate (length c.args.self.now.query.now.sets.now) None) (replicate (length c.args.self.now.audit.now.sets.now) None) c.args.places.now
     c.deref_mut.result.now
