@@ -1,38 +1,48 @@
 -- The marks of an answer's rows, one combination more; and the tuples that they say are needed.
-use Rattle.std.proofs.Common.{◌≡◌, ℕ, zero, suc, ◌<◌, Bool, true, false, not, cond, ◌&&◌, ◌||◌, List, [], ◌∷◌, ◌++◌, map, refl, sym, ap, subst, ◌∙◌, Option, Some, None, unwrap_or}
+use Rattle.std.proofs.Common.{◌≡◌, ℕ, zero, suc, ◌<◌, Bool, true, false, not, cond, ◌&&◌, ◌||◌, List, [], ◌∷◌, ◌++◌, map, length, refl, sym, ap, subst, ◌∙◌, Option, Some, None, unwrap_or}
 use Rattle.std.specs.Prelude.{filter, find, slice_get}
-use Rattle.std.specs.List.{list_any, list_all}
+use Rattle.std.specs.List.{All, list_any, list_all}
 use Rattle.std.specs.Map.{lookup}
 use Rattle.std.specs.Ordering.{is_eq}
-use Rattle.std.specs.Cmp.{IsTotalOrder, both_ways}
+use Rattle.std.specs.Cmp.{both_ways}
 use Rattle.std.specs.BTreeMap as tree
 use Rattle.std.proofs.lemmas.Bool.{and_parts, and_from, false≢true, or_left, or_right}
 use Rattle.std.proofs.lemmas.List.{map-append}
 use Rattle.std.proofs.lemmas.List.Elements.{filter-append}
-use Rattle.std.proofs.lemmas.Cmp.{lists_total}
 use Rattle.std.proofs.lemmas.Map.Entries.{btree_map_get_place}
+use Rattle.hippo_values.specs.declared.names.Name.{Name}
+use Rattle.hippo_model.specs.declared.audit.Audit.{Audit}
+use Rattle.hippo_model.specs.declared.audit.SharedRow.{SharedRow}
 use Rattle.hippo_model.specs.declared.cells.Cell.{Cell}
 use Rattle.hippo_model.specs.declared.cells.Cell.TheVariants as cells
+use Rattle.hippo_model.specs.declared.query.Expr.{Expr}
+use Rattle.hippo_model.specs.declared.query.Form.{Form}
+use Rattle.hippo_model.specs.declared.query.Form.TheVariants.{Distinct}
 use Rattle.hippo_model.specs.declared.query.Masked.{Masked}
 use Rattle.hippo_model.specs.Terms.{Combination, Place, ShownRow}
+use Rattle.hippo_model.specs.Answers.{product}
 use Rattle.hippo_model.specs.Bags.{same_row}
 use Rattle.hippo_model.specs.Masking.{Choices, is_guarded, masked_passes, masked_items}
-use Rattle.hippo_model.specs.RowSets.{KeyedRows}
+use Rattle.hippo_model.specs.RowSets.{KeyedRows, IsAscending, key_in}
+use Rattle.hippo_eval.specs.Walks.{rows_of}
+use Rattle.hippo_join.specs.Finding.{has_places}
+use Rattle.hippo_join.specs.Places.{in_range}
 use Rattle.hippo_shared.specs.declared.marks.Mark.{Mark}
 use Rattle.hippo_shared.specs.declared.marks.Mark.TheVariants.{Unmarked}
 use Rattle.hippo_shared.specs.Marks.{row_places, mark_of, is_one}
+use Rattle.hippo_shared.specs.Candidates.{AreThoseOf}
+use Rattle.hippo_shared.specs.Needs.{needs_by, first_needed}
+use Rattle.hippo_shared.specs.Sharing.{common_tables, place_in, rows_named, HaveSameRows, has_tuple, query_has, audit_has, virtual_tuples}
+use Rattle.hippo_shared.specs.Tuples.{tuple_at}
+use Rattle.hippo_shared.proofs.CandidateLemmas.{marked-alone}
 use Rattle.hippo_distinct.specs.declared.keys.CellKey.{CellKey}
 use Rattle.hippo_distinct.specs.declared.keys.CellKey.TheVariants as keys
-use Rattle.hippo_distinct.specs.contracts.keys.CellKeyOrd.TheImpl as derived
 use Rattle.hippo_distinct.specs.RowKeys.{cell_key, row_key}
 use Rattle.hippo_distinct.specs.AloneRows.{Marks, mark_at, makes_row, row_mark, AreMarked}
-use Rattle.hippo_distinct.proofs.CellOrder.{key_order, agrees}
+use Rattle.hippo_distinct.proofs.CellOrder.{key_order, key_total, agrees}
 use Rattle.hippo_distinct.proofs.DifferentLemmas.{same_row-exact}
 use Rattle.hippo_distinct.proofs.KeptLemmas.{key_same}
-use Rattle.hippo_distinct.proofs.NeededRows.{same_row-refl}
-
-pub key_total : IsTotalOrder key_order
-key_total = lists_total (derived.ghosts).total
+use Rattle.hippo_distinct.proofs.NeededRows.{same_row-refl, answered, needs_what_comes_alone}
 
 -- each key is that of a row
 abbrev cell_of : CellKey → Cell
@@ -146,3 +156,109 @@ module _ (choices : Choices) (query : Masked) (sets : List KeyedRows) (tables : 
       by : (got : Option Mark) → tree.get key_order marks (row_key row) ≡ got → is_one places (unwrap_or got Unmarked) ≡ true → any_kept ≡ true
       by None e wrong = absurd (false≢true wrong)
       by (Some mark) e good = any-looked_up _ (is_one places) marks.entries mark e good
+
+-- ---- what the marks say of the tuples that are needed
+module _ (choices : Choices) (query : Masked) where
+  abbrev counts : Combination → Bool
+  counts rows = is_guarded choices query rows && masked_passes choices query rows
+
+  abbrev pub rows_made : List Combination → List ShownRow
+  rows_made combinations = answered (masked_items choices query) counts (λ rows. false) combinations
+
+  -- a row that passes a test, and is made
+  some_made : (test : ShownRow → Bool) (combinations : List Combination) → list_any test (rows_made combinations) ≡ true → (row : ShownRow) × (test row ≡ true) × (list_any (makes_row choices query row) combinations ≡ true)
+  some_made test [] any = absurd (false≢true any)
+  some_made test (rows ∷ combinations) any = by (counts rows) refl any (some_made test combinations)
+    where
+      here : ShownRow
+      here = masked_items choices query rows
+
+      by : (b : Bool) → counts rows ≡ b → list_any test (map (masked_items choices query) (cond b (rows ∷ filter counts combinations) (filter counts combinations))) ≡ true
+          → (list_any test (rows_made combinations) ≡ true → (row : ShownRow) × (test row ≡ true) × (list_any (makes_row choices query row) combinations ≡ true))
+          → (row : ShownRow) × (test row ≡ true) × (list_any (makes_row choices query row) (rows ∷ combinations) ≡ true)
+      by true e any later = at (test here) refl any
+        where
+          at : (b : Bool) → test here ≡ b → (b || list_any test (rows_made combinations)) ≡ true → (row : ShownRow) × (test row ≡ true) × (list_any (makes_row choices query row) (rows ∷ combinations) ≡ true)
+          at true good any = (here, good, or_left (makes_row choices query here rows) (list_any (makes_row choices query here) combinations) (and_from (counts rows) (same_row here here) e (same_row-refl here)))
+          at false other any = let found = later any in (found.0, found.1, or_right (makes_row choices query found.0 rows) (list_any (makes_row choices query found.0) combinations) found.2)
+      by false e any later = let found = later any in (found.0, found.1, or_right (makes_row choices query found.0 rows) (list_any (makes_row choices query found.0) combinations) found.2)
+
+  -- and a row that is made, among all
+  made_any : (test : ShownRow → Bool) (row : ShownRow) → test row ≡ true → (combinations : List Combination) → list_any (makes_row choices query row) combinations ≡ true → list_any test (rows_made combinations) ≡ true
+  made_any test row good [] any = absurd (false≢true any)
+  made_any test row good (rows ∷ combinations) any = by (counts rows) (same_row row here) refl any (made_any test row good combinations)
+    where
+      here : ShownRow
+      here = masked_items choices query rows
+
+      by : (b same : Bool) → same_row row here ≡ same → ((b && same) || list_any (makes_row choices query row) combinations) ≡ true
+          → (list_any (makes_row choices query row) combinations ≡ true → list_any test (rows_made combinations) ≡ true)
+          → list_any test (map (masked_items choices query) (cond b (rows ∷ filter counts combinations) (filter counts combinations))) ≡ true
+      by true true e any later = or_left (test here) (list_any test (rows_made combinations)) (ap test (sym (same_row-exact row here e)) ∙ good)
+      by true false e any later = or_right (test here) (list_any test (rows_made combinations)) (later any)
+      by false same e any later = later any
+
+-- ---- the tuples whose rows stand at places that some row's mark names are those that are needed
+module _ (choices : Choices) (query : Masked) (audit : List Name) (query_sets audit_sets : List KeyedRows) (long_query : length query_sets ≡ length query.tables) (long_audit : length audit_sets ≡ length audit)
+    (same : HaveSameRows query.tables query_sets audit audit_sets) (ascend : All (λ set. IsAscending (map (key_in set.key) set.rows)) audit_sets) where
+  abbrev all : List Combination
+  all = product (rows_of query_sets)
+
+  abbrev tables_at : List Place
+  tables_at = map (place_in query.tables) (common_tables query.tables audit)
+
+  abbrev tuple : List Place → List SharedRow
+  tuple places = tuple_at audit audit_sets (map (place_in audit) (common_tables query.tables audit)) places
+
+  abbrev ranges : List Place → Bool
+  ranges places = in_range (map (rows_named audit audit_sets) (common_tables query.tables audit)) places
+
+  abbrev out : List Place → Combination → Bool
+  out places rows = has_tuple query.tables query_sets (tuple places) rows
+
+  abbrev alone_by : List Place → ShownRow → Bool
+  alone_by places row = list_all (λ rows. not (makes_row choices query row rows) || out places rows) all
+
+  needs-alone : (places : List Place) → needs_by choices query Distinct query_sets (tuple places) ≡ list_any (alone_by places) (rows_made choices query all)
+  needs-alone places = needs_what_comes_alone (masked_items choices query) (counts choices query) (out places) all
+
+  mark-means : (places : List Place) (row : ShownRow) → is_one places (row_mark choices query query_sets tables_at all row)
+      ≡ (ranges places && (list_any (makes_row choices query row) all && alone_by places row))
+  mark-means places row = marked-alone query.tables audit query_sets audit_sets long_query long_audit same ascend (makes_row choices query row) places
+
+  pub needed-are : (marks : Marks) → tree.IsOrdered key_order marks → (tables : List Place) → tables ≡ tables_at → AreMarked key_order choices query query_sets tables all marks → (candidates : List (List Place))
+      → ((places : List Place) → has_places places candidates ≡ list_any (λ entry. is_one places entry.1) marks.entries)
+      → AreThoseOf (needs_by choices query Distinct query_sets) audit audit_sets (common_tables query.tables audit) candidates
+  needed-are marks ordered tables is told candidates kept places =
+      both_ways (has_places places candidates) (ranges places && needs_by choices query Distinct query_sets (tuple places))
+      (λ has.
+      let found = kept-row choices query query_sets tables_at all marks are places ordered (sym (kept places) ∙ has) in
+      let row = found.0 in
+      let parts = and_parts (ranges places) (list_any (makes_row choices query row) all && alone_by places row) (sym (mark-means places row) ∙ found.1) in
+      let both = and_parts (list_any (makes_row choices query row) all) (alone_by places row) parts.1 in
+      and_from (ranges places) (needs_by choices query Distinct query_sets (tuple places)) parts.0 (needs-alone places ∙ made_any choices query (alone_by places) row both.1 all both.0))
+      (λ needed.
+      let parts = and_parts (ranges places) (needs_by choices query Distinct query_sets (tuple places)) needed in
+      let found = some_made choices query (alone_by places) all (sym (needs-alone places) ∙ parts.1) in
+      let row = found.0 in
+      kept places ∙ row-kept choices query query_sets tables_at all marks are places row
+      (mark-means places row ∙ and_from (ranges places) (list_any (makes_row choices query row) all && alone_by places row) parts.0 (and_from (list_any (makes_row choices query row) all) (alone_by places row) found.2 found.1)))
+    where
+      are : AreMarked key_order choices query query_sets tables_at all marks
+      are = subst (λ (l : List Place). AreMarked key_order choices query query_sets l all marks) is told
+
+find-nothing : {A : Type 0} (test : A → Bool) → ((x : A) → test x ≡ false) → (xs : List A) → find test xs ≡ None
+find-nothing test none [] = refl
+find-nothing test none (x ∷ xs) = ap (λ b. cond b (Some x) (find test xs)) (none x) ∙ find-nothing test none xs
+
+-- where no combination of the audit's rows counts, none is needed
+pub none-needed : (choices : Choices) (query : Masked) (form : Form) (audit : Audit) (seen : List Expr) (query_sets audit_sets : List KeyedRows) → ((tuple : List SharedRow) → audit_has audit audit_sets tuple ≡ false)
+    → None ≡ first_needed choices query form audit seen query_sets audit_sets
+none-needed choices query form audit seen query_sets audit_sets none =
+    sym (find-nothing (λ tuple. needs_by choices query form query_sets tuple && query_has choices query seen query_sets tuple && audit_has audit audit_sets tuple)
+    (λ tuple. ap (λ b. needs_by choices query form query_sets tuple && query_has choices query seen query_sets tuple && b) (none tuple) ∙ never (needs_by choices query form query_sets tuple && query_has choices query seen query_sets tuple))
+    (virtual_tuples audit.tables audit_sets (common_tables query.tables audit.tables)))
+  where
+    never : (b : Bool) → (b && false) ≡ false
+    never true = refl
+    never false = refl
