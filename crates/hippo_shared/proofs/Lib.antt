@@ -4,6 +4,9 @@ pub mod CommonLemmas
 pub mod LoopLemmas
 pub mod TupleLemmas
 pub mod SideLemmas
+pub mod MarkLemmas
+pub mod CandidateLemmas
+pub mod AmongLemmas
 pub mod SearchLemmas
 pub mod SharedTheorem
 pub mod HistoryLemmas
