@@ -1,4 +1,5 @@
-pub mod QueryLemmas
+pub mod KeyColumns
+pub mod PlainTheorem
 pub mod QueryTheorem
 pub mod SeenTheorem
 pub mod ServingTheorem

@@ -18,7 +18,19 @@ use Rattle.hippo_model.specs.Audits.{common, virtual_tuples as tuples_at, query_
 use Rattle.hippo_rewrite.specs.Rewriting.{masked_column, rewritten}
 use Rattle.hippo_rewrite.specs.RewritingLaws.{rules_at, HasTables}
 use Rattle.hippo_shared.specs.Sharing.{place_in, query_has, first_shared}
+use Rattle.hippo_shared.specs.Needs.{needs_by, first_needed}
 use Rattle.hippo_shared.specs.HistoryLaws.{sets_at}
+
+-- a query of any form needs a tuple of rows of its tables exactly where the query rewritten by the rules in force does,
+-- judged by taking combinations out
+abbrev pub QueryNeedsOverRows : Type 0
+QueryNeedsOverRows =
+    (meaning : Meaning) (history : History) (context : Context) (query : Query) (schemas : List Schema)
+    (tuple : List SharedRow) → HasTables meaning history query schemas
+    → AllByRecursion (λ shared. list_any (bytes_eq shared.table) query.tables ≡ true) tuple
+    → query_needs history context query tuple
+    ≡ needs_by (choice_at history) (rewritten (rules_at history context schemas) query) query.form
+    (sets_at history query.tables) tuple
 
 -- a plain query needs a tuple of rows of its tables exactly where the query rewritten by the rules in force has it
 abbrev pub QueryNeedsWhatItHas : Type 0
@@ -58,5 +70,17 @@ SharedServesFirst =
     → AllByRecursion (IsCommon history query audit) audit.columns
     → let rules = rules_at history context schemas in
     first_shared (choice_at history) (rewritten rules query) audit (to_be_seen rules query audit)
+    (sets_at history query.tables) (sets_at history audit.tables)
+    ≡ find (serves history context query audit) (tuples_at history (common query audit))
+
+-- what a query of any form needs and an audit has first over the rows of a valid history, the query rewritten by the
+-- rules in force, is the first virtual tuple that serves
+abbrev pub NeededServesFirst : Type 0
+NeededServesFirst =
+    (meaning : Meaning) (history : History) (context : Context) (query : Query) (schemas : List Schema)
+    (audit : Audit) → HasTables meaning history query schemas
+    → AllByRecursion (IsCommon history query audit) audit.columns
+    → let rules = rules_at history context schemas in
+    first_needed (choice_at history) (rewritten rules query) query.form audit (to_be_seen rules query audit)
     (sets_at history query.tables) (sets_at history audit.tables)
     ≡ find (serves history context query audit) (tuples_at history (common query audit))
