@@ -1,4 +1,6 @@
+pub mod ExaminingLemmas
 pub mod KeyColumns
+pub mod NeededExamples
 pub mod PlainTheorem
 pub mod QueryTheorem
 pub mod SeenTheorem

@@ -26,7 +26,8 @@ use Rattle.hippo_join.specs.Existence.{are_shown}
 use Rattle.hippo_shared.specs.Sharing.{common_tables, virtual_tuples, has_tuple, query_has, audit_has, first_shared}
 use Rattle.hippo_shared.specs.Needs.{needs_by, first_needed}
 use Rattle.hippo_shared.specs.HistoryLaws.{sets_at}
-use Rattle.hippo_examining.specs.SharedLaws.{QueryNeedsOverRows, QueryNeedsWhatItHas, NeededServesFirst, SharedServesFirst, to_be_seen}
+use Rattle.hippo_examining.specs.Seen.{to_be_seen}
+use Rattle.hippo_examining.specs.SharedLaws.{QueryNeedsOverRows, QueryNeedsWhatItHas, NeededServesFirst, SharedServesFirst}
 
 pub and_true : (b : Bool) → (b && true) ≡ b
 and_true true = refl

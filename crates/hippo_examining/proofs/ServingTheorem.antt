@@ -1,9 +1,10 @@
 -- The first tuple that the query needs and the audit has is the first that serves.
-use Rattle.std.proofs.Common.{◌≡◌, Bool, true, false, not, ◌&&◌, ◌||◌, cond, List, [], ◌∷◌, ◌++◌, map, get_or, refl, sym, ap, ◌∙◌, Option, Some, None, if◌then◌else◌}
+use Rattle.std.proofs.Common.{◌≡◌, Bool, true, false, not, ◌&&◌, ◌||◌, cond, List, [], ◌∷◌, ◌++◌, map, length, get_or, refl, sym, ap, ◌∙◌, Option, Some, None, if◌then◌else◌}
 use Rattle.std.specs.Prelude.{find, bytes_eq}
 use Rattle.std.specs.List.{AllByRecursion, flat_map, list_all, list_any}
 use Rattle.std.specs.Option.{option_map_or}
 use Rattle.std.proofs.lemmas.Bool.{and_parts}
+use Rattle.std.proofs.lemmas.Option.{slice_get-get_or}
 use Rattle.hippo_values.specs.declared.names.Name.{Name}
 use Rattle.hippo_model.specs.declared.audit.Audit.{Audit}
 use Rattle.hippo_model.specs.declared.audit.SharedRow.{SharedRow}
@@ -16,7 +17,7 @@ use Rattle.hippo_model.specs.Terms.{History, Combination, Place}
 use Rattle.hippo_model.specs.Histories.{schema_at}
 use Rattle.hippo_model.specs.Rows.{key_of, table_rows}
 use Rattle.hippo_model.specs.RowSets.{KeyedRows}
-use Rattle.hippo_model.specs.Masking.{is_guarded, masked_passes}
+use Rattle.hippo_model.specs.Masking.{masked_cell, is_shown_cell, is_guarded, masked_passes}
 use Rattle.hippo_model.specs.Rules.{choice_at}
 use Rattle.hippo_model.specs.Verdicts.{Context}
 use Rattle.hippo_model.specs.Answers.{product}
@@ -26,12 +27,13 @@ use Rattle.hippo_rewrite.specs.RewritingLaws.{rules_at, ColumnsShowVerdicts}
 use Rattle.hippo_eval.specs.Walks.{rows_of}
 use Rattle.hippo_join.specs.Places.{chosen, in_range}
 use Rattle.hippo_join.specs.Existence.{are_shown}
-use Rattle.hippo_shared.specs.Sharing.{common_tables, has_tuple, query_has, audit_has}
+use Rattle.hippo_shared.specs.Sharing.{common_tables, place_in, has_tuple, query_has, audit_has}
 use Rattle.hippo_shared.specs.Needs.{needs_by}
 use Rattle.hippo_shared.specs.HistoryLaws.{sets_at, TuplesAreThoseOfHistory, AuditNeedsWhatItHas}
 use Rattle.hippo_shared.proofs.CommonLemmas.{same_as_itself, common-in-query, common-in-audit}
 use Rattle.hippo_shared.proofs.SideLemmas.{one-of-product, any-of-product}
-use Rattle.hippo_examining.specs.SharedLaws.{QueryNeedsOverRows, NeededServesFirst, column_in, to_be_seen, IsCommon}
+use Rattle.hippo_examining.specs.Seen.{column_in, to_be_seen, IsCommon}
+use Rattle.hippo_examining.specs.SharedLaws.{QueryNeedsOverRows, NeededServesFirst}
 use Rattle.hippo_examining.proofs.PlainTheorem.{and_true, needed-had}
 use Rattle.hippo_examining.proofs.SeenTheorem.{stands-at, in-common, product-has, seen-column}
 
@@ -156,18 +158,22 @@ module _ (history : History) (query : Query) (audit : Audit) where
   seen_columns : ColumnsShowVerdicts → (context : Context) (schemas : List Schema) → map (schema_at history) query.tables ≡ map Some schemas → (tuple : List SharedRow) (places : List Place)
       → in_range (sets_at history query.tables) places ≡ true → has_tuple query.tables (sets_at history query.tables) tuple (chosen (sets_at history query.tables) places) ≡ true
       → (columns : List Ref) → AllByRecursion (IsCommon history query audit) columns → HasColumns columns tuple
-      → are_shown (choice_at history) (map (λ column. masked_column (rules_at history context schemas) (column_in query.tables audit.tables column)) columns) (chosen (sets_at history query.tables) places)
+      → are_shown (choice_at history) (map (masked_column (rules_at history context schemas)) (map (column_in query.tables audit.tables) columns)) (chosen (sets_at history query.tables) places)
       ≡ list_all (is_seen history context audit.tables tuple) columns
   seen_columns shows context schemas are tuple places within has [] all members = refl
   seen_columns shows context schemas are tuple places within has (column ∷ columns) all members = λ i.
-      seen-column shows history context query.tables audit.tables schemas tuple places column are within has members.0 all.0.1 all.0.2 i
+      (ap (λ (table : Option Name). shown_at (record { table = option_map_or (place_in query.tables) table (length query.tables); column = column.column })) (slice_get-get_or audit.tables column.table [] all.0.0)
+      ∙ seen-column shows history context query.tables audit.tables schemas tuple places column are within has members.0 all.0.1 all.0.2) i
       && seen_columns shows context schemas are tuple places within has columns all.1 members.1 i
+    where
+      shown_at : Ref → Bool
+      shown_at column = is_shown_cell (masked_cell (choice_at history) (chosen (sets_at history query.tables) places) (masked_column (rules_at history context schemas) column))
 
 pub needed-serves : QueryNeedsOverRows → AuditNeedsWhatItHas → TuplesAreThoseOfHistory → ColumnsShowVerdicts → NeededServesFirst
 needed-serves of_query of_audit of_tuples shows = λ meaning history context query schemas audit has columns.
     let rules = rules_at history context schemas in
     let sets = sets_at history query.tables in
-    let exprs : List Expr = map (λ column. masked_column rules (column_in query.tables audit.tables column)) audit.columns in
+    let exprs : List Expr = map (masked_column rules) (map (column_in query.tables audit.tables) audit.columns) in
     let needed : List SharedRow → Bool = needs_by (choice_at history) (rewritten rules query) query.form sets in
     let had : List Expr → List SharedRow → Bool = λ seen. query_has (choice_at history) (rewritten rules query) seen sets in
     let here : List SharedRow → Bool = λ tuple. needed tuple && had (to_be_seen rules query audit) tuple && audit_has audit (sets_at history audit.tables) tuple in

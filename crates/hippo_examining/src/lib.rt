@@ -1,4 +1,7 @@
-//! Laws that join what a query and an audit share over rows to the model's shared tuple.
+//! Which first virtual tuple serves, for a query of any form.
 #![tactic(auto)]
 
 pub mod laws;
+mod sharing;
+
+pub use sharing::shared_of;
