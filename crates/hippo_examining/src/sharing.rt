@@ -19,8 +19,14 @@ use std::alloc::Global;
 fn place_in(tables: &[Name], table: &Name) -> usize
     ensures { result ≡ place_in tables.now table.now }
 {
-    let place = tables.iter().position(|other| table == other);
-    place.unwrap_or(tables.len())
+    let mut place = 0;
+    for other in tables {
+        if table == other {
+            return place;
+        }
+        place += 1;
+    }
+    place
 }
 
 // An audited column, by its table's place in the query.
