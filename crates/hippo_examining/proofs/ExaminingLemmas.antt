@@ -1,5 +1,5 @@
 -- What is needed first over rows at hand serves first in each history that they are those of.
-use Rattle.std.proofs.Common.{◌≡◌, List, map, sym, ap, subst, ◌∙◌, Option, Result}
+use Rattle.std.proofs.Common.{◌≡◌, List, sym, ap, ◌∙◌, Option, Result}
 use Rattle.std.specs.Prelude.{IfOk}
 use Rattle.std.proofs.lemmas.Result.{IfOk-weaker}
 use Rattle.hippo_values.specs.declared.memory.Memory.{Memory}

@@ -1,6 +1,5 @@
 -- What queries of each form need first, computed on a small table. Each example is named by what it shows.
-use Rattle.std.proofs.Common.{◌≡◌, ℕ, ℤ, pos, List, [], ◌∷◌, map, Option, Some, None, codes}
-use Rattle.hippo_values.specs.declared.values.Value.{Value}
+use Rattle.std.proofs.Common.{◌≡◌, ℕ, ℤ, pos, List, [], ◌∷◌, map, Option, Some, None, false, codes}
 use Rattle.hippo_values.specs.declared.values.Value.TheVariants.{Int, Text}
 use Rattle.hippo_values.specs.declared.names.Name.{Name}
 use Rattle.hippo_values.specs.declared.truths.CompareOp.TheVariants.{Eq}

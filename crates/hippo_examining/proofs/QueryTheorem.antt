@@ -19,7 +19,7 @@ use Rattle.hippo_model.specs.declared.query.Expr.TheVariants.{Null as NullExpr}
 use Rattle.hippo_model.specs.declared.query.Query.{Query}
 use Rattle.hippo_model.specs.declared.query.Ref.{Ref}
 use Rattle.hippo_model.specs.declared.schema.Schema.{Schema}
-use Rattle.hippo_model.specs.Terms.{History, Meaning, Combination, ShownRow, Key, Place}
+use Rattle.hippo_model.specs.Terms.{History, Meaning, Combination, ShownRow, Place}
 use Rattle.hippo_model.specs.Histories.{schema_at}
 use Rattle.hippo_model.specs.Rules.{choice_at}
 use Rattle.hippo_model.specs.Verdicts.{Context}

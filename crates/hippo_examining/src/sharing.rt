@@ -132,6 +132,7 @@ pub fn shared_of<C: ChoiceView>(
 
 // Stubs until they stand in hippo_distinct and hippo_groups.
 ghost use Rattle.hippo_model.specs.declared.query.Form.TheVariants.{Distinct, Grouped};
+
 use hippo_model::Shape;
 
 fn first_alone<C: ChoiceView>(
