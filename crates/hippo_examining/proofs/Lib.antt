@@ -3,5 +3,6 @@ pub mod KeyColumns
 pub mod NeededExamples
 pub mod PlainTheorem
 pub mod QueryTheorem
+pub mod RowLemmas
 pub mod SeenTheorem
 pub mod ServingTheorem

@@ -3,5 +3,6 @@
 
 pub mod laws;
 mod sharing;
+mod stubs;
 
 pub use sharing::shared_of;

@@ -7,6 +7,7 @@ ghost use Rattle.hippo_examining.specs.Seen.{column_in, to_be_seen};
 ghost use Rattle.hippo_examining.specs.Examining.{ServesFirst};
 
 use crate::laws::needed_serves_first;
+use crate::stubs::{first_alone, first_changing};
 use hippo_model::{
     Audit, ChoiceView, Exprs, Form, Masked, Query, Ref, Refs, RulesInForce, Sets, SharedTuple,
 };
@@ -128,48 +129,4 @@ pub fn shared_of<C: ChoiceView>(
     drop(seen);
     drop(masked);
     shared
-}
-
-// Stubs until they stand in hippo_distinct and hippo_groups.
-ghost use Rattle.hippo_model.specs.declared.query.Form.TheVariants.{Distinct, Grouped};
-
-use hippo_model::Shape;
-
-fn first_alone<C: ChoiceView>(
-    _alloc: Global,
-    query: &Masked,
-    audit: &Audit,
-    seen: &Exprs,
-    query_sets: &Sets<'_>,
-    audit_sets: &Sets<'_>,
-    choices: &C,
-) -> Result<Option<SharedTuple>, Memory>
-    requires query_sets { length query_sets.now ≡ length query.now.tables }
-    requires audit_sets { length audit_sets.now ≡ length audit.now.tables }
-    requires tables { IsDistinct bytes_eq audit.now.tables }
-    requires rows { HaveSameRows query.now.tables query_sets.now audit.now.tables audit_sets.now }
-    ensures { IfOk result (λ shared. shared
-        ≡ first_needed (C.choices choices.now) query.now Distinct audit.now seen.now query_sets.now audit_sets.now) }
-{
-    Err(Memory)
-}
-
-fn first_changing<C: ChoiceView>(
-    _alloc: Global,
-    query: &Masked,
-    shape: &Shape,
-    audit: &Audit,
-    seen: &Exprs,
-    query_sets: &Sets<'_>,
-    audit_sets: &Sets<'_>,
-    choices: &C,
-) -> Result<Option<SharedTuple>, Memory>
-    requires query_sets { length query_sets.now ≡ length query.now.tables }
-    requires audit_sets { length audit_sets.now ≡ length audit.now.tables }
-    requires tables { IsDistinct bytes_eq audit.now.tables }
-    requires rows { HaveSameRows query.now.tables query_sets.now audit.now.tables audit_sets.now }
-    ensures { IfOk result (λ shared. let form = Grouped shape.now in
-        shared ≡ first_needed (C.choices choices.now) query.now form audit.now seen.now query_sets.now audit_sets.now) }
-{
-    Err(Memory)
 }
