@@ -40,7 +40,7 @@ use Rattle.hippo_shared.proofs.CommonLemmas.{same_name, same_as_itself, place-fo
 use Rattle.hippo_shared.proofs.KeyLemmas.{below_at}
 use Rattle.hippo_shared.proofs.HistoryLemmas.{rows_by, set_is}
 use Rattle.hippo_shared.proofs.TupleLemmas.{no_rows}
-use Rattle.hippo_shared_laws.proofs.QueryTheorem.{schema_found}
+use Rattle.hippo_examining.proofs.QueryTheorem.{schema_found}
 
 or_right : (a b : Bool) → b ≡ true → (a || b) ≡ true
 or_right true b e = refl

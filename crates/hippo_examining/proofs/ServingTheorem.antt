@@ -1,9 +1,10 @@
--- The first tuple that both sides have is the first that serves.
-use Rattle.std.proofs.Common.{◌≡◌, Bool, true, false, not, ◌&&◌, ◌||◌, cond, List, [], ◌∷◌, ◌++◌, map, get_or, refl, sym, ap, ◌∙◌, Option, Some, None, if◌then◌else◌}
+-- The first tuple that the query needs and the audit has is the first that serves.
+use Rattle.std.proofs.Common.{◌≡◌, Bool, true, false, not, ◌&&◌, ◌||◌, cond, List, [], ◌∷◌, ◌++◌, map, length, get_or, refl, sym, ap, ◌∙◌, Option, Some, None, if◌then◌else◌}
 use Rattle.std.specs.Prelude.{find, bytes_eq}
 use Rattle.std.specs.List.{AllByRecursion, flat_map, list_all, list_any}
 use Rattle.std.specs.Option.{option_map_or}
 use Rattle.std.proofs.lemmas.Bool.{and_parts}
+use Rattle.std.proofs.lemmas.Option.{slice_get-get_or}
 use Rattle.hippo_values.specs.declared.names.Name.{Name}
 use Rattle.hippo_model.specs.declared.audit.Audit.{Audit}
 use Rattle.hippo_model.specs.declared.audit.SharedRow.{SharedRow}
@@ -16,7 +17,7 @@ use Rattle.hippo_model.specs.Terms.{History, Combination, Place}
 use Rattle.hippo_model.specs.Histories.{schema_at}
 use Rattle.hippo_model.specs.Rows.{key_of, table_rows}
 use Rattle.hippo_model.specs.RowSets.{KeyedRows}
-use Rattle.hippo_model.specs.Masking.{is_guarded, masked_passes}
+use Rattle.hippo_model.specs.Masking.{masked_cell, is_shown_cell, is_guarded, masked_passes}
 use Rattle.hippo_model.specs.Rules.{choice_at}
 use Rattle.hippo_model.specs.Verdicts.{Context}
 use Rattle.hippo_model.specs.Answers.{product}
@@ -26,12 +27,15 @@ use Rattle.hippo_rewrite.specs.RewritingLaws.{rules_at, ColumnsShowVerdicts}
 use Rattle.hippo_eval.specs.Walks.{rows_of}
 use Rattle.hippo_join.specs.Places.{chosen, in_range}
 use Rattle.hippo_join.specs.Existence.{are_shown}
-use Rattle.hippo_shared.specs.Sharing.{common_tables, has_tuple, query_has, audit_has}
+use Rattle.hippo_shared.specs.Sharing.{common_tables, place_in, has_tuple, query_has, audit_has}
+use Rattle.hippo_shared.specs.Needs.{needs_by}
 use Rattle.hippo_shared.specs.HistoryLaws.{sets_at, TuplesAreThoseOfHistory, AuditNeedsWhatItHas}
 use Rattle.hippo_shared.proofs.CommonLemmas.{same_as_itself, common-in-query, common-in-audit}
 use Rattle.hippo_shared.proofs.SideLemmas.{one-of-product, any-of-product}
-use Rattle.hippo_shared_laws.specs.SharedLaws.{QueryNeedsWhatItHas, SharedServesFirst, column_in, to_be_seen, IsCommon}
-use Rattle.hippo_shared_laws.proofs.SeenTheorem.{stands-at, in-common, product-has, seen-column}
+use Rattle.hippo_examining.specs.Seen.{column_in, to_be_seen, IsCommon}
+use Rattle.hippo_examining.specs.SharedLaws.{QueryNeedsOverRows, NeededServesFirst}
+use Rattle.hippo_examining.proofs.PlainTheorem.{and_true, needed-had}
+use Rattle.hippo_examining.proofs.SeenTheorem.{stands-at, in-common, product-has, seen-column}
 
 -- the members of a product's combinations are those of the lists
 module _ {X : Type 0} (P : X → Type 0) where
@@ -66,18 +70,6 @@ all_from P Q stage (x ∷ xs) all = (stage x all.0, all_from P Q stage xs all.1)
 both_all : {X : Type 0} (P Q : X → Type 0) (xs : List X) → AllByRecursion P xs → AllByRecursion Q xs → AllByRecursion (λ x. P x × Q x) xs
 both_all P Q [] a b = tt
 both_all P Q (x ∷ xs) a b = ((a.0, b.0), both_all P Q xs a.1 b.1)
-
-not_asked : (a b : Bool) (seen : Bool) → (a && b) ≡ (a && b && (not false || seen))
-not_asked true true seen = refl
-not_asked true false seen = refl
-not_asked false b seen = refl
-
-asked : (a b seen : Bool) → ((a && seen) && b) ≡ (a && b && (not true || seen))
-asked true true true = refl
-asked true true false = refl
-asked true false true = refl
-asked true false false = refl
-asked false b seen = refl
 
 same_tests : (a b : Bool) → (a ≡ true → b ≡ true) → (b ≡ true → a ≡ true) → a ≡ b
 same_tests true b there back = sym (there refl)
@@ -166,36 +158,51 @@ module _ (history : History) (query : Query) (audit : Audit) where
   seen_columns : ColumnsShowVerdicts → (context : Context) (schemas : List Schema) → map (schema_at history) query.tables ≡ map Some schemas → (tuple : List SharedRow) (places : List Place)
       → in_range (sets_at history query.tables) places ≡ true → has_tuple query.tables (sets_at history query.tables) tuple (chosen (sets_at history query.tables) places) ≡ true
       → (columns : List Ref) → AllByRecursion (IsCommon history query audit) columns → HasColumns columns tuple
-      → are_shown (choice_at history) (map (λ column. masked_column (rules_at history context schemas) (column_in query.tables audit.tables column)) columns) (chosen (sets_at history query.tables) places)
+      → are_shown (choice_at history) (map (masked_column (rules_at history context schemas)) (map (column_in query.tables audit.tables) columns)) (chosen (sets_at history query.tables) places)
       ≡ list_all (is_seen history context audit.tables tuple) columns
   seen_columns shows context schemas are tuple places within has [] all members = refl
   seen_columns shows context schemas are tuple places within has (column ∷ columns) all members = λ i.
-      seen-column shows history context query.tables audit.tables schemas tuple places column are within has members.0 all.0.1 all.0.2 i
+      (ap (λ (table : Option Name). shown_at (record { table = option_map_or (place_in query.tables) table (length query.tables); column = column.column })) (slice_get-get_or audit.tables column.table [] all.0.0)
+      ∙ seen-column shows history context query.tables audit.tables schemas tuple places column are within has members.0 all.0.1 all.0.2) i
       && seen_columns shows context schemas are tuple places within has columns all.1 members.1 i
+    where
+      shown_at : Ref → Bool
+      shown_at column = is_shown_cell (masked_cell (choice_at history) (chosen (sets_at history query.tables) places) (masked_column (rules_at history context schemas) column))
 
-pub shared-serves : QueryNeedsWhatItHas → AuditNeedsWhatItHas → TuplesAreThoseOfHistory → ColumnsShowVerdicts → SharedServesFirst
-shared-serves of_query of_audit of_tuples shows = λ meaning history context query schemas audit has is_plain columns.
+pub needed-serves : QueryNeedsOverRows → AuditNeedsWhatItHas → TuplesAreThoseOfHistory → ColumnsShowVerdicts → NeededServesFirst
+needed-serves of_query of_audit of_tuples shows = λ meaning history context query schemas audit has columns.
     let rules = rules_at history context schemas in
-    let exprs : List Expr = map (λ column. masked_column rules (column_in query.tables audit.tables column)) audit.columns in
-    let here : List SharedRow → Bool = λ tuple. query_has (choice_at history) (rewritten rules query) (to_be_seen rules query audit) (sets_at history query.tables) tuple && audit_has audit (sets_at history audit.tables) tuple in
+    let sets = sets_at history query.tables in
+    let exprs : List Expr = map (masked_column rules) (map (column_in query.tables audit.tables) audit.columns) in
+    let needed : List SharedRow → Bool = needs_by (choice_at history) (rewritten rules query) query.form sets in
+    let had : List Expr → List SharedRow → Bool = λ seen. query_has (choice_at history) (rewritten rules query) seen sets in
+    let here : List SharedRow → Bool = λ tuple. needed tuple && had (to_be_seen rules query audit) tuple && audit_has audit (sets_at history audit.tables) tuple in
     ap (find here) (of_tuples history query audit)
     ∙ find_same here (serves history context query audit) (tuples_at history (common query audit))
     (all_from (λ tuple. AllByRecursion (StandsRow history query audit) tuple × HasColumns history query audit audit.columns tuple) (λ tuple. here tuple ≡ serves history context query audit tuple)
     (λ tuple known.
-    let asks = of_query meaning history context query schemas tuple has is_plain (all_from (StandsRow history query audit) (λ shared. list_any (bytes_eq shared.table) query.tables ≡ true) (λ shared s. s.0) tuple known.0) in
+    let asks = of_query meaning history context query schemas tuple has (all_from (StandsRow history query audit) (λ shared. list_any (bytes_eq shared.table) query.tables ≡ true) (λ shared s. s.0) tuple known.0) in
     let audits = of_audit history audit tuple (all_from (StandsRow history query audit) (λ shared. list_any (bytes_eq shared.table) audit.tables ≡ true) (λ shared s. s.1) tuple known.0) in
     let all_seen : Bool = list_all (is_seen history context audit.tables tuple) audit.columns in
-    let with_seen : query_has (choice_at history) (rewritten rules query) exprs (sets_at history query.tables) tuple ≡ (query_has (choice_at history) (rewritten rules query) [] (sets_at history query.tables) tuple && all_seen) =
-    any_and (sets_at history query.tables) (has_tuple query.tables (sets_at history query.tables) tuple) (λ rows. is_guarded (choice_at history) (rewritten rules query) rows && masked_passes (choice_at history) (rewritten rules query) rows)
+    let with_seen : had exprs tuple ≡ (had [] tuple && all_seen) =
+    any_and sets (has_tuple query.tables sets tuple) (λ rows. is_guarded (choice_at history) (rewritten rules query) rows && masked_passes (choice_at history) (rewritten rules query) rows)
     (are_shown (choice_at history) exprs) all_seen
     (λ places within tupled. seen_columns history query audit shows context schemas has.schemas_are tuple places within tupled audit.columns columns known.1) in
-    by_asking (query_needs history context query tuple) (audit_needs history audit tuple) all_seen (λ seen. query_has (choice_at history) (rewritten rules query) seen (sets_at history query.tables) tuple) (audit_has audit (sets_at history audit.tables) tuple)
-    exprs asks audits with_seen audit.shown)
+    (λ i. sym asks i && had (to_be_seen rules query audit) tuple && sym audits i)
+    ∙ by_need (query_needs history context query tuple) (audit_needs history audit tuple) all_seen (λ seen. had seen tuple) exprs
+    (λ needs. needed-had (choice_at history) (rewritten rules query) sets tuple query.form (sym asks ∙ needs)) with_seen audit.shown)
     (tuples_at history (common query audit))
     (both_all (AllByRecursion (StandsRow history query audit)) (HasColumns history query audit audit.columns) (tuples_at history (common query audit)) (tuples_stand history query audit) (tuples_have history query audit audit.columns columns)))
   where
-    by_asking : (needs audited all_seen : Bool) (has : List Expr → Bool) (audits : Bool) (exprs : List Expr) → needs ≡ has [] → audited ≡ audits → has exprs ≡ (has [] && all_seen) → (shown : Bool)
-        → (has (if shown then exprs else []) && audits) ≡ (needs && audited && (not shown || all_seen))
-    by_asking needs audited all_seen has audits exprs asks same with_seen true =
-        ap (λ b. b && audits) with_seen ∙ sym (λ i. (asks i && all_seen) && same i) ∙ asked needs audited all_seen
-    by_asking needs audited all_seen has audits exprs asks same with_seen false = sym (λ i. asks i && same i) ∙ not_asked needs audited all_seen
+    turned : (a b : Bool) → (a && b) ≡ (b && a)
+    turned true true = refl
+    turned true false = refl
+    turned false true = refl
+    turned false false = refl
+
+    by_need : (needs audits all_seen : Bool) (had : List Expr → Bool) (exprs : List Expr) → (needs ≡ true → had [] ≡ true) → had exprs ≡ (had [] && all_seen) → (shown : Bool)
+        → (needs && had (if shown then exprs else []) && audits) ≡ (needs && audits && (not shown || all_seen))
+    by_need true audits all_seen had exprs has with_seen true = (λ i. (with_seen ∙ ap (λ (b : Bool). b && all_seen) (has refl)) i && audits) ∙ turned all_seen audits
+    by_need true audits all_seen had exprs has with_seen false = ap (λ (b : Bool). b && audits) (has refl) ∙ sym (and_true audits)
+    by_need false audits all_seen had exprs has with_seen true = refl
+    by_need false audits all_seen had exprs has with_seen false = refl

@@ -1,0 +1,8 @@
+pub mod ExaminingLemmas
+pub mod KeyColumns
+pub mod NeededExamples
+pub mod PlainTheorem
+pub mod QueryTheorem
+pub mod RowLemmas
+pub mod SeenTheorem
+pub mod ServingTheorem

@@ -1,0 +1,3 @@
+pub mod Examining
+pub mod Seen
+pub mod SharedLaws

@@ -1,0 +1,132 @@
+//! The first virtual tuple that serves, over rows at hand.
+ghost use Rattle.std.specs.Prelude.{◌≡◌, IfOk, bytes_eq, length, map};
+ghost use Rattle.std.specs.List.{IsDistinct};
+ghost use Rattle.hippo_shared.specs.Sharing.{HaveSameRows, place_in};
+ghost use Rattle.hippo_shared.specs.Needs.{first_needed};
+ghost use Rattle.hippo_examining.specs.Seen.{column_in, to_be_seen};
+ghost use Rattle.hippo_examining.specs.Examining.{ServesFirst};
+
+use crate::laws::needed_serves_first;
+use crate::stubs::{first_alone, first_changing};
+use hippo_model::{
+    Audit, ChoiceView, Exprs, Form, Masked, Query, Ref, Refs, RulesInForce, Sets, SharedTuple,
+};
+use hippo_rewrite::{mask_columns, rewrite};
+use hippo_shared::first_shared;
+use hippo_values::{Memory, Name, Sequence};
+use std::alloc::Global;
+
+// The place of a table among others, or their number where it is not among them.
+fn place_in(tables: &[Name], table: &Name) -> usize
+    ensures { result ≡ place_in tables.now table.now }
+{
+    let mut place = 0;
+    for other in tables {
+        if table == other {
+            return place;
+        }
+        place += 1;
+    }
+    place
+}
+
+// An audited column, by its table's place in the query.
+fn column_in(query: &[Name], audit: &[Name], column: Ref) -> Ref
+    ensures { result ≡ column_in query.now audit.now column }
+{
+    let table = match audit.get(column.table) {
+        Some(table) => place_in(query, table),
+        None => query.len(),
+    };
+    Ref {
+        table,
+        column: column.column,
+    }
+}
+
+fn columns_in(alloc: Global, query: &[Name], audit: &Audit) -> Result<Refs, Memory>
+    ensures { IfOk result (λ columns. columns ≡ map (column_in query.now audit.now.tables) audit.now.columns) }
+{
+    let tables = audit.tables.as_slice();
+    let mut columns = Sequence::new(alloc);
+    for column in audit.columns.as_slice() {
+        columns.push(column_in(query, tables, *column))?;
+    }
+    Ok(columns)
+}
+
+// What is to be seen of the query's rows, where the audit asks for cells that were shown.
+fn to_be_seen(
+    alloc: Global,
+    query: &Query,
+    audit: &Audit,
+    rules: &RulesInForce,
+) -> Result<Exprs, Memory>
+    ensures { IfOk result (λ seen. seen ≡ to_be_seen rules.now query.now audit.now) }
+{
+    if !audit.shown {
+        return Ok(Sequence::new(alloc));
+    }
+    let columns = columns_in(alloc, query.tables.as_slice(), audit)?;
+    mask_columns(alloc, &columns, rules)
+}
+
+// The first tuple that a query of this form needs and the audit has.
+fn first_needed<C: ChoiceView>(
+    alloc: Global,
+    form: &Form,
+    query: &Masked,
+    audit: &Audit,
+    seen: &Exprs,
+    query_sets: &Sets<'_>,
+    audit_sets: &Sets<'_>,
+    choices: &C,
+) -> Result<Option<SharedTuple>, Memory>
+    requires query_sets { length query_sets.now ≡ length query.now.tables }
+    requires audit_sets { length audit_sets.now ≡ length audit.now.tables }
+    requires tables { IsDistinct bytes_eq audit.now.tables }
+    requires rows { HaveSameRows query.now.tables query_sets.now audit.now.tables audit_sets.now }
+    ensures { IfOk result (λ shared. shared
+        ≡ first_needed (C.choices choices.now) query.now form.now audit.now seen.now query_sets.now audit_sets.now) }
+{
+    match form {
+        Form::Plain => first_shared(alloc, query, audit, seen, query_sets, audit_sets, choices),
+        Form::Distinct => first_alone(alloc, query, audit, seen, query_sets, audit_sets, choices),
+        Form::Grouped(shape) => first_changing(
+            alloc, query, shape, audit, seen, query_sets, audit_sets, choices,
+        ),
+    }
+}
+
+/// The first virtual tuple (a row of each table in both FROM lists, by its key; in the audit's order) that serves: that
+/// the query needs, as it was seen with the rules in force, and the audit needs, and, where the audit asks for cells
+/// that were shown, whose audited cells were; none exactly where none serves. Whether the query is a candidate is left
+/// to the caller. Wants the rules in force of the query's tables, the rows of each side's tables, in the order of FROM,
+/// the same ones of a table that both have, and an audit that names no table twice.
+pub fn shared_of<C: ChoiceView>(
+    alloc: Global,
+    query: &Query,
+    audit: &Audit,
+    rules: &RulesInForce,
+    query_sets: &Sets<'_>,
+    audit_sets: &Sets<'_>,
+    choices: &C,
+) -> Result<Option<SharedTuple>, Memory>
+    requires query_sets { length query_sets.now ≡ length query.now.tables }
+    requires audit_sets { length audit_sets.now ≡ length audit.now.tables }
+    requires tables { IsDistinct bytes_eq audit.now.tables }
+    requires rows { HaveSameRows query.now.tables query_sets.now audit.now.tables audit_sets.now }
+    ensures { IfOk result (λ shared. let choices = C.choices choices.now in
+        ServesFirst query.now audit.now rules.now query_sets.now audit_sets.now choices shared) }
+{
+    needed_serves_first();
+    let masked = rewrite(alloc, query, rules)?;
+    let seen = to_be_seen(alloc, query, audit, rules)?;
+    let form = &query.form;
+    let shared = first_needed(
+        alloc, form, &masked, audit, &seen, query_sets, audit_sets, choices,
+    );
+    drop(seen);
+    drop(masked);
+    shared
+}

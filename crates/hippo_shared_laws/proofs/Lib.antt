@@ -1,4 +1,0 @@
-pub mod QueryLemmas
-pub mod QueryTheorem
-pub mod SeenTheorem
-pub mod ServingTheorem
