@@ -1,5 +1,5 @@
 -- A line that takes memory may be answered by want of it.
-use Rattle.std.proofs.Common.{◌≡◌, inl, inr, refl, ap, sym, true, false, Option, Some, None, Ok, Err, List}
+use Rattle.std.proofs.Common.{◌≡◌, inl, inr, refl, ap, sym, true, Option, Ok, Err, List}
 use Rattle.std.specs.Prelude.{ℕ, int_lt, ok_or}
 use Rattle.hippo_model.specs.declared.audit.Pair.{Pair}
 use Rattle.hippo_model.specs.declared.entry.Act.{Act}

@@ -132,10 +132,7 @@ impl Engine {
                     text,
                 )
             }
-            Stmt::Explain(_)
-            | Stmt::Audit(_)
-            | Stmt::BeginAudit(_)
-            | Stmt::Watch(_) => {
+            Stmt::Explain(_) | Stmt::Audit(_) | Stmt::BeginAudit(_) | Stmt::Watch(_) => {
                 self.refuse_unbuilt(session, statement);
                 Ok(())
             }

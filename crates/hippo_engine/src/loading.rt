@@ -73,12 +73,7 @@ fn loaded_row(alloc: Global, schema: &Schema, text: &str) -> Result<Cells, Refus
 }
 
 // The INSERT of that row into a table.
-fn insert_into(
-    alloc: Global,
-    catalog: &Catalog,
-    table: Name,
-    text: &str,
-) -> Result<Stmt, Refusal>
+fn insert_into(alloc: Global, catalog: &Catalog, table: Name, text: &str) -> Result<Stmt, Refusal>
     ensures { Finds (λ insert. insert) (insert_of catalog.now.names table text.now) result }
 {
     match catalog.table(&table) {

@@ -1,5 +1,4 @@
 -- The entry is recorded, or the refusal told.
-use Rattle.std.proofs.Common.{refl}
 use Rattle.hippo_engine.proofs.CarryingLemmas.{Carries-quiet}
 use Rattle.hippo_engine.proofs.engine.Engine.record_found.Goals as goal
 

@@ -1,11 +1,7 @@
-use Rattle.std.proofs.Common.{◌≡◌, Bool, Some, Err, refl, ap, if◌then◌else◌}
+use Rattle.std.proofs.Common.{Bool, Err, refl, ap, if◌then◌else◌}
 use Rattle.hippo_report.specs.declared.refusal.Refusal.TheVariants.{NotBuilt}
-use Rattle.hippo_report.specs.Refusals.{refusal_line}
 use Rattle.hippo_world.specs.Holding.{world_of}
 use Rattle.hippo_commands.specs.Commands.{ask}
-use Rattle.hippo_engine.specs.Checks.{Checked}
-use Rattle.hippo_engine.specs.Deeds.{Deed}
-use Rattle.hippo_engine.specs.Effects.{only_reply, IsEffect}
 use Rattle.hippo_engine.specs.Judging.{deed_of}
 use Rattle.hippo_engine.specs.Ledgers.{none_taken}
 use Rattle.hippo_engine.proofs.ShortLemmas.{refused}
