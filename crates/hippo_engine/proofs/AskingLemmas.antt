@@ -26,10 +26,11 @@ use Rattle.hippo_world.specs.declared.sessions.Session.{Session}
 use Rattle.hippo_engine.specs.Deeds.{Deed, Question}
 use Rattle.hippo_engine.specs.Checks.{Checked, Finds, ◌>>=◌, open_session, authorized, meant, has_room}
 use Rattle.hippo_engine.specs.declared.asking.Asking.{Asking}
+use Rattle.hippo_engine.specs.declared.asking.Delivery.{Delivery}
 use Rattle.hippo_engine.specs.declared.asking.Handing.{Handing}
-use Rattle.hippo_engine.specs.declared.asking.Handing.TheVariants.{Rows, Cursor}
-use Rattle.hippo_engine.specs.Judging.{text_between, cursor_wanted, deed_for, judged_question, judged}
-use Rattle.hippo_engine.specs.Asking.{statement_asked, cursor_in_room, asking_with, deed_asked, IsAnswerable}
+use Rattle.hippo_engine.specs.declared.asking.Handing.TheVariants.{Rows, Records, Cursor}
+use Rattle.hippo_engine.specs.Judging.{text_between, delivery_for, deed_for, judged_question, judged}
+use Rattle.hippo_engine.specs.Asking.{statement_asked, delivery_in_room, asking_with, deed_asked, IsAnswerable}
 
 -- where nothing is refused, the form is meant
 pub meant_so : {A : Type 0} (faults : List NameFault) (form made : A) → faults ≡ [] → made ≡ form → meant faults form ≡ Ok made
@@ -46,11 +47,12 @@ meant_not (head ∷ more) form fault refusal first (inl (other, is)) =
     let told : Meaningless head ≡ refusal = ap Meaningless same ∙ sym is in
     inl (λ i. Err (told i))
 
--- a SELECT or an OPEN is judged as a question
+-- a SELECT, an EXTRACT or an OPEN is judged as a question
 pub judged_asked : (handing : Handing) (history : History) (world : World) (session : ℕ) (select : RawSelect) (start end : ℕ) (text : Txt)
     → judged history world (commands.state session (statement_asked handing select start end) text)
     ≡ judged_question handing history world session select (text_between text start end)
 judged_asked Rows history world session select start end text = refl
+judged_asked Records history world session select start end text = refl
 judged_asked Cursor history world session select start end text = refl
 
 front_none : {A : Type 0} (front rest : List A) → front ++ rest ≡ [] → front ≡ []
@@ -95,23 +97,23 @@ answerable state history select query stands none is =
       };
     }
 
--- a cursor and then room, or both at once
-cursor_then_room : (wanted : Checked (Option ℕ)) (room : Checked (Unit {0})) (deed : Option ℕ → Deed)
-    → (wanted >>= λ cursor. room >>= λ free. Ok (deed cursor)) ≡ ((wanted >>= λ cursor. room >>= λ free. Ok cursor) >>= λ cursor. Ok (deed cursor))
-cursor_then_room (Ok cursor) (Ok free) deed = refl
-cursor_then_room (Ok cursor) (Err refusal) deed = refl
-cursor_then_room (Err refusal) room deed = refl
+-- a way to hand out and then room, or both at once
+delivery_then_room : (wanted : Checked Delivery) (room : Checked (Unit {0})) (deed : Delivery → Deed)
+    → (wanted >>= λ delivery. room >>= λ free. Ok (deed delivery)) ≡ ((wanted >>= λ delivery. room >>= λ free. Ok delivery) >>= λ delivery. Ok (deed delivery))
+delivery_then_room (Ok delivery) (Ok free) deed = refl
+delivery_then_room (Ok delivery) (Err refusal) deed = refl
+delivery_then_room (Err refusal) room deed = refl
 
-with_found : (session : ℕ) (asking : Asking) (checked wanted : Checked (Option ℕ)) → Finds (λ cursor. cursor) checked wanted
-    → Finds (deed_asked session) (checked >>= λ cursor. Ok (deed_asked session (record asking { cursor = cursor }))) (asking_with asking wanted)
-with_found session asking checked (Ok cursor) is = ap (λ (c : Checked (Option ℕ)). c >>= λ cursor. Ok (deed_asked session (record asking { cursor = cursor }))) is
-with_found session asking checked (Err refusal) (inl is) = inl (ap (λ (c : Checked (Option ℕ)). c >>= λ cursor. Ok (deed_asked session (record asking { cursor = cursor }))) is)
+with_found : (session : ℕ) (asking : Asking) (checked wanted : Checked Delivery) → Finds (λ delivery. delivery) checked wanted
+    → Finds (deed_asked session) (checked >>= λ delivery. Ok (deed_asked session (record asking { delivery = delivery }))) (asking_with asking wanted)
+with_found session asking checked (Ok delivery) is = ap (λ (c : Checked Delivery). c >>= λ delivery. Ok (deed_asked session (record asking { delivery = delivery }))) is
+with_found session asking checked (Err refusal) (inl is) = inl (ap (λ (c : Checked Delivery). c >>= λ delivery. Ok (deed_asked session (record asking { delivery = delivery }))) is)
 with_found session asking checked (Err refusal) (inr short) = inr short
 
 module _ (handing : Handing) (history : History) (world : World) (session : ℕ) (select : RawSelect) (asking : Asking) where
   -- what follows once it is known who asks, that the asker is authorized, and what is meant
   left_asker : Checked Session → Checked Question → Checked Deed
-  left_asker opened found = found >>= λ question. opened >>= λ asker. cursor_wanted handing asker >>= λ cursor. has_room history world >>= λ room. Ok (deed_for asker question cursor)
+  left_asker opened found = found >>= λ question. opened >>= λ asker. delivery_for handing asker >>= λ delivery. has_room history world >>= λ room. Ok (deed_for asker question delivery)
 
   from_meant : Session → Checked Query → Checked Question
   from_meant asker meaning = meaning >>= λ query. Ok (record { session = session; user = asker.user; pair = asker.pair; text = asking.text.now; query = query })
@@ -124,22 +126,22 @@ module _ (handing : Handing) (history : History) (world : World) (session : ℕ)
       → authorized history asking.asker.now.user asking.asker.now.pair ≡ Ok allowed
       → meant (select_refused (known_at history) select) (query_of (known_at history) select) ≡ Ok asking.query
       → judged_question handing history world session select asking.text.now
-      ≡ (cursor_in_room handing asking.asker.now (length history) world.limit >>= λ cursor. Ok (deed_asked session (record asking { cursor = cursor })))
+      ≡ (delivery_in_room handing asking.asker.now (length history) world.limit >>= λ delivery. Ok (deed_asked session (record asking { delivery = delivery })))
   unfolding left_asker from_meant from_opened
   judged_found allowed opened may means =
       let asker : Session = asking.asker.now in
       ap from_opened opened
       ∙ ap (λ (may : Checked (Unit {0})). left_asker (Ok asker) (may >>= λ allowed. from_meant asker (meant (select_refused (known_at history) select) (query_of (known_at history) select)))) may
       ∙ ap (λ (meaning : Checked Query). left_asker (Ok asker) (from_meant asker meaning)) means
-      ∙ cursor_then_room (cursor_wanted handing asker) (has_room history world) (λ cursor. deed_asked session (record asking { cursor = cursor }))
+      ∙ delivery_then_room (delivery_for handing asker) (has_room history world) (λ delivery. deed_asked session (record asking { delivery = delivery }))
 
   -- a question is found as the checks say
-  pub question_found : (allowed : Unit {0}) (count : ℕ) (wanted : Checked (Option ℕ)) → open_session world session ≡ Ok asking.asker.now
+  pub question_found : (allowed : Unit {0}) (count : ℕ) (wanted : Checked Delivery) → open_session world session ≡ Ok asking.asker.now
       → authorized history asking.asker.now.user asking.asker.now.pair ≡ Ok allowed
       → meant (select_refused (known_at history) select) (query_of (known_at history) select) ≡ Ok asking.query
-      → count ≡ length history → Finds (λ cursor. cursor) (cursor_in_room handing asking.asker.now count world.limit) wanted
+      → count ≡ length history → Finds (λ delivery. delivery) (delivery_in_room handing asking.asker.now count world.limit) wanted
       → Finds (deed_asked session) (judged_question handing history world session select asking.text.now) (asking_with asking wanted)
   question_found allowed count wanted opened may means counted found =
-      let at_length = subst (λ (n : ℕ). Finds (λ cursor. cursor) (cursor_in_room handing asking.asker.now n world.limit) wanted) counted found in
+      let at_length = subst (λ (n : ℕ). Finds (λ delivery. delivery) (delivery_in_room handing asking.asker.now n world.limit) wanted) counted found in
       subst (λ (judged : Checked Deed). Finds (deed_asked session) judged (asking_with asking wanted)) (sym (judged_found allowed opened may means))
-      (with_found session asking (cursor_in_room handing asking.asker.now (length history) world.limit) wanted at_length)
+      (with_found session asking (delivery_in_room handing asking.asker.now (length history) world.limit) wanted at_length)

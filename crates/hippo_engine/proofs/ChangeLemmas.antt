@@ -1,6 +1,6 @@
 -- From the checks of a statement that changes something, and from recording its entry, to what carrying it out does.
-use Rattle.std.proofs.Common.{◌≡◌, ◌⊎◌, ◌∙◌, inl, inr, refl, sym, ap, subst, ℕ, Option, Some, None, Ok, Err, true, false}
-use Rattle.std.specs.Prelude.{ok_or, codes}
+use Rattle.std.proofs.Common.{◌≡◌, ◌⊎◌, ◌∙◌, inl, inr, refl, sym, ap, subst, ℕ, Option, Some, None, Result, Ok, Err, true, false}
+use Rattle.std.specs.Prelude.{ok_or, codes, OnOk, MatchResult}
 use Rattle.std.proofs.lemmas.Bool.{false≢true}
 use Rattle.hippo_values.specs.Texts.{Txt}
 use Rattle.hippo_model.specs.declared.entry.Entry.{Entry}
@@ -27,7 +27,7 @@ use Rattle.hippo_engine.specs.declared.engine.Engine.{Engine}
 use Rattle.hippo_engine.specs.declared.faults.EngineFault.{EngineFault}
 use Rattle.hippo_engine.specs.declared.faults.EngineFault.TheVariants.{Keeper}
 use Rattle.hippo_engine.specs.Carrying.{JobsFit, WatchesFit, IsQuiet, Carries}
-use Rattle.hippo_engine.specs.Changing.{IsChange, Changes, IsRefused, changed}
+use Rattle.hippo_engine.specs.Changing.{IsChange, FindsChange, Changes, IsRefused, changed}
 use Rattle.hippo_engine.specs.Checks.{Refuses, Checked, ◌>>=◌}
 use Rattle.hippo_engine.specs.Deeds.{Deed}
 use Rattle.hippo_engine.specs.Deeds as deeds
@@ -109,7 +109,7 @@ quiet_refusal command session refusal old new is state_is world_is said = record
     replied history why (inr told) = as_said history refusals.Memory told (short history (world_of old.world) command is.memory)
 
 -- a change that is refused
-pub refused_change : (session : ℕ) (statement : Stmt) (text : Txt) (refusal : Refusal) (engine : Engine) → changes_something statement ≡ true
+refused_change : (session : ℕ) (statement : Stmt) (text : Txt) (refusal : Refusal) (engine : Engine) → changes_something statement ≡ true
     → ((history : History) → StandsFor engine.state history
     → Refuses (judged_change history (world_of engine.world) session statement) refusal)
     → IsRefused (state session statement text) session refusal engine
@@ -125,8 +125,14 @@ next_is : (history : History) (world : World) (entry : Entry) → entry ≡ next
     → done history world (deeds.change entry.act) ≡ changed world entry
 next_is history world entry is = sym (ap (changed world) is)
 
+-- a command that is judged as a change adds its entry
+pub adds_change : (history : History) (world : World) (command : Command) (entry : Entry)
+    → IsChange history world (judged history world command) entry → effect_of history world command ≡ changed world entry
+adds_change history world command entry change =
+    ap (carried_out history world (who_commands command)) change.judged_so ∙ next_is history world entry change.next
+
 -- a change that adds an entry
-pub found_change : (session : ℕ) (statement : Stmt) (text : Txt) (entry : Entry) (engine : Engine) → changes_something statement ≡ true
+found_change : (session : ℕ) (statement : Stmt) (text : Txt) (entry : Entry) (engine : Engine) → changes_something statement ≡ true
     → session ≡ 0
     → ((history : History) → StandsFor engine.state history
     → IsChange history (world_of engine.world) (judged_change history (world_of engine.world) session statement) entry)
@@ -134,16 +140,23 @@ pub found_change : (session : ℕ) (statement : Stmt) (text : Txt) (entry : Entr
 found_change session statement text entry engine changes console found = record {
   who = ap Some console;
   memory = refl;
-  adds = λ history stands. effect history (found history stands);
+  adds = λ history stands.
+      adds_change history (world_of engine.world) (state session statement text) entry
+      (subst (λ (judgement : Checked Deed). IsChange history (world_of engine.world) judgement entry)
+      (sym (judged_as_change history (world_of engine.world) session statement text changes)) (found history stands));
 }
-  where
-    effect : (history : History)
-        → IsChange history (world_of engine.world) (judged_change history (world_of engine.world) session statement) entry
-        → effect_of history (world_of engine.world) (state session statement text) ≡ changed (world_of engine.world) entry
-    effect history change =
-        ap (carried_out history (world_of engine.world) (Some session))
-        (judged_as_change history (world_of engine.world) session statement text changes ∙ change.judged_so)
-        ∙ next_is history (world_of engine.world) entry change.next
+
+-- what the checks of a change found
+pub change_found : (session : ℕ) (statement : Stmt) (text : Txt) (engine : Engine) → changes_something statement ≡ true
+    → (found : Result Entry Refusal)
+    → ((history : History) → StandsFor engine.state history
+    → FindsChange history (world_of engine.world) (judged_change history (world_of engine.world) session statement) found)
+    → OnOk found (session ≡ 0)
+    → MatchResult found (λ entry. Changes (state session statement text) entry engine) (λ refusal. IsRefused (state session statement text) session refusal engine)
+change_found session statement text engine changes (Ok entry) finds console =
+    found_change session statement text entry engine changes console finds
+change_found session statement text engine changes (Err refusal) finds console =
+    refused_change session statement text refusal engine changes finds
 
 module _ (command : Command) (entry : Entry) (old new : Engine) (before after : KeeperState) (steps : ℕ) (changes : Changes command entry old) where
   -- a change that was recorded

@@ -8,5 +8,6 @@ pub mod LedgerLemmas
 pub mod CarryingLemmas
 mod LineLemmas
 mod ChangeLemmas
+mod LoadLemmas
 mod AskingLemmas
 mod QuestionLemmas

@@ -28,6 +28,8 @@ use Rattle.hippo_engine.specs.declared.engine.Engine.{Engine}
 use Rattle.hippo_engine.specs.declared.faults.EngineFault.{EngineFault}
 use Rattle.hippo_engine.specs.declared.faults.EngineFault.TheVariants.{Keeper}
 use Rattle.hippo_engine.specs.declared.asking.Asking.{Asking}
+use Rattle.hippo_engine.specs.declared.asking.Delivery.{Delivery}
+use Rattle.hippo_engine.specs.declared.asking.Delivery.TheVariants as delivered
 use Rattle.hippo_engine.specs.Checks.{Checked, ◌>>=◌, refused_if, open_session}
 use Rattle.hippo_engine.specs.Deeds.{Deed, Question, asked_by}
 use Rattle.hippo_engine.specs.Judging.{deed_for, judged}
@@ -198,18 +200,19 @@ module _ (session : ℕ) (statement : Stmt) (text : Txt) (asked_for : Asking) (o
   question = question_of session asked_for
 
   abbrev is_said : List ShownRow → Txt
-  is_said rows = within_limit session rows (answer_said session asked_for.cursor rows)
+  is_said rows = within_limit session rows (answer_said session asked_for.delivery rows)
 
   abbrev is_left : List ShownRow → World
-  is_left rows = world_left (world_of old.world) session asked_for.asker.now asked_for.cursor rows
+  is_left rows = world_left (world_of old.world) session asked_for.asker.now asked_for.delivery rows
 
-  is_question : (cursor : Option ℕ) → IsQuestion (world_of old.world) (deed_for asked_for.asker.now question cursor) question
-      (λ rows. within_limit session rows (answer_said session cursor rows)) (λ rows. world_left (world_of old.world) session asked_for.asker.now cursor rows)
-  is_question None = record { effect = λ history. refl; short = λ history reply result answer. answer }
-  is_question (Some cursor) = record { effect = λ history. refl; short = λ history reply result answer. answer }
+  is_question : (delivery : Delivery) → IsQuestion (world_of old.world) (deed_for asked_for.asker.now question delivery) question
+      (λ rows. within_limit session rows (answer_said session delivery rows)) (λ rows. world_left (world_of old.world) session asked_for.asker.now delivery rows)
+  is_question delivered.Rows = record { effect = λ history. refl; short = λ history reply result answer. answer }
+  is_question delivered.Records = record { effect = λ history. refl; short = λ history reply result answer. answer }
+  is_question (delivered.Cursor cursor) = record { effect = λ history. refl; short = λ history reply result answer. answer }
 
   says : session_at (world_of old.world) session ≡ Some asked_for.asker.now → (rows : List ShownRow)
-      → asking.IsHandedOut session asked_for.cursor rows new.reply (world_of old.world) (world_of new.world) ⊎ asking.IsShort session new.reply (world_of old.world) (world_of new.world)
+      → asking.IsHandedOut session asked_for.delivery rows new.reply (world_of old.world) (world_of new.world) ⊎ asking.IsShort session new.reply (world_of old.world) (world_of new.world)
       → SaysSo new is_said is_left rows ⊎ SaysShort asks_it old new
   says there rows (inl out) = inl (record { reply = out.said; world = out.left asked_for.asker.now there })
   says there rows (inr none) = inr (record { said = none.said; same = none.same })
@@ -217,17 +220,17 @@ module _ (session : ℕ) (statement : Stmt) (text : Txt) (asked_for : Asking) (o
   pub Carries-question : open_session (world_of old.world) session ≡ Ok asked_for.asker.now
       → ((history : History) → StandsFor old.state history → judged history (world_of old.world) asks_it ≡ Ok (deed_asked session asked_for))
       → (kept : KeptAnswer) → Asks (entry_of old.state old.world.clock question) (world_of old.world) question kept old.state new.state before after
-      → (result : Result (Unit {0}) EngineFault) → Replies session asked_for.cursor kept result new.reply (world_of old.world) (world_of new.world)
+      → (result : Result (Unit {0}) EngineFault) → Replies session asked_for.delivery kept result new.reply (world_of old.world) (world_of new.world)
       → Carries asks_it result old new before after steps steps
   Carries-question there judged_is (Ok answer) asks result replies =
       let at = found_session (session == 0) (session_at (world_of old.world) session) asked_for.asker.now there in
       subst (λ (r : Result (Unit {0}) EngineFault). Carries asks_it r old new before after steps steps) (sym replies.0)
-      (Carries-kept asks_it (deed_asked session asked_for) question is_said is_left old new before after steps refl sound judged_is (is_question asked_for.cursor) answer asks
+      (Carries-kept asks_it (deed_asked session asked_for) question is_said is_left old new before after steps refl sound judged_is (is_question asked_for.delivery) answer asks
       (λ rows answered. says at rows (replies.1 rows answered)))
   Carries-question there judged_is (Err KeeperMemory) asks result replies =
       subst (λ (r : Result (Unit {0}) EngineFault). Carries asks_it r old new before after steps steps) (sym replies.0.0)
-      (Carries-short asks_it (deed_asked session asked_for) question is_said is_left old new before after steps refl sound judged_is (is_question asked_for.cursor) asks
+      (Carries-short asks_it (deed_asked session asked_for) question is_said is_left old new before after steps refl sound judged_is (is_question asked_for.delivery) asks
       (record { said = replies.0.1; same = replies.1 }))
   Carries-question there judged_is (Err Failed) asks result replies =
       subst (λ (r : Result (Unit {0}) EngineFault). Carries asks_it r old new before after steps steps) (sym replies.0)
-      (Carries-failed asks_it (deed_asked session asked_for) question is_said is_left old new before after steps refl sound judged_is (is_question asked_for.cursor) asks)
+      (Carries-failed asks_it (deed_asked session asked_for) question is_said is_left old new before after steps refl sound judged_is (is_question asked_for.delivery) asks)

@@ -1,11 +1,12 @@
 -- Runs of a small clinic, computed. Each example is named by what it shows.
+use Rattle.csv.proofs.OnLiterals.{csv_on_literals}
 use Rattle.std.proofs.Common.{◌≡◌, pos, List, [], ◌∷◌, ◌++◌, Some, None, Ok, refl, codes}
 use Rattle.hippo_values.specs.Moments.{first_moment}
 use Rattle.hippo_values.specs.declared.values.Value.TheVariants.{Null, Int}
 use Rattle.hippo_model.specs.declared.cells.Cell.TheVariants.{Shown, Denied}
 use Rattle.hippo_model.specs.declared.entry.Act.TheVariants as acts
 use Rattle.hippo_model.specs.declared.name_fault.NameFault.TheVariants as faults
-use Rattle.hippo_model.specs.declared.statement.Stmt.TheVariants.{CreatePurpose, Insert, Delete, Select}
+use Rattle.hippo_model.specs.declared.statement.Stmt.TheVariants.{CreatePurpose, Insert, Delete, Select, Extract}
 use Rattle.hippo_model.specs.Terms.{History, ShownRow}
 use Rattle.hippo_model.proofs.Truths.{truths}
 use Rattle.hippo_model.proofs.ChangedOperands.{changes_of_operands}
@@ -16,13 +17,13 @@ use Rattle.hippo_engine.specs.Effects.{asked}
 use Rattle.hippo_values.specs.Texts.{Txt}
 use Rattle.std.specs.List.{flat_map}
 use Rattle.hippo_report.specs.declared.format.Format.TheVariants as formats
-use Rattle.hippo_report.specs.declared.refusal.Refusal.TheVariants.{NoSession, SessionOpen, NotAuthorized, ConsoleOnly, SessionsOnly, Meaningless, KeyThere, KeyMissing, NoCursor, HistoryFull, MomentBack, NotBuilt}
+use Rattle.hippo_report.specs.declared.refusal.Refusal.TheVariants.{NoSession, SessionOpen, NotAuthorized, ConsoleOnly, SessionsOnly, Meaningless, KeyThere, KeyMissing, NoCursor, HistoryFull, MomentBack, BadRecord, BadField, NotBuilt}
 use Rattle.hippo_report.specs.Cells.{answer_line}
 use Rattle.hippo_report.specs.Notices.{done_line, number_line}
 use Rattle.hippo_report.specs.Refusals.{refusal_line}
 use Rattle.hippo_world.specs.declared.cursors.Cursor.{Cursor}
 use Rattle.hippo_world.specs.Worlds.{World, opening, with_session, with_cursor, new_session}
-use Rattle.hippo_lines.specs.Forms.{logs_in, logs_out, fetches, closes, steps}
+use Rattle.hippo_lines.specs.Forms.{logs_in, logs_out, fetches, closes, steps, loads}
 use Rattle.hippo_commands.specs.Commands.{set_clock, ask, state}
 use Rattle.hippo_engine.proofs.ExampleLines.{run, left, morning, clinic, entry, world_within, nurses_pair, reply_in, reply_after, world_left, console, patient, treatment, nurse, question, all_rows, asked_for, rows_after, ok, rows, text, no, console_no}
 
@@ -132,6 +133,36 @@ closed_sessions_ask_nothing = refl
 the_clock_does_not_go_back :
     reply_after [] (set_clock (pos 1704182399)) ≡ refusal_line None (MomentBack (pos 1704182400))
 the_clock_does_not_go_back = refl
+
+-- EXTRACT SELECT name FROM patient asks the same question, for records
+names_are_to_be_extracted :
+    judged clinic (world_within 4000000) (state 1 (Extract (all_rows (codes "name" ∷ [])) 0 6) (codes "SELECT"))
+    ≡ Ok (deeds.extract (asked_for (1 ∷ [])))
+names_are_to_be_extracted = simp (changes_of_operands, comparisons_of)
+
+-- a record is loaded as a row; else its number of fields comes first, then their forms, and then what its INSERT is refused for
+records_are_inserted : reply_after [] (ask 0 (loads patient (codes "3,\"O'Hara, Pat\",,7"))) ≡ ok 8
+unfolding csv_on_literals
+records_are_inserted = refl
+
+few_fields_are_counted_first : reply_after [] (ask 0 (loads patient (codes "x"))) ≡ console_no (Meaningless (faults.WrongCount 4))
+unfolding csv_on_literals
+few_fields_are_counted_first = refl
+
+fields_have_their_columns_form : reply_after [] (ask 0 (loads patient (codes "1,Di,,x"))) ≡ console_no (BadField (codes "zip"))
+unfolding csv_on_literals
+fields_have_their_columns_form = refl
+
+loaded_keys_are_not_there : reply_after [] (ask 0 (loads patient (codes "1,Di,,"))) ≡ console_no (KeyThere 6)
+unfolding csv_on_literals
+loaded_keys_are_not_there = refl
+
+two_records_are_no_row : reply_after [] (ask 0 (loads patient (codes "3,a,,\r4,b,,"))) ≡ console_no BadRecord
+unfolding csv_on_literals
+two_records_are_no_row = refl
+
+sessions_load_nothing : reply_after [] (ask 1 (loads (codes "x") [])) ≡ no ConsoleOnly
+sessions_load_nothing = refl
 
 -- what is not carried out yet comes before who may do it
 steps_are_not_built : reply_after [] (ask 1 (steps 1 1)) ≡ no NotBuilt

@@ -1,5 +1,5 @@
 -- A line that takes memory may be answered by want of it.
-use Rattle.std.proofs.Common.{◌≡◌, inl, inr, refl, ap, sym, true, false, Option, Some, None, Ok, Err, List}
+use Rattle.std.proofs.Common.{◌≡◌, inl, inr, refl, ap, sym, true, Option, Ok, Err, List}
 use Rattle.std.specs.Prelude.{ℕ, int_lt, ok_or}
 use Rattle.hippo_model.specs.declared.audit.Pair.{Pair}
 use Rattle.hippo_model.specs.declared.entry.Act.{Act}
@@ -24,12 +24,14 @@ use Rattle.hippo_world.specs.Worlds.{World, at_number}
 use Rattle.hippo_lines.specs.Forms.{logs_in, logs_out, fetches, closes, steps, drops, unwatches, loads}
 use Rattle.hippo_commands.specs.Commands.{Command, nothing, wrong, ask, state, who_commands, takes_memory}
 use Rattle.hippo_commands.specs.Commands as commands
+use Rattle.hippo_engine.specs.declared.asking.Delivery.{Delivery}
+use Rattle.hippo_engine.specs.declared.asking.Delivery.TheVariants as delivered
 use Rattle.hippo_engine.specs.declared.asking.Handing.{Handing}
-use Rattle.hippo_engine.specs.declared.asking.Handing.TheVariants.{Rows, Cursor}
+use Rattle.hippo_engine.specs.declared.asking.Handing.TheVariants.{Rows, Records, Cursor}
 use Rattle.hippo_engine.specs.Deeds.{Deed, Question}
 use Rattle.hippo_engine.specs.Deeds as deeds
 use Rattle.hippo_engine.specs.Checks.{Checked, ◌>>=◌, refused_if, by_console, open_session, may_log_in, meant, act_made, has_room}
-use Rattle.hippo_engine.specs.Judging.{judged, judged_login, judged_fetch, judged_close, judged_wanted, judged_change, text_between, question_in, cursor_wanted, deed_for, judged_question}
+use Rattle.hippo_engine.specs.Judging.{judged, judged_login, judged_fetch, judged_close, judged_wanted, judged_change, insert_of, judged_load, text_between, question_in, delivery_for, deed_for, judged_question}
 use Rattle.hippo_engine.specs.Effects.{only_reply, carried_out, effect_of, IsShort, IsEffect}
 
 -- a judgement is no step of a job
@@ -57,24 +59,31 @@ change history world number statement =
     (λ console. meant refusals wanted >>= λ found. ok_or found BadSyntax >>= λ one. judged_wanted history world one)
     (λ console. check {A = Option Wanted} (meant refusals wanted) (λ found. ok_or found BadSyntax >>= λ one. judged_wanted history world one) (λ found. named history world found))
 
-cursor_step : (session : Session) (question : Question) (cursor : Option ℕ) → Stepless (Ok (deed_for session question cursor))
-cursor_step session question None = tt
-cursor_step session question (Some cursor) = tt
+load : (history : History) (world : World) (number : ℕ) (table : Name) (text : Txt) → Stepless (judged_load history world number table text)
+load history world number table text =
+    check {A = Unit {0}} (by_console number) (λ console. insert_of (known_at history) table text >>= λ insert. judged_change history world number insert)
+    (λ console. check {A = Stmt} (insert_of (known_at history) table text) (λ insert. judged_change history world number insert)
+    (λ insert. change history world number insert))
 
-cursor : (history : History) (world : World) (handing : Handing) (session : Session) (question : Question)
-    → Stepless (cursor_wanted handing session >>= λ cursor. has_room history world >>= λ room. Ok (deed_for session question cursor))
-cursor history world handing session question =
-    check {A = Option ℕ} (cursor_wanted handing session) (λ cursor. has_room history world >>= λ room. Ok (deed_for session question cursor))
-    (λ cursor. check {A = Unit {0}} (has_room history world) (λ room. Ok (deed_for session question cursor)) (λ room. cursor_step session question cursor))
+delivery_step : (session : Session) (question : Question) (delivery : Delivery) → Stepless (Ok (deed_for session question delivery))
+delivery_step session question delivered.Rows = tt
+delivery_step session question delivered.Records = tt
+delivery_step session question (delivered.Cursor cursor) = tt
+
+delivery : (history : History) (world : World) (handing : Handing) (session : Session) (question : Question)
+    → Stepless (delivery_for handing session >>= λ delivery. has_room history world >>= λ room. Ok (deed_for session question delivery))
+delivery history world handing session question =
+    check {A = Delivery} (delivery_for handing session) (λ delivery. has_room history world >>= λ room. Ok (deed_for session question delivery))
+    (λ delivery. check {A = Unit {0}} (has_room history world) (λ room. Ok (deed_for session question delivery)) (λ room. delivery_step session question delivery))
 
 question : (history : History) (world : World) (handing : Handing) (number : ℕ) (written : RawSelect) (text : Txt)
     → Stepless (judged_question handing history world number written text)
 question history world handing number written text =
     check {A = Question} (question_in history world number written text)
-    (λ question. open_session world number >>= λ session. cursor_wanted handing session >>= λ cursor. has_room history world >>= λ room. Ok (deed_for session question cursor))
+    (λ question. open_session world number >>= λ session. delivery_for handing session >>= λ delivery. has_room history world >>= λ room. Ok (deed_for session question delivery))
     (λ question. check {A = Session} (open_session world number)
-    (λ session. cursor_wanted handing session >>= λ cursor. has_room history world >>= λ room. Ok (deed_for session question cursor))
-    (λ session. cursor history world handing session question))
+    (λ session. delivery_for handing session >>= λ delivery. has_room history world >>= λ room. Ok (deed_for session question delivery))
+    (λ session. delivery history world handing session question))
 
 login : (history : History) (world : World) (number : ℕ) (user : Name) (pair : Pair) → Stepless (judged_login history world number user pair)
 login history world number user pair =
@@ -104,12 +113,13 @@ stepless history world (ask number (closes cursor)) = close world number cursor
 stepless history world (ask number (steps job count)) = tt
 stepless history world (ask number (drops job)) = tt
 stepless history world (ask number (unwatches watch)) = tt
-stepless history world (ask number (loads table text)) = tt
+stepless history world (ask number (loads table text)) = load history world number table text
 stepless history world (state number (stmt.Select written start end) text) =
     question history world Rows number written (text_between text start end)
 stepless history world (state number (stmt.Ask written start end) text) =
     question history world Cursor number written (text_between text start end)
-stepless history world (state number (stmt.Extract written start end) text) = tt
+stepless history world (state number (stmt.Extract written start end) text) =
+    question history world Records number written (text_between text start end)
 stepless history world (state number (stmt.Explain question) text) = tt
 stepless history world (state number (stmt.Audit audit) text) = tt
 stepless history world (state number (stmt.BeginAudit audit) text) = tt

@@ -1,5 +1,5 @@
 -- What is found where a question may be asked, and what keeping and answering it does.
-use Rattle.std.specs.Prelude.{◌≡◌, ◌⊎◌, ℕ, ◌+◌, false, nat_le, nat_lt, length, if◌then◌else◌, List, [], ◌∷◌, ◌++◌, Option, Some, None, Result, Ok, Err, IfOk, OnOk, OnErr, codes}
+use Rattle.std.specs.Prelude.{◌≡◌, ◌⊎◌, ℕ, ◌+◌, nat_le, nat_lt, length, if◌then◌else◌, List, [], ◌∷◌, ◌++◌, Some, Result, Ok, Err, IfOk, OnOk, OnErr, codes}
 use Rattle.hippo_values.specs.Texts.{Txt}
 use Rattle.hippo_values.specs.declared.moments.Moment.{Moment}
 use Rattle.hippo_model.specs.declared.entry.Entry.{Entry}
@@ -9,6 +9,7 @@ use Rattle.hippo_model.specs.declared.statement.Stmt.{Stmt}
 use Rattle.hippo_model.specs.declared.statement.Stmt.TheVariants as stmt
 use Rattle.hippo_model.specs.Terms.{History, ShownRow}
 use Rattle.hippo_report.specs.declared.refusal.Refusal.TheVariants.{HistoryFull, Memory}
+use Rattle.hippo_csv.specs.Records.{extract_line}
 use Rattle.hippo_report.specs.Cells.{answer_line}
 use Rattle.hippo_report.specs.Notices.{number_line}
 use Rattle.hippo_report.specs.Refusals.{refusal_line}
@@ -24,13 +25,15 @@ use Rattle.hippo_replay.specs.Recording.{Keeps}
 use Rattle.hippo_world.specs.declared.sessions.Session.{Session}
 use Rattle.hippo_world.specs.Worlds.{World, session_at, with_session, with_cursor, new_cursor}
 use Rattle.hippo_engine.specs.declared.asking.Asking.{Asking}
+use Rattle.hippo_engine.specs.declared.asking.Delivery.{Delivery}
+use Rattle.hippo_engine.specs.declared.asking.Delivery.TheVariants as delivered
 use Rattle.hippo_engine.specs.declared.asking.Handing.{Handing}
-use Rattle.hippo_engine.specs.declared.asking.Handing.TheVariants.{Rows, Cursor}
+use Rattle.hippo_engine.specs.declared.asking.Handing.TheVariants.{Rows, Records, Cursor}
 use Rattle.hippo_engine.specs.declared.faults.EngineFault.{EngineFault}
 use Rattle.hippo_engine.specs.declared.faults.EngineFault.TheVariants.{Keeper}
 use Rattle.hippo_engine.specs.Checks.{Checked, ◌>>=◌, refused_if}
 use Rattle.hippo_engine.specs.Deeds.{Deed, Question, asked_by}
-use Rattle.hippo_engine.specs.Judging.{cursor_wanted, deed_for}
+use Rattle.hippo_engine.specs.Judging.{delivery_for, deed_for}
 use Rattle.hippo_engine.specs.Effects.{row_limit, question_rows, within_limit, listed}
 
 -- the question that is asked in a session, whose asker and text are lent
@@ -46,22 +49,23 @@ question_of session asking = record {
 -- the statement that asks so
 abbrev pub statement_asked : Handing → RawSelect → ℕ → ℕ → Stmt
 statement_asked Rows select start end = stmt.Select select start end
+statement_asked Records select start end = stmt.Extract select start end
 statement_asked Cursor select start end = stmt.Ask select start end
 
--- the cursor that a question wants, where there is room for one entry more
-abbrev pub cursor_in_room : Handing → Session → ℕ → ℕ → Checked (Option ℕ)
-cursor_in_room handing session count limit = do
-  cursor ← cursor_wanted handing session
+-- how an answer is handed out, where there is room for one entry more
+abbrev pub delivery_in_room : Handing → Session → ℕ → ℕ → Checked Delivery
+delivery_in_room handing session count limit = do
+  delivery ← delivery_for handing session
   room ← refused_if (nat_le limit count) HistoryFull
-  Ok cursor
+  Ok delivery
 
-abbrev pub asking_with : Asking → Checked (Option ℕ) → Checked Asking
-asking_with asking (Ok cursor) = Ok (record asking { cursor = cursor })
+abbrev pub asking_with : Asking → Checked Delivery → Checked Asking
+asking_with asking (Ok delivery) = Ok (record asking { delivery = delivery })
 asking_with asking (Err refusal) = Err refusal
 
 -- what is to be done for a question that was found
 abbrev pub deed_asked : ℕ → Asking → Deed
-deed_asked session asking = deed_for asking.asker.now (question_of session asking) asking.cursor
+deed_asked session asking = deed_for asking.asker.now (question_of session asking) asking.delivery
 
 -- a query that a state can answer: its tables are kept
 pub record IsAnswerable (state : State) (query : Query) : Type 0 where
@@ -94,33 +98,35 @@ abbrev pub IsUnkept : KeeperFault → ℕ → Result (Unit {0}) EngineFault → 
 IsUnkept Failed session result reply = result ≡ Err Keeper
 IsUnkept KeeperMemory session result reply = (result ≡ Ok tt) × (reply ≡ short_line session)
 
--- what is said of an answer: its rows, or the number of the cursor that holds them
-abbrev pub answer_said : ℕ → Option ℕ → List ShownRow → Txt
-answer_said number None rows = listed number (answer_line number) rows
-answer_said number (Some cursor) rows = number_line number (codes "cursor") cursor
+-- what is said of an answer: its rows, as rows or as records, or the number of the cursor that holds them
+abbrev pub answer_said : ℕ → Delivery → List ShownRow → Txt
+answer_said number delivered.Rows rows = listed number (answer_line number) rows
+answer_said number delivered.Records rows = listed number (extract_line number) rows
+answer_said number (delivered.Cursor cursor) rows = number_line number (codes "cursor") cursor
 
 -- the world behind it: a cursor of the session holds an answer that has not too many rows, if one is to hold it
-abbrev pub world_left : World → ℕ → Session → Option ℕ → List ShownRow → World
-world_left world number session None rows = world
-world_left world number session (Some cursor) rows =
+abbrev pub world_left : World → ℕ → Session → Delivery → List ShownRow → World
+world_left world number session delivered.Rows rows = world
+world_left world number session delivered.Records rows = world
+world_left world number session (delivered.Cursor cursor) rows =
     if nat_lt row_limit (length rows) then world
     else with_session world number (Some (with_cursor session cursor (Some (new_cursor rows))))
 
 -- an answer is handed out; or memory was short, and nothing changes
-pub record IsHandedOut (number : ℕ) (cursor : Option ℕ) (rows : List ShownRow) (reply : Txt)
+pub record IsHandedOut (number : ℕ) (delivery : Delivery) (rows : List ShownRow) (reply : Txt)
     (old new : World) : Type 0 where
-  pub said : reply ≡ within_limit number rows (answer_said number cursor rows)
+  pub said : reply ≡ within_limit number rows (answer_said number delivery rows)
   pub left : (session : Session) → session_at old number ≡ Some session
-      → new ≡ world_left old number session cursor rows
+      → new ≡ world_left old number session delivery rows
 
 pub record IsShort (number : ℕ) (reply : Txt) (old new : World) : Type 0 where
   pub said : reply ≡ short_line number
   pub same : new ≡ old
 
 -- the reply to a question, by what keeping and answering it came to
-abbrev pub Replies : ℕ → Option ℕ → KeptAnswer → Result (Unit {0}) EngineFault → Txt → World → World → Type 0
-Replies number cursor (Ok answer) result reply old new =
+abbrev pub Replies : ℕ → Delivery → KeptAnswer → Result (Unit {0}) EngineFault → Txt → World → World → Type 0
+Replies number delivery (Ok answer) result reply old new =
     (result ≡ Ok tt) × ((rows : List ShownRow) → IsAnswered row_limit rows answer
-    → IsHandedOut number cursor rows reply old new ⊎ IsShort number reply old new)
-Replies number cursor (Err fault) result reply old new =
+    → IsHandedOut number delivery rows reply old new ⊎ IsShort number reply old new)
+Replies number delivery (Err fault) result reply old new =
     IsUnkept fault number result reply × (new ≡ old)

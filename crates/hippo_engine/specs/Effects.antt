@@ -15,6 +15,7 @@ use Rattle.hippo_model.specs.Audits.{shared, flags_between}
 use Rattle.hippo_model.specs.Denials.{Denial, denials}
 use Rattle.hippo_typing.specs.Meanings.{meaning}
 use Rattle.hippo_report.specs.declared.refusal.Refusal.TheVariants.{TooManyRows, Memory}
+use Rattle.hippo_csv.specs.Records.{extract_line}
 use Rattle.hippo_report.specs.Cells.{answer_line, denied_line}
 use Rattle.hippo_report.specs.Flags.{flag_line, tuple_text}
 use Rattle.hippo_report.specs.Notices.{done_line, number_line}
@@ -27,7 +28,6 @@ use Rattle.hippo_engine.specs.Deeds.{Deed, Question, asked_by}
 use Rattle.hippo_engine.specs.Deeds as deeds
 use Rattle.hippo_engine.specs.Checks.{Checked}
 use Rattle.hippo_engine.specs.Judging.{judged}
-use Rattle.hippo_engine.specs.Records.{extract_line}
 
 -- what a line leaves: its reply, the entries that it adds to the history, and the world after it
 pub record Effect : Type 0 where

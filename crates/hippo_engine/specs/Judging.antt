@@ -1,13 +1,12 @@
 -- What is to be done for a command, or the first refusal that holds.
-use Rattle.std.specs.Prelude.{ℕ, ◌-◌, ◌==◌, ℤ, Bool, true, false, not, int_lt, List, take, drop, length, filter_map, position, slice_get, Option, Some, None, option_map, option_and_then, is_some, is_none, Ok, Err, ok_or, if◌then◌else◌}
+use Rattle.std.specs.Prelude.{ℕ, ◌-◌, ℤ, Bool, true, false, int_lt, [], take, drop, length, slice_get, option_map, Ok, Err, ok_or, if◌then◌else◌}
 use Rattle.std.specs.Option.{option_map_or}
+use Rattle.std.specs.Result.{result_map_both}
 use Rattle.hippo_values.specs.Texts.{Txt}
 use Rattle.hippo_values.specs.declared.names.Name.{Name}
-use Rattle.hippo_values.specs.declared.values.Value.{Value}
 use Rattle.hippo_model.specs.declared.audit.Audit.{Audit}
 use Rattle.hippo_model.specs.declared.audit.Pair.{Pair}
 use Rattle.hippo_model.specs.declared.name_fault.NameFault.TheVariants as faults
-use Rattle.hippo_model.specs.declared.schema.Column.{Column}
 use Rattle.hippo_model.specs.declared.schema.Schema.{Schema}
 use Rattle.hippo_model.specs.declared.statement.RawAudit.{RawAudit}
 use Rattle.hippo_model.specs.declared.statement.RawSelect.{RawSelect}
@@ -15,25 +14,31 @@ use Rattle.hippo_model.specs.declared.statement.Stmt.{Stmt}
 use Rattle.hippo_model.specs.declared.statement.Stmt.TheVariants as stmt
 use Rattle.hippo_model.specs.declared.statement.Wanted.{Wanted}
 use Rattle.hippo_model.specs.Terms.{History, Row}
-use Rattle.hippo_catalog.specs.Catalogs.{known_at, table_of}
+use Rattle.hippo_catalog.specs.Catalogs.{KnownNames, known_at, table_of}
 use Rattle.hippo_catalog.specs.Selects.{select_refused, query_of}
 use Rattle.hippo_catalog.specs.AuditExpressions.{audit_refused, audit_of}
-use Rattle.hippo_catalog.specs.ChangesRefused.{change_refused, insert_refused}
+use Rattle.hippo_catalog.specs.ChangesRefused.{change_refused}
 use Rattle.hippo_catalog.specs.ChangesWanted.{wanted_by}
 use Rattle.hippo_tables.specs.Finished.{finished}
-use Rattle.hippo_report.specs.declared.refusal.Refusal.TheVariants.{BadSyntax, MomentBack, Meaningless, CursorLimit, NoCursor, JobLimit, NoJob, NoSuchQuery, BadRecord, BadField, WatchLimit, NoWatch, NotBuilt}
+use Rattle.hippo_csv.specs.declared.faults.CsvFault.{CsvFault}
+use Rattle.hippo_csv.specs.declared.faults.CsvFault.TheVariants as csv
+use Rattle.hippo_csv.specs.Records.{record_fields}
+use Rattle.hippo_csv.specs.Loading.{row_of_fields}
+use Rattle.hippo_report.specs.declared.refusal.Refusal.{Refusal}
+use Rattle.hippo_report.specs.declared.refusal.Refusal.TheVariants.{BadSyntax, MomentBack, Meaningless, CursorLimit, NoCursor, JobLimit, NoJob, NoSuchQuery, BadRecord, BadField, WatchLimit, NoWatch, Memory, NotBuilt}
 use Rattle.hippo_world.specs.declared.sessions.Session.{Session}
 use Rattle.hippo_world.specs.Worlds.{World, at_number, free_number}
 use Rattle.hippo_commands.specs.Moments.{period_in}
 use Rattle.hippo_lines.specs.Forms.{Request, logs_in, logs_out, fetches, closes, steps, drops, unwatches, loads}
 use Rattle.hippo_commands.specs.Commands.{Command, nothing, wrong, ask, state}
 use Rattle.hippo_commands.specs.Commands as commands
+use Rattle.hippo_engine.specs.declared.asking.Delivery.{Delivery}
+use Rattle.hippo_engine.specs.declared.asking.Delivery.TheVariants as delivered
 use Rattle.hippo_engine.specs.declared.asking.Handing.{Handing}
-use Rattle.hippo_engine.specs.declared.asking.Handing.TheVariants.{Rows, Cursor}
+use Rattle.hippo_engine.specs.declared.asking.Handing.TheVariants.{Rows, Records, Cursor}
 use Rattle.hippo_engine.specs.Deeds.{Deed, Question}
 use Rattle.hippo_engine.specs.Deeds as deeds
 use Rattle.hippo_engine.specs.Checks.{Checked, ◌>>=◌, refused_if, by_console, open_session, may_log_in, authorized, meant, act_made, has_room, question_at}
-use Rattle.hippo_engine.specs.Records.{record_fields, field_values}
 
 -- the clock does not go back
 abbrev pub judged_clock : World → ℤ → Checked Deed
@@ -92,32 +97,35 @@ judged_change history world number statement = do
   wanted ← ok_or change BadSyntax
   judged_wanted history world wanted
 
--- the name of the first column whose field is not of its form
-abbrev pub bad_field : Schema → List (Option Value) → Checked (Unit {0})
-bad_field schema values =
-    let refuse : Column → Checked (Unit {0}) = λ column. Err (BadField column.name) in
-    option_map_or refuse (option_and_then (slice_get schema.columns) (position is_none values)) (Ok tt)
+-- the name of the column at a place
+abbrev pub name_at : Schema → ℕ → Name
+name_at schema place = option_map_or (λ column. column.name) (slice_get schema.columns place) []
 
-abbrev pub right_count : Schema → List Txt → Checked (Unit {0})
-right_count schema fields =
-    let columns : ℕ = length schema.columns in
-    refused_if (not (length fields == columns)) (Meaningless (faults.WrongCount columns))
+-- why the fields of a record are no row of a table
+abbrev pub record_refusal : Schema → CsvFault → Refusal
+record_refusal schema csv.Count = Meaningless (faults.WrongCount (length schema.columns))
+record_refusal schema (csv.Field place) = BadField (name_at schema place)
+record_refusal schema csv.Memory = Memory
 
--- a record for a table: its fields, their number and forms, and then what an INSERT of the values is refused for
+-- the row of a table that a text is, as one record
 abbrev pub loaded_row : Schema → Txt → Checked Row
 loaded_row schema text = do
   fields ← ok_or (record_fields text) BadRecord
-  counted ← right_count schema fields
-  formed ← bad_field schema (field_values schema fields)
-  meant (insert_refused (filter_map (λ value. value) (field_values schema fields)) schema)
-      (filter_map (λ value. value) (field_values schema fields))
+  result_map_both (λ row. row) (record_refusal schema) (row_of_fields schema fields)
 
+-- the INSERT of that row
+abbrev pub insert_of : KnownNames → Name → Txt → Checked Stmt
+insert_of known table text = do
+  schema ← ok_or (table_of known table) (Meaningless (faults.UnknownTable table))
+  row ← loaded_row schema text
+  Ok (stmt.Insert table row)
+
+-- a record that is loaded into a table is judged as its INSERT
 abbrev pub judged_load : History → World → ℕ → Name → Txt → Checked Deed
 judged_load history world number table text = do
   console ← by_console number
-  schema ← ok_or (table_of (known_at history) table) (Meaningless (faults.UnknownTable table))
-  row ← loaded_row schema text
-  judged_change history world number (stmt.Insert table row)
+  insert ← insert_of (known_at history) table text
+  judged_change history world number insert
 
 -- the text of a question, from its first byte to its last
 abbrev pub text_between : Txt → ℕ → ℕ → Txt
@@ -131,29 +139,25 @@ question_in history world number select text = do
   query ← meant (select_refused (known_at history) select) (query_of (known_at history) select)
   Ok (record { session = number; user = session.user; pair = session.pair; text = text; query = query })
 
--- the number of the cursor that is to hold an answer: an OPEN wants one of its session, a SELECT none
-abbrev pub cursor_wanted : Handing → Session → Checked (Option ℕ)
-cursor_wanted Rows session = Ok None
-cursor_wanted Cursor session = ok_or (option_map Some (free_number session.cursors)) CursorLimit
+-- how an answer is handed out: an OPEN wants a free cursor of its session
+abbrev pub delivery_for : Handing → Session → Checked Delivery
+delivery_for Rows session = Ok delivered.Rows
+delivery_for Records session = Ok delivered.Records
+delivery_for Cursor session = ok_or (option_map delivered.Cursor (free_number session.cursors)) CursorLimit
 
-abbrev pub deed_for : Session → Question → Option ℕ → Deed
-deed_for session question None = deeds.answer question
-deed_for session question (Some cursor) = deeds.open_cursor session cursor question
+abbrev pub deed_for : Session → Question → Delivery → Deed
+deed_for session question delivered.Rows = deeds.answer question
+deed_for session question delivered.Records = deeds.extract question
+deed_for session question (delivered.Cursor number) = deeds.open_cursor session number question
 
--- a SELECT or an OPEN
+-- a SELECT, an EXTRACT or an OPEN
 abbrev pub judged_question : Handing → History → World → ℕ → RawSelect → Txt → Checked Deed
 judged_question handing history world number select text = do
   question ← question_in history world number select text
   session ← open_session world number
-  cursor ← cursor_wanted handing session
+  delivery ← delivery_for handing session
   room ← has_room history world
-  Ok (deed_for session question cursor)
-
-abbrev pub judged_extract : History → World → ℕ → RawSelect → Txt → Checked Deed
-judged_extract history world number select text = do
-  question ← question_in history world number select text
-  room ← has_room history world
-  Ok (deeds.extract question)
+  Ok (deed_for session question delivery)
 
 abbrev pub judged_explain : History → ℕ → ℤ → Checked Deed
 judged_explain history number question = do
@@ -188,7 +192,7 @@ judged_statement history world number (stmt.Select select start end) text =
 judged_statement history world number (stmt.Ask select start end) text =
     judged_question Cursor history world number select (text_between text start end)
 judged_statement history world number (stmt.Extract select start end) text =
-    judged_extract history world number select (text_between text start end)
+    judged_question Records history world number select (text_between text start end)
 judged_statement history world number (stmt.Explain question) text = judged_explain history number question
 judged_statement history world number (stmt.Audit audit) text = judged_audit history number audit
 judged_statement history world number (stmt.BeginAudit audit) text = judged_begin history world number audit
@@ -197,7 +201,6 @@ judged_statement history world number statement text = judged_change history wor
 
 -- what is carried out so far
 abbrev pub is_statement_built : Stmt → Bool
-is_statement_built (stmt.Extract select start end) = false
 is_statement_built (stmt.Explain question) = false
 is_statement_built (stmt.Audit audit) = false
 is_statement_built (stmt.BeginAudit audit) = false
@@ -208,7 +211,6 @@ abbrev pub is_request_built : Request → Bool
 is_request_built (steps job count) = false
 is_request_built (drops job) = false
 is_request_built (unwatches watch) = false
-is_request_built (loads table text) = false
 is_request_built request = true
 
 abbrev pub is_built : Command → Bool

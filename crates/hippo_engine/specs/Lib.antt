@@ -1,6 +1,5 @@
 pub mod Deeds
 pub mod Checks
-pub mod Records
 pub mod Judging
 pub mod Effects
 pub mod Ledgers

@@ -1,5 +1,5 @@
 //! Questions of sessions: what is asked, or why it may not be.
-ghost use Rattle.std.specs.Prelude.{◌≡◌, ◌⊎◌, ◌≢◌, ◌+◌, ◌<◌, ◌^◌, true, nat_le, ok_or, option_map, Some as Has};
+ghost use Rattle.std.specs.Prelude.{◌≡◌, ◌⊎◌, ◌≢◌, ◌+◌, ◌<◌, ◌^◌, true, nat_le, ok_or, option_map};
 ghost use Rattle.std.specs.Prelude.{MatchResult, IfOk, OnOk, Ok as Good, Err as Bad};
 ghost use Rattle.hippo_model.specs.Terms.{History};
 ghost use Rattle.hippo_model.specs.declared.name_fault.NameFault.TheVariants.{Memory as NoRoom};
@@ -14,8 +14,9 @@ ghost use Rattle.hippo_world.specs.Worlds.{free_number};
 ghost use Rattle.hippo_world.specs.Holding.{world_of};
 ghost use Rattle.hippo_commands.specs.Commands.{state as command};
 ghost use Rattle.hippo_engine.specs.Checks.{Finds, refused_if, open_session, meant};
-ghost use Rattle.hippo_engine.specs.Judging.{text_between, question_in, cursor_wanted, judged_question, judged};
-ghost use Rattle.hippo_engine.specs.Asking.{IsAnswerable, statement_asked, cursor_in_room, asking_with, deed_asked};
+ghost use Rattle.hippo_engine.specs.declared.asking.Delivery.TheVariants as delivered;
+ghost use Rattle.hippo_engine.specs.Judging.{text_between, question_in, delivery_for, judged_question, judged};
+ghost use Rattle.hippo_engine.specs.Asking.{IsAnswerable, statement_asked, delivery_in_room, asking_with, deed_asked};
 
 use crate::refusals::{check_room, name_refusal};
 use crate::session_checks::{check_allowed, open_session};
@@ -26,21 +27,29 @@ use hippo_typing::resolve_select;
 use hippo_world::{Session, World};
 use std::alloc::Global;
 
-/// How the answer of a question is handed out: its rows are the reply, or a cursor holds them.
+/// What a question wants its answer to be: rows or records, which are the reply, or a cursor that holds it.
 #[derive(Clone, Copy, Debug, PartialEq, Eq)]
 pub enum Handing {
     Rows,
+    Records,
     Cursor,
 }
 
-/// A question that may be asked: by whom, its text, the query that it means, and the number of the cursor that is to
-/// hold its answer, if one is.
+/// How an answer is handed out: as wanted, with the number of the cursor that is to hold it.
+#[derive(Clone, Copy, Debug, PartialEq, Eq)]
+pub enum Delivery {
+    Rows,
+    Records,
+    Cursor(u8),
+}
+
+/// A question that may be asked: by whom, its text, the query that it means, and how its answer is handed out.
 #[derive(Drop)]
 pub struct Asking<'a> {
     pub asker: &'a Session,
     pub text: &'a str,
     pub query: Query,
-    pub cursor: Option<u8>,
+    pub delivery: Delivery,
 }
 
 // Who asks in a session.
@@ -66,17 +75,17 @@ fn meaning(alloc: Global, state: &State, select: &RawSelect) -> Result<Query, Re
 }
 
 // A number that a cursor may have; one that none has is answered by want of memory.
-fn cursor_number(number: usize) -> Result<Option<u8>, Refusal>
-    ensures { MatchResult result (λ cursor. cursor ≡ Has number) (λ refusal. refusal ≡ NoMemory) }
+fn cursor_number(number: usize) -> Result<Delivery, Refusal>
+    ensures { MatchResult result (λ delivery. delivery ≡ delivered.Cursor number) (λ refusal. refusal ≡ NoMemory) }
 {
     match u8::try_from(number) {
-        Ok(number) => Ok(Some(number)),
+        Ok(number) => Ok(Delivery::Cursor(number)),
         Err(_) => Err(Refusal::Memory),
     }
 }
 
-fn free_cursor(asker: &Session) -> Result<Option<u8>, Refusal>
-    ensures { Finds (λ cursor. cursor) (cursor_wanted Handing.Cursor asker.now) result }
+fn free_cursor(asker: &Session) -> Result<Delivery, Refusal>
+    ensures { Finds (λ delivery. delivery) (delivery_for Handing.Cursor asker.now) result }
 {
     match asker.cursors.free() {
         Some(number) => cursor_number(number),
@@ -84,40 +93,41 @@ fn free_cursor(asker: &Session) -> Result<Option<u8>, Refusal>
     }
 }
 
-// The number of the cursor that is to hold an answer, if one is.
-fn cursor_wanted(handing: Handing, asker: &Session) -> Result<Option<u8>, Refusal>
-    ensures { Finds (λ cursor. cursor) (cursor_wanted handing asker.now) result }
+// How an answer is handed out.
+fn delivery_for(handing: Handing, asker: &Session) -> Result<Delivery, Refusal>
+    ensures { Finds (λ delivery. delivery) (delivery_for handing asker.now) result }
 {
     match handing {
-        Handing::Rows => Ok(None),
+        Handing::Rows => Ok(Delivery::Rows),
+        Handing::Records => Ok(Delivery::Records),
         Handing::Cursor => free_cursor(asker),
     }
 }
 
 // The same, where the history has room for an entry more.
-fn cursor_in_room(
+fn delivery_in_room(
     handing: Handing,
     asker: &Session,
     count: u64,
     limit: u32,
-) -> Result<Option<u8>, Refusal>
-    ensures found { Finds (λ cursor. cursor) (cursor_in_room handing asker.now count limit) result }
+) -> Result<Delivery, Refusal>
+    ensures found { Finds (λ delivery. delivery) (delivery_in_room handing asker.now count limit) result }
     ensures below { OnOk result (count + 1 < 2 ^ 63) }
 {
-    let cursor = cursor_wanted(handing, asker)?;
+    let delivery = delivery_for(handing, asker)?;
     check_room(count, limit)?;
-    Ok(cursor)
+    Ok(delivery)
 }
 
-// A question with its cursor's number; it falls where that is refused.
-fn with_cursor(
+// A question whose answer is handed out so; it falls where that is refused.
+fn with_delivery(
     asking: Asking<'_>,
-    cursor: Result<Option<u8>, Refusal>,
+    delivery: Result<Delivery, Refusal>,
 ) -> Result<Asking<'_>, Refusal>
-    ensures { result ≡ asking_with asking.entry cursor }
+    ensures { result ≡ asking_with asking.entry delivery }
 {
-    match cursor {
-        Ok(cursor) => Ok(Asking { cursor, ..asking }),
+    match delivery {
+        Ok(delivery) => Ok(Asking { delivery, ..asking }),
         Err(refusal) => Err(refusal),
     }
 }
@@ -142,14 +152,14 @@ fn question<'a>(
     let asker = asker(world, session)?;
     check_allowed(state, &asker.user, &asker.pair)?;
     let query = meaning(alloc, state, select)?;
-    let cursor = cursor_in_room(handing, asker, state.count, world.limit);
+    let delivery = delivery_in_room(handing, asker, state.count, world.limit);
     let asking = Asking {
         asker,
         text,
         query,
-        cursor: None,
+        delivery: Delivery::Rows,
     };
-    with_cursor(asking, cursor)
+    with_delivery(asking, delivery)
 }
 
 // The text of a question; one that cannot be cut out is answered by want of memory.
@@ -162,7 +172,7 @@ fn cut(text: &str, start: usize, end: usize) -> Result<&str, Refusal>
     }
 }
 
-/// What a SELECT or an OPEN asks, or why it may not be asked: its session has to be open, its user still authorized,
+/// What a SELECT, an EXTRACT or an OPEN asks, or why it may not be asked: its session has to be open, its user still authorized,
 /// its names and types have to mean something, an OPEN's session has to have a cursor left, and the history has to have
 /// room. Want of memory may refuse it, too.
 pub fn asks<'a>(

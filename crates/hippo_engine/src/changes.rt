@@ -1,5 +1,5 @@
 //! Statements that change something: what they add to the history, or why they are refused.
-ghost use Rattle.std.specs.Prelude.{◌≡◌, ◌≢◌, ◌⊎◌, ℕ, ◌^◌, ◌<◌, true, length, IfOk, OnOk, Err};
+ghost use Rattle.std.specs.Prelude.{◌≡◌, ◌≢◌, ◌⊎◌, ℕ, ◌^◌, ◌<◌, true, length, MatchResult, IfOk, OnOk, Err};
 ghost use Rattle.hippo_values.specs.Texts.{Txt as Text};
 ghost use Rattle.hippo_model.specs.declared.name_fault.NameFault.TheVariants as faults;
 ghost use Rattle.hippo_model.specs.Terms.{History};
@@ -29,7 +29,8 @@ use hippo_tables::Tables;
 use hippo_world::World;
 use std::alloc::Global;
 
-fn check_console(session: u8) -> Result<(), Refusal>
+/// Whether it is the console.
+pub(crate) fn check_console(session: u8) -> Result<(), Refusal>
     ensures judged { result ≡ by_console session }
     ensures console { OnOk result (session ≡ 0) }
 {
@@ -103,15 +104,13 @@ impl Engine {
         }
     }
 
-    // The entry that a statement which changes something adds, or its first refusal.
-    fn entry_of(&self, alloc: Global, session: u8, statement: &Stmt) -> Result<Entry, Refusal>
+    /// The entry that a statement of the console which changes something adds, or its first refusal.
+    pub(crate) fn entry_for(&self, alloc: Global, statement: &Stmt) -> Result<Entry, Refusal>
         ensures found { (history : History) → StandsFor self.now.state history
             → FindsChange history (world_of self.now.world)
-            (judged_change history (world_of self.now.world) session statement.now) result }
+            (judged_change history (world_of self.now.world) 0 statement.now) result }
         ensures number { IfOk result (λ entry. entry.seq < 2 ^ 63) }
-        ensures console { OnOk result (session ≡ 0) }
     {
-        check_console(session)?;
         match check_names(alloc, &self.state.catalog, statement) {
             Ok(wanted) => {
                 let found = self.entry_wanted(alloc, &wanted);
@@ -122,8 +121,20 @@ impl Engine {
         }
     }
 
+    // The same of a session's statement, too.
+    fn entry_of(&self, alloc: Global, session: u8, statement: &Stmt) -> Result<Entry, Refusal>
+        ensures found { (history : History) → StandsFor self.now.state history
+            → FindsChange history (world_of self.now.world)
+            (judged_change history (world_of self.now.world) session statement.now) result }
+        ensures number { IfOk result (λ entry. entry.seq < 2 ^ 63) }
+        ensures console { OnOk result (session ≡ 0) }
+    {
+        check_console(session)?;
+        self.entry_for(alloc, statement)
+    }
+
     // Replies why a command is refused.
-    pub(crate) fn refuse_command(&mut self, session: u8, refusal: &Refusal)
+    fn refuse_command(&mut self, session: u8, refusal: &Refusal)
         ensures { (command : Command) → IsRefused command session refusal.now self.old
             → IsQuiet command self.old self.new }
     {
@@ -154,6 +165,36 @@ impl Engine {
         }
     }
 
+    /// Records the entry that the checks of a command found, or replies why they refuse it.
+    pub(crate) fn record_found<P: Keeper>(
+        &mut self,
+        alloc: Global,
+        keeper: &mut P,
+        session: u8,
+        found: Result<Entry, Refusal>,
+    ) -> Result<(), EngineFault>
+        requires at_work { AtWork self.old (P.state keeper.old) }
+        requires number { IfOk found (λ entry. entry.seq < 2 ^ 63) }
+        ensures carries { (command : Command) (steps : ℕ)
+            → MatchResult found (λ entry. Changes command entry self.old)
+            (λ refusal. IsRefused command session refusal self.old)
+            → Carries command result self.old self.new (P.state keeper.old) (P.state keeper.new) steps steps }
+        ensures unwritten { result ≢ Err WriteFailed }
+    {
+        match found {
+            Ok(entry) => {
+                let recorded = self.record_change(alloc, keeper, &entry);
+                drop(entry);
+                recorded
+            }
+            Err(refusal) => {
+                self.refuse_command(session, &refusal);
+                drop(refusal);
+                Ok(())
+            }
+        }
+    }
+
     /// Carries out a statement that changes something: at the console alone, where its names, types and rows let it,
     /// and the history has room.
     pub(crate) fn change<P: Keeper>(
@@ -169,17 +210,7 @@ impl Engine {
             self.old self.new (P.state keeper.old) (P.state keeper.new) steps steps }
         ensures unwritten { result ≢ Err WriteFailed }
     {
-        match self.entry_of(alloc, session, statement) {
-            Ok(entry) => {
-                let recorded = self.record_change(alloc, keeper, &entry);
-                drop(entry);
-                recorded
-            }
-            Err(refusal) => {
-                self.refuse_command(session, &refusal);
-                drop(refusal);
-                Ok(())
-            }
-        }
+        let found = self.entry_of(alloc, session, statement);
+        self.record_found(alloc, keeper, session, found)
     }
 }

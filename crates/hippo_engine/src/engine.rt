@@ -120,11 +120,19 @@ impl Engine {
                     text,
                 )
             }
-            Stmt::Extract { .. }
-            | Stmt::Explain(_)
-            | Stmt::Audit(_)
-            | Stmt::BeginAudit(_)
-            | Stmt::Watch(_) => {
+            Stmt::Extract { select, start, end } => {
+                self.question(
+                    alloc,
+                    keeper,
+                    session,
+                    Handing::Records,
+                    select,
+                    *start,
+                    *end,
+                    text,
+                )
+            }
+            Stmt::Explain(_) | Stmt::Audit(_) | Stmt::BeginAudit(_) | Stmt::Watch(_) => {
                 self.refuse_unbuilt(session, statement);
                 Ok(())
             }
@@ -150,7 +158,9 @@ impl Engine {
             Command::Nothing => self.say_nothing(),
             Command::Wrong { who, refusal } => self.refuse_whatever(who, &refusal),
             Command::SetClock { moment } => self.set_clock(moment),
-            Command::Ask { session, request } => self.ask(alloc, session, request),
+            Command::Ask { session, request } => {
+                return self.ask(alloc, keeper, session, request);
+            }
             Command::State {
                 session,
                 statement,

@@ -7,6 +7,7 @@ mod engine;
 mod faults;
 mod fetching;
 pub mod laws;
+mod loading;
 mod plain;
 mod questions;
 mod refusals;

@@ -3,6 +3,7 @@ ghost use Rattle.std.specs.Prelude.{◌≡◌, ◌≢◌, ◌⊎◌, ℕ, ◌+�
 ghost use Rattle.hippo_model.specs.declared.entry.Act.TheVariants.{Asked};
 ghost use Rattle.hippo_model.specs.Terms.{History, ShownRow};
 ghost use Rattle.hippo_model.specs.Validity.{may_follow};
+ghost use Rattle.hippo_csv.specs.Records.{extract_line};
 ghost use Rattle.hippo_report.specs.Cells.{answer_line};
 ghost use Rattle.hippo_eval.specs.Answering.{IsAnswered};
 ghost use Rattle.hippo_typing.specs.Meanings.{meaning};
@@ -15,11 +16,12 @@ ghost use Rattle.hippo_engine.specs.Effects.{row_limit, question_rows, listed};
 ghost use Rattle.hippo_engine.specs.Asking.{question_of, statement_asked, IsAnswerable, entry_of, Asks};
 ghost use Rattle.hippo_engine.specs.Asking.{short_line, IsUnkept, IsHandedOut, IsShort, Replies};
 
-use crate::asking::{Asking, Handing, asks};
+use crate::asking::{Asking, Delivery, Handing, asks};
 use crate::engine::{Engine, Reply};
 use crate::faults::EngineFault;
 use crate::replies::{refuse, say_number};
 use hippo_answering::answer;
+use hippo_csv::extract_lines;
 use hippo_eval::EvalFault;
 use hippo_keeper::{Keeper, KeeperFault};
 use hippo_model::{Act, Answer, CellRow, Entry, RawSelect};
@@ -163,6 +165,28 @@ fn say_rows(session: u8, rows: &Answer, reply: &mut Reply)
     }
 }
 
+fn append_records(
+    alloc: Global,
+    session: u8,
+    rows: &[CellRow],
+    reply: &mut Reply,
+) -> Result<(), Memory>
+    ensures { OnOk result (reply.new ≡ reply.old ++ listed session (extract_line session) rows.now) }
+{
+    extract_lines(alloc, session, rows, reply)?;
+    number_line(session, "end", rows.len() as u64, reply)
+}
+
+// The same, of its rows as records.
+fn say_records(alloc: Global, session: u8, rows: &Answer, reply: &mut Reply)
+    ensures { (reply.new ≡ listed session (extract_line session) rows.now) ⊎ (reply.new ≡ short_line session) }
+{
+    reply.clear();
+    if append_records(alloc, session, rows.as_slice(), reply).is_err() {
+        refuse(Some(session), &Refusal::Memory, reply);
+    }
+}
+
 // What follows where a question is not kept.
 fn say_unkept(session: u8, fault: KeeperFault, reply: &mut Reply) -> Result<(), EngineFault>
     ensures said { IsUnkept fault session result reply.new }
@@ -180,23 +204,28 @@ fn say_unkept(session: u8, fault: KeeperFault, reply: &mut Reply) -> Result<(), 
 // Hands out an answer: says its rows, or opens a cursor over them; or says that they are too many, or that memory was
 // short.
 fn hand_out(
+    alloc: Global,
     session: u8,
-    cursor: Option<u8>,
+    delivery: Delivery,
     answer: Result<Answer, EvalFault>,
     world: &mut World,
     reply: &mut Reply,
 )
     ensures { (rows : List ShownRow) → IsAnswered row_limit rows answer
-        → IsHandedOut session cursor rows reply.new (world_of world.old) (world_of world.new)
+        → IsHandedOut session delivery rows reply.new (world_of world.old) (world_of world.new)
         ⊎ IsShort session reply.new (world_of world.old) (world_of world.new) }
 {
     match answer {
-        Ok(rows) => match cursor {
-            None => {
+        Ok(rows) => match delivery {
+            Delivery::Rows => {
                 say_rows(session, &rows, reply);
                 drop(rows);
             }
-            Some(cursor) => {
+            Delivery::Records => {
+                say_records(alloc, session, &rows, reply);
+                drop(rows);
+            }
+            Delivery::Cursor(cursor) => {
                 say_number(session, "cursor", u64::from(cursor), reply);
                 world.open_cursor(session, cursor, rows);
             }
@@ -208,18 +237,19 @@ fn hand_out(
 
 // The reply to a question.
 fn reply_to(
+    alloc: Global,
     session: u8,
-    cursor: Option<u8>,
+    delivery: Delivery,
     kept: Result<Result<Answer, EvalFault>, KeeperFault>,
     world: &mut World,
     reply: &mut Reply,
 ) -> Result<(), EngineFault>
-    ensures said { Replies session cursor kept result reply.new (world_of world.old) (world_of world.new) }
+    ensures said { Replies session delivery kept result reply.new (world_of world.old) (world_of world.new) }
     ensures unwritten { result ≢ Bad WriteFailed }
 {
     match kept {
         Ok(answer) => {
-            hand_out(session, cursor, answer, world, reply);
+            hand_out(alloc, session, delivery, answer, world, reply);
             Ok(())
         }
         Err(fault) => say_unkept(session, fault, reply),
@@ -227,8 +257,8 @@ fn reply_to(
 }
 
 impl Engine {
-    /// Answers a plain question of a session, by its rows or by a cursor over them: it is kept first, and then answered
-    /// over the history before it. Answers `Keeper` only where the keeper failed.
+    /// Answers a question of a session, by its rows, by its rows as records or by a cursor over them: it is kept first,
+    /// and then answered over the history before it. Answers `Keeper` only where the keeper failed.
     pub(crate) fn question<P: Keeper>(
         &mut self,
         alloc: Global,
@@ -257,10 +287,17 @@ impl Engine {
             end,
         ) {
             Ok(asking) => {
-                let cursor = asking.cursor;
+                let delivery = asking.delivery;
                 let kept = keep_and_answer(alloc, keeper, &mut self.state, &self.world, &asking);
                 drop(asking);
-                reply_to(session, cursor, kept, &mut self.world, &mut self.reply)
+                reply_to(
+                    alloc,
+                    session,
+                    delivery,
+                    kept,
+                    &mut self.world,
+                    &mut self.reply,
+                )
             }
             Err(refusal) => {
                 refuse(Some(session), &refusal, &mut self.reply);

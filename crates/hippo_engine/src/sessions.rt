@@ -1,14 +1,17 @@
 //! The clock, and what short words ask for.
-ghost use Rattle.std.specs.Prelude.{◌≡◌, int_lt, IfOk};
+ghost use Rattle.std.specs.Prelude.{◌≡◌, ◌≢◌, ℕ, int_lt, IfOk, Err};
 ghost use Rattle.hippo_lines.specs.Forms.{logs_in, logs_out, fetches, closes};
 ghost use Rattle.hippo_lines.specs.Lent.{request};
 ghost use Rattle.hippo_commands.specs.Commands as commands;
-ghost use Rattle.hippo_engine.specs.Carrying.{IsQuiet};
+ghost use Rattle.hippo_engine.specs.declared.faults.EngineFault.TheVariants.{Write as WriteFailed};
+ghost use Rattle.hippo_engine.specs.Carrying.{AtWork, IsQuiet, Carries};
 
 use crate::engine::Engine;
+use crate::faults::EngineFault;
 use crate::fetching::print_next;
-use crate::replies::{refuse, refuse_for_memory, refuse_moment, refuse_unbuilt, say_done};
+use crate::replies::{refuse, refuse_for_memory, refuse_moment, say_done};
 use crate::session_checks::{check_login, open_cursor, open_session};
+use hippo_keeper::Keeper;
 use hippo_lines::{RequestForm, WrittenName};
 use hippo_model::Pair;
 use hippo_values::{Memory, Moment, Name};
@@ -115,9 +118,18 @@ impl Engine {
         }
     }
 
-    /// Does what a short word asks for in a session or at the console.
-    pub(crate) fn ask(&mut self, alloc: Global, session: u8, asked: RequestForm<'_>)
-        ensures { IsQuiet (commands.ask session (request asked.entry)) self.old self.new }
+    /// Does what a short word asks for in a session or at the console. Answers `Keeper` only where the keeper failed.
+    pub(crate) fn ask<P: Keeper>(
+        &mut self,
+        alloc: Global,
+        keeper: &mut P,
+        session: u8,
+        asked: RequestForm<'_>,
+    ) -> Result<(), EngineFault>
+        requires at_work { AtWork self.old (P.state keeper.old) }
+        ensures carries { (steps : ℕ) → Carries (commands.ask session (request asked.entry)) result
+            self.old self.new (P.state keeper.old) (P.state keeper.new) steps steps }
+        ensures unwritten { result ≢ Err WriteFailed }
     {
         match asked {
             RequestForm::Login {
@@ -128,10 +140,14 @@ impl Engine {
             RequestForm::Logout => self.log_out(session),
             RequestForm::Fetch { cursor, count } => self.fetch(session, cursor, count),
             RequestForm::Close { cursor } => self.close(session, cursor),
-            RequestForm::Step { .. } => refuse_unbuilt(session, &mut self.reply),
-            RequestForm::Drop { .. } => refuse_unbuilt(session, &mut self.reply),
-            RequestForm::Unwatch { .. } => refuse_unbuilt(session, &mut self.reply),
-            RequestForm::Load { .. } => refuse_unbuilt(session, &mut self.reply),
+            RequestForm::Step { .. } => self.refuse_unbuilt_request(session),
+            RequestForm::Drop { .. } => self.refuse_unbuilt_request(session),
+            RequestForm::Unwatch { .. } => self.refuse_unbuilt_request(session),
+            RequestForm::Load {
+                table,
+                record: text,
+            } => return self.load(alloc, keeper, session, &table, text),
         }
+        Ok(())
     }
 }

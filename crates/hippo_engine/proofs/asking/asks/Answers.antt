@@ -1,4 +1,4 @@
--- A SELECT or an OPEN is judged as a question.
+-- A SELECT, an EXTRACT or an OPEN is judged as a question.
 use Rattle.hippo_world.specs.Holding.{world_of}
 use Rattle.hippo_engine.proofs.AskingLemmas.{judged_asked}
 use Rattle.hippo_engine.proofs.asking.asks.Goals as goal

@@ -1,5 +1,4 @@
-use Rattle.hippo_commands.specs.Commands.{nothing, wrong, ask}
-use Rattle.hippo_lines.specs.Lent.{request}
+use Rattle.hippo_commands.specs.Commands.{nothing, wrong}
 use Rattle.hippo_engine.proofs.CarryingLemmas.{Carries-quiet}
 use Rattle.hippo_engine.proofs.engine.Engine.carry_out.Goals as goal
 
@@ -15,6 +14,4 @@ returns-in-Wrong-clause-carries g c =
     c.refuse_whatever.ensures)
 
 pub returns-in-Ask-clause-carries : goal.returns-in-Ask-clause-carries
-returns-in-Ask-clause-carries g c =
-    rw c.in-Ask.is
-    (Carries-quiet (ask c.in-Ask.session (request c.in-Ask.request)) c.args.self.now c.ask.new.self (g.P.Keeper.state c.args.keeper.now) c.args.steps.now c.requires.at_work c.ask.ensures)
+returns-in-Ask-clause-carries g c = rw c.in-Ask.is (c.ask.ensures.carries c.args.steps.now)

@@ -1,17 +1,10 @@
--- Names and types are refused, where the console's check was passed.
-use Rattle.std.proofs.Common.{sym, subst}
-use Rattle.hippo_catalog.specs.Catalogs.{KnownNames, known_at}
-use Rattle.hippo_catalog.specs.ChangesRefused.{change_refused}
-use Rattle.hippo_catalog.specs.ChangesWanted.{wanted_by}
+use Rattle.std.proofs.Common.{ℕ, sym, subst}
 use Rattle.hippo_world.specs.Holding.{world_of}
-use Rattle.hippo_engine.specs.Changing.{wanted_in}
-use Rattle.hippo_engine.specs.Checks.{Refuses, by_console, meant}
-use Rattle.hippo_engine.specs.Judging.{judged_wanted}
-use Rattle.hippo_engine.proofs.ChangeLemmas.{names_refused}
+use Rattle.hippo_engine.specs.Changing.{FindsChange}
+use Rattle.hippo_engine.specs.Judging.{judged_change}
 use Rattle.hippo_engine.proofs.engine.Engine.entry_of.Goals as goal
 
-pub returns-in-Err-clause-found : goal.returns-in-Err-clause-found
-returns-in-Err-clause-found c = λ history stands.
-    names_refused (by_console c.args.session) (meant (change_refused (known_at history) c.args.statement.now) (wanted_by (known_at history) c.args.statement.now))
-    (λ wanted. judged_wanted history (world_of c.args.self.now.world) wanted) c.in-Err.refusal (sym c.in_ok-check_console.ensures.judged)
-    (subst (λ (known : KnownNames). Refuses (wanted_in known c.args.statement.now) c.in-Err.refusal) stands.names c.in-Err.ensures)
+pub returns-clause-found : goal.returns-clause-found
+returns-clause-found c = λ history stands.
+    subst (λ (session : ℕ). FindsChange history (world_of c.args.self.now.world) (judged_change history (world_of c.args.self.now.world) session c.args.statement.now) c.entry_for.result)
+    (sym c.in_ok-check_console.ensures.console) (c.entry_for.ensures.found history stands)

@@ -12,6 +12,9 @@ pub returns-in-Ask-clause-carries : goal.returns-in-Ask-clause-carries
 returns-in-Ask-clause-carries g c = rw c.in-Ask.is (c.question-in-Ask.ensures.carries c.args.steps.now)
 
 pub returns-in-Extract-clause-carries : goal.returns-in-Extract-clause-carries
-returns-in-Extract-clause-carries g c =
+returns-in-Extract-clause-carries g c = rw c.in-Extract.is (c.question-in-Extract.ensures.carries c.args.steps.now)
+
+pub returns-in-Explain-clause-carries : goal.returns-in-Explain-clause-carries
+returns-in-Explain-clause-carries g c =
     Carries-quiet (state c.args.session c.args.statement.now c.args.text.now) c.args.self.now c.refuse_unbuilt.new.self
     (g.P.Keeper.state c.args.keeper.now) c.args.steps.now c.requires.at_work (c.refuse_unbuilt.ensures c.args.text.now)
