@@ -1,0 +1,95 @@
+-- The command line: which words the program takes, and what they ask for.
+use Rattle.std.specs.Prelude.{ℕ, Bool, true, List, [], ◌∷◌, Option, Some, None, option_and_then, unwrap_or, if◌then◌else◌, codes, bytes_eq}
+use Rattle.std.specs.Option.{option_map_or}
+use Rattle.std.specs.Str.Parse.{digits_value, without_leading_plus}
+use Rattle.clap.specs.Words.{App, Rule, Row, new_rule, first_of, matches_of, fault_of}
+use Rattle.clap.specs.Simple.{new_shape}
+use Rattle.clap.specs.Walk.{is_empty}
+use Rattle.clap.specs.declared.builder.value_parser.ValueParser.{ValueParser}
+use Rattle.clap.specs.declared.builder.value_parser.ValueParser.TheVariants.{Unsigned}
+use Rattle.hippo_values.specs.Texts.{Txt}
+use Rattle.hippo_values.specs.Names.{name_of}
+use Rattle.hippo_values.specs.declared.names.Name.{Name}
+use Rattle.hippo_values.specs.declared.moments.Moment.{Moment}
+use Rattle.hippo_commands.specs.Moments.{moment_in}
+use Rattle.hippo_report.specs.declared.format.Format.{Format}
+use Rattle.hippo_report.specs.declared.format.Format.TheVariants as formats
+use Rattle.hippo_words.specs.declared.calls.Call.{Call}
+use Rattle.hippo_words.specs.declared.calls.Job.{Job}
+use Rattle.hippo_words.specs.declared.calls.Job.TheVariants.{Run, Load, Check, Drill}
+
+-- an argument that is written behind its name, as a text or as a number
+abbrev pub text_option : Txt → Rule
+text_option name = record (new_rule name) { long = Some name }
+
+abbrev pub number_option : Txt → ℕ → ℕ → Rule
+number_option name least most = record (text_option name) { parser = Some (Unsigned least most) }
+
+abbrev pub job_argument : Rule
+job_argument = record (new_rule (codes "job")) { required = true }
+
+-- the command, as clap is told of it
+abbrev pub command_line : App
+command_line = record {
+  top = record (new_shape (codes "hippo")) {
+    rules = job_argument ∷ text_option (codes "store") ∷ number_option (codes "history") 1 4000000
+        ∷ number_option (codes "size") 2 20000 ∷ number_option (codes "number") 0 999 ∷ text_option (codes "format")
+        ∷ text_option (codes "table") ∷ text_option (codes "moment") ∷ [];
+    no_binary_name = true;
+    disable_help_flag = true;
+  };
+  subs = [];
+}
+
+-- what is written behind a name, as a text, or as a number that is another one where nothing is written
+abbrev pub number_or : ℕ → Option Txt → ℕ
+number_or otherwise written = option_map_or (λ text. digits_value 10 (without_leading_plus text)) written otherwise
+
+abbrev pub limit_in : List Row → ℕ
+limit_in rows = number_or 4000000 (first_of (codes "history") rows)
+
+-- the format with a name
+abbrev pub format_named : Txt → Option Format
+format_named name =
+    if bytes_eq name (codes "text") then Some formats.Text
+    else if bytes_eq name (codes "json") then Some formats.Json
+    else if bytes_eq name (codes "csv") then Some formats.Csv
+    else None
+
+abbrev pub format_in : List Row → Option Format
+format_in rows = format_named (unwrap_or (first_of (codes "format") rows) (codes "text"))
+
+-- a load wants a table's name and a moment
+abbrev pub load_with : List Row → Format → Option Job
+load_with rows format =
+    option_and_then (λ table. option_and_then (λ moment. Some (Load (limit_in rows) format table moment))
+    (option_and_then moment_in (first_of (codes "moment") rows)))
+    (option_and_then name_of (first_of (codes "table") rows))
+
+-- the job with a name; of what is written it has what it uses
+abbrev pub job_named : List Row → Format → Txt → Option Job
+job_named rows format name =
+    if bytes_eq name (codes "run") then Some (Run (limit_in rows) format)
+    else if bytes_eq name (codes "load") then load_with rows format
+    else if bytes_eq name (codes "check") then Some Check
+    else if bytes_eq name (codes "drill") then
+    Some (Drill (number_or 2000 (first_of (codes "size") rows)) (number_or 7 (first_of (codes "number") rows)))
+    else None
+
+abbrev pub job_in : List Row → Option Job
+job_in rows = option_and_then (λ format. option_and_then (job_named rows format) (first_of (codes "job") rows))
+    (format_in rows)
+
+-- what is asked for by words that the command takes; the store without a name is one in memory
+abbrev pub call_in : List Row → Option Call
+call_in rows =
+    option_and_then (λ job. Some (record { store = unwrap_or (first_of (codes "store") rows) []; job = job }))
+    (job_in rows)
+
+-- whether the command takes the words: it finds no fault in them
+abbrev pub is_taken : List Txt → Bool
+is_taken words = is_empty (fault_of command_line words)
+
+-- what the words of a call ask for, if anything
+abbrev pub call_of : List Txt → Option Call
+call_of words = if is_taken words then call_in (matches_of command_line words) else None

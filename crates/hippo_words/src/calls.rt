@@ -1,0 +1,34 @@
+//! What a call of the program asks for.
+use hippo_report::Format;
+use hippo_values::{Moment, Name, Txt};
+
+/// A job, with what it uses of the command line.
+#[derive(Debug, Drop)]
+pub enum Job {
+    /// Reads lines and replies to each; the history may have so many entries, and flags are printed so.
+    Run {
+        limit: u32,
+        format: Format,
+    },
+    /// Reads records of a table, and inserts each at one moment.
+    Load {
+        limit: u32,
+        format: Format,
+        table: Name,
+        moment: Moment,
+    },
+    /// Counts the kept entries.
+    Check,
+    /// Runs a script of its own, of a size and with a number, over a store in memory.
+    Drill {
+        size: u32,
+        number: u32,
+    },
+}
+
+/// A job, and the name of the store that it is done over: the empty name is that of a store in memory.
+#[derive(Debug, Drop)]
+pub struct Call {
+    pub store: Txt,
+    pub job: Job,
+}

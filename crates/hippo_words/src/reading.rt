@@ -1,0 +1,171 @@
+//! What the words of a call ask for.
+ghost use Rattle.std.specs.Prelude.{◌≡◌, codes, map, option_and_then, IfOk};
+ghost use Rattle.clap.specs.Words.{first_of, rows_of, found_of};
+ghost use Rattle.hippo_values.specs.Names.{name_of};
+ghost use Rattle.hippo_commands.specs.Moments.{moment_in};
+ghost use Rattle.hippo_words.specs.declared.calls.Job.TheVariants.{Run, Drill};
+ghost use Rattle.hippo_words.specs.CommandLine.{number_or, limit_in, format_named, format_in, load_with, job_named, job_in, call_in, call_of};
+
+use crate::arguments::{found_in, number_or, text_of};
+use crate::calls::{Call, Job};
+use clap::ArgMatches;
+use hippo_report::Format;
+use hippo_values::{Memory, Moment, Name, Txt, read_moment};
+use std::alloc::Global;
+
+fn limit_of(matches: &ArgMatches<'_>) -> Result<u32, Memory>
+    ensures { IfOk result (λ limit. limit ≡ limit_in (rows_of (found_of matches.now))) }
+{
+    number_or(matches, "history", 4_000_000)
+}
+
+fn format_named(name: &str) -> Option<Format>
+    ensures { result ≡ format_named name.now }
+{
+    match name {
+        "text" => Some(Format::Text),
+        "json" => Some(Format::Json),
+        "csv" => Some(Format::Csv),
+        _ => None,
+    }
+}
+
+fn format_of(matches: &ArgMatches<'_>) -> Option<Format>
+    ensures { result ≡ format_in (rows_of (found_of matches.now)) }
+{
+    format_named(text_of(matches, "format").unwrap_or("text"))
+}
+
+fn moment_in(text: &str) -> Option<Moment>
+    ensures { result ≡ moment_in text.now }
+{
+    read_moment(text)
+}
+
+fn moment_of(matches: &ArgMatches<'_>) -> Option<Moment>
+    ensures { result ≡ option_and_then moment_in (first_of (codes "moment") (rows_of (found_of matches.now))) }
+{
+    moment_in(text_of(matches, "moment")?)
+}
+
+fn table_of(alloc: Global, matches: &ArgMatches<'_>) -> Result<Option<Name>, Memory>
+    ensures { IfOk result (λ table.
+        table ≡ option_and_then name_of (first_of (codes "table") (rows_of (found_of matches.now)))) }
+{
+    match text_of(matches, "table") {
+        None => Ok(None),
+        Some(text) => Name::from_word(alloc, text),
+    }
+}
+
+fn load_of(alloc: Global, matches: &ArgMatches<'_>, format: Format) -> Result<Option<Job>, Memory>
+    ensures { IfOk result (λ job. job ≡ load_with (rows_of (found_of matches.now)) format) }
+{
+    let limit = limit_of(matches)?;
+    let Some(table) = table_of(alloc, matches)? else {
+        return Ok(None);
+    };
+    let Some(moment) = moment_of(matches) else {
+        return Ok(None);
+    };
+    Ok(Some(Job::Load {
+        limit,
+        format,
+        table,
+        moment,
+    }))
+}
+
+fn run_of(matches: &ArgMatches<'_>, format: Format) -> Result<Job, Memory>
+    ensures { IfOk result (λ job. job ≡ Run (limit_in (rows_of (found_of matches.now))) format) }
+{
+    Ok(Job::Run {
+        limit: limit_of(matches)?,
+        format,
+    })
+}
+
+fn drill_of(matches: &ArgMatches<'_>) -> Result<Job, Memory>
+    ensures { IfOk result (λ job. job ≡ Drill
+        (number_or 2000 (first_of (codes "size") (rows_of (found_of matches.now))))
+        (number_or 7 (first_of (codes "number") (rows_of (found_of matches.now))))) }
+{
+    Ok(Job::Drill {
+        size: number_or(matches, "size", 2000)?,
+        number: number_or(matches, "number", 7)?,
+    })
+}
+
+fn job_named(
+    alloc: Global,
+    matches: &ArgMatches<'_>,
+    format: Format,
+    name: &str,
+) -> Result<Option<Job>, Memory>
+    ensures { IfOk result (λ job. job ≡ job_named (rows_of (found_of matches.now)) format name.now) }
+{
+    match name {
+        "run" => Ok(Some(run_of(matches, format)?)),
+        "load" => load_of(alloc, matches, format),
+        "check" => Ok(Some(Job::Check)),
+        "drill" => Ok(Some(drill_of(matches)?)),
+        _ => Ok(None),
+    }
+}
+
+fn job_of(alloc: Global, matches: &ArgMatches<'_>) -> Result<Option<Job>, Memory>
+    ensures { IfOk result (λ job. job ≡ job_in (rows_of (found_of matches.now))) }
+{
+    let Some(format) = format_of(matches) else {
+        return Ok(None);
+    };
+    match text_of(matches, "job") {
+        None => Ok(None),
+        Some(name) => job_named(alloc, matches, format, name),
+    }
+}
+
+fn call_with(alloc: Global, matches: &ArgMatches<'_>) -> Result<Option<Call>, Memory>
+    ensures { IfOk result (λ call. call ≡ call_in (rows_of (found_of matches.now))) }
+{
+    let store = Txt::from_str(alloc, text_of(matches, "store").unwrap_or(""))?;
+    match job_of(alloc, matches)? {
+        None => Ok(None),
+        Some(job) => Ok(Some(Call { store, job })),
+    }
+}
+
+fn texts_of<'w>(alloc: Global, words: &'w [Txt]) -> Result<Vec<&'w str>, Memory>
+    ensures { IfOk result (λ texts. map (λ text. text.now) texts.items ≡ words.now) }
+{
+    let mut texts = Vec::with_capacity(alloc, words.len())?;
+    for word in words {
+        texts.push(word.as_str())?;
+    }
+    Ok(texts)
+}
+
+fn call_in(alloc: Global, words: &[&str]) -> Result<Option<Call>, Memory>
+    ensures { IfOk result (λ call. call ≡ call_of (map (λ word. word.now) words.now)) }
+{
+    match found_in(alloc, words)? {
+        None => Ok(None),
+        Some(matches) => call_with(alloc, &matches),
+    }
+}
+
+/// What the words of a call ask for: the job, in front of, between or behind the options, `--NAME VALUE` or
+/// `--NAME=VALUE`. Nothing where they are not those of a job: where a word is unknown or an option stands twice, a
+/// number is out of its bounds, a format is none of the three, or a load lacks its table or its moment. An option that
+/// the job does not use has no effect. Or want of memory.
+///
+/// ```text
+/// run --store clinic.db --format json
+/// load --table patient --moment 2024-01-02T08:00:00Z
+/// ```
+pub fn call_of(alloc: Global, words: &[Txt]) -> Result<Option<Call>, Memory>
+    ensures { IfOk result (λ call. call ≡ call_of words.now) }
+{
+    let texts = texts_of(alloc, words)?;
+    call_in(alloc, &texts)
+}
