@@ -123,16 +123,20 @@ pub record ExaminesKept {X : Type 0} (terms : Examination X) (history : History)
   pub once : FallsWith (terms.unread old history) (terms.unread new history) steps_old steps_new
   pub finds : StandsIn meaning history entry → FindsServing history audit entry query result
 
+-- what each call of an examiner does, whatever the keeper tells: it was asked up to a number
+pub record MovesOn {A X : Type 0} (terms : Examination X) (number : ℕ) (result : Result A ReadFault) (old new : X)
+    (before after : KeeperState) (steps_old steps_new : ℕ) : Type 0 where
+  pub is_after : IsAfterCall true false (as_call result) before after
+  pub stays : after.tells → KeepsSame before after
+  pub is_sound : terms.sound new
+  pub limit : terms.upto new ≤ number
+  pub ledger : RisesWith (terms.handed old) (terms.handed new) steps_old steps_new
+
 -- what examining a question does
 pub record Examines {X : Type 0} (terms : Examination X) (past : Past) (audit : Audit) (entry : Entry) (query : Query)
     (result : Result (Option (List SharedRow)) ReadFault) (old new : X) (before after : KeeperState)
     (steps_old steps_new : ℕ) : Type 0 where
-  pub is_after : IsAfterCall true false (as_call result) before after
-  pub stays : after.tells → KeepsSame before after
-  pub is_sound : terms.sound new
-  pub forward : terms.upto old ≤ terms.upto new
-  pub limit : terms.upto new ≤ entry.seq
-  pub ledger : RisesWith (terms.handed old) (terms.handed new) steps_old steps_new
+  pub moves : MovesOn terms entry.seq result old new before after steps_old steps_new
   pub told : after.tells → (history : History) → map stored history ≡ before.kept → IsPastOf past history
       → IsAuditOf history audit → terms.fits old history entry.seq
       → ExaminesKept terms history audit entry query result old new steps_old steps_new

@@ -19,7 +19,8 @@ use Rattle.hippo_catalog.specs.AuditExpressions.{audit_refused, audit_of}
 use Rattle.hippo_typing.specs.Meanings.{meaning}
 use Rattle.hippo_audit_job.specs.declared.jobs.Job.{Job}
 use Rattle.hippo_audit_job.specs.Examining.{Examination, IsNew, IsAuditOf}
-use Rattle.hippo_audit_job.specs.Jobs.{was_asked, new_job, IsSound, JobFits}
+use Rattle.hippo_audit_job.specs.Jobs.{new_job, IsSound, JobFits}
+use Rattle.hippo_audit_job.specs.Looking.{was_asked}
 
 -- a text that means a query means it still when entries are added
 abbrev pub MeaningsLast : Type 0

@@ -1,16 +1,25 @@
 //! Audit jobs, which look at the logged questions of a history in steps.
-ghost use Rattle.std.specs.Prelude.{◌≡◌, ◌==◌, ◌≤◌, true, [], option_map, bytes_eq};
-ghost use Rattle.std.specs.List.{IsDistinct};
+ghost use Rattle.std.specs.Prelude.{◌≡◌, ◌==◌, ◌≤◌, ◌<◌, ◌+◌, min, true, false, [], length, option_map, Ok, OnOk, OnErr};
 ghost use Rattle.hippo_keeper.specs.Keeping.{IsReady};
 ghost use Rattle.hippo_audit_job.specs.Examining.{shown_count};
 
 use crate::examiner::Examiner;
 use crate::past::Past;
+use crate::questions::{flagged, shared_with};
+use crate::reading::{decoded, has_read, read_ahead};
 use hippo_backlog::{Ahead, ReadFault};
 use hippo_keeper::{Keeper, Steps};
-use hippo_model::{Audit, Flags};
+use hippo_model::{Audit, Flag, Flags};
+use hippo_values::Memory;
 use std::alloc::Global;
 use std::sync::ledger::Ledger;
+
+// The number up to which so many more numbers go, and no further than to the end.
+fn step_end(place: u64, count: u64, length: u64) -> u64
+    ensures { result ≡ min (place + count) length }
+{
+    place.saturating_add(count).min(length)
+}
 
 /// An audit of the first entries of a history, which looks at the questions of its period in steps, however they are
 /// cut.
@@ -104,7 +113,126 @@ impl<X> Job<X> {
 }
 
 impl<X> Job<X> {
-    ghost use Rattle.hippo_audit_job.specs.Jobs.{IsSound, HasStepped};
+    ghost use Rattle.hippo_audit_job.specs.Jobs.{with_flag, IsSound, LooksOn, HasStepped};
+    ghost use Rattle.hippo_backlog.specs.ReadingAhead.{BeginsAbove};
+
+    // A flag waits behind the others, and the first question is used.
+    fn add(&mut self, number: u64, flag: Option<Flag>) -> Result<(), Memory>
+        requires within { self.old.found < number }
+        ensures ok { OnOk result (self.new ≡ with_flag number flag self.old) }
+        ensures err { OnErr result (self.new ≡ self.old) }
+    {
+        if let Some(flag) = flag {
+            self.waiting.push(flag)?;
+            self.found += 1;
+        }
+        self.questions.pass();
+        self.place = number;
+        Ok(())
+    }
+
+    // Looks at the first question that was read ahead, if its number is at most this; whether there was one.
+    fn look_at_first<P: Keeper, L: Ledger>(
+        &mut self,
+        keeper: &mut P,
+        alloc: Global,
+        upto: u64,
+        past: &Past<'_>,
+        steps: &mut Steps<L>,
+    ) -> Result<bool, ReadFault>
+    where
+        X: Examiner<P>,
+        requires ready { IsReady true (P.state keeper.old) }
+        requires sound { IsSound X.terms self.old }
+        requires forward { self.old.place ≤ upto }
+        requires within { upto ≤ self.old.length }
+        ensures looks { LooksOn X.terms upto past.now result self.old self.new
+            (P.state keeper.old) (P.state keeper.new) steps.old steps.new }
+        ensures past { result ≡ Ok false → BeginsAbove upto self.new.questions.waiting }
+        ensures fewer { result ≡ Ok true → length self.new.questions.waiting < length self.old.questions.waiting }
+        ensures unbroken { self.new.unbroken ≡ self.old.unbroken }
+    {
+        let Some(kept) = self.questions.first() else {
+            return Ok(false);
+        };
+        let number = kept.seq;
+        if upto < number {
+            return Ok(false);
+        }
+        let entry = decoded(alloc, kept)?;
+        self.place = number - 1;
+        let examiner = &mut self.examiner;
+        let shared = shared_with(examiner, keeper, alloc, past, &entry, &self.audit, steps)?;
+        match self.add(number, flagged(entry, shared)) {
+            Ok(()) => Ok(true),
+            Err(Memory) => Err(ReadFault::Memory),
+        }
+    }
+
+    // Looks at the questions that were read ahead and are numbered up to this.
+    fn look_at_waiting<P: Keeper, L: Ledger>(
+        &mut self,
+        keeper: &mut P,
+        alloc: Global,
+        upto: u64,
+        past: &Past<'_>,
+        steps: &mut Steps<L>,
+    ) -> Result<(), ReadFault>
+    where
+        X: Examiner<P>,
+        requires ready { IsReady true (P.state keeper.old) }
+        requires sound { IsSound X.terms self.old }
+        requires forward { self.old.place ≤ upto }
+        requires within { upto ≤ self.old.length }
+        ensures looks { LooksOn X.terms upto past.now result self.old self.new
+            (P.state keeper.old) (P.state keeper.new) steps.old steps.new }
+        ensures past { OnOk result (BeginsAbove upto self.new.questions.waiting) }
+        ensures unbroken { self.new.unbroken ≡ self.old.unbroken }
+    {
+        loop {
+            match self.look_at_first(keeper, alloc, upto, past, steps) {
+                Ok(true) => {}
+                Ok(false) => return Ok(()),
+                Err(fault) => return Err(fault),
+            }
+        }
+    }
+
+    // Looks at the numbers up to this one.
+    fn look_up_to<P: Keeper, L: Ledger>(
+        &mut self,
+        keeper: &mut P,
+        alloc: Global,
+        upto: u64,
+        past: &Past<'_>,
+        steps: &mut Steps<L>,
+    ) -> Result<(), ReadFault>
+    where
+        X: Examiner<P>,
+        requires ready { IsReady true (P.state keeper.old) }
+        requires sound { IsSound X.terms self.old }
+        requires forward { self.old.place ≤ upto }
+        requires within { upto ≤ self.old.length }
+        ensures looks { LooksOn X.terms upto past.now result self.old self.new
+            (P.state keeper.old) (P.state keeper.new) steps.old steps.new }
+        ensures place { OnOk result (self.new.place ≡ upto) }
+        ensures unbroken { self.new.unbroken ≡ self.old.unbroken }
+    {
+        loop {
+            match self.look_at_waiting(keeper, alloc, upto, past, steps) {
+                Ok(()) => {}
+                Err(fault) => return Err(fault),
+            }
+            if has_read(&self.questions, upto) {
+                self.place = upto;
+                return Ok(());
+            }
+            match read_ahead(&mut self.questions, keeper, alloc, &self.audit, self.length) {
+                Ok(()) => {}
+                Err(fault) => return Err(fault),
+            }
+        }
+    }
 
     /// Looks at the next `count` numbers, up to the job's end; the flags that it finds wait behind the others.
     ///
@@ -126,11 +254,13 @@ impl<X> Job<X> {
         ensures stepped { HasStepped X.terms count past.now result self.old self.new
             (P.state keeper.old) (P.state keeper.new) steps.old steps.new }
     {
-        let upto = self.place.saturating_add(count).min(self.length);
-        let was_unbroken = self.unbroken;
-        self.unbroken = false;
-        self.look_up_to(keeper, alloc, upto, past, steps)?;
-        self.unbroken = was_unbroken;
-        Ok(())
+        let upto = step_end(self.place, count, self.length);
+        match self.look_up_to(keeper, alloc, upto, past, steps) {
+            Ok(()) => Ok(()),
+            Err(fault) => {
+                self.unbroken = false;
+                Err(fault)
+            }
+        }
     }
 }

@@ -7,6 +7,8 @@ mod examiner;
 mod jobs;
 mod laws;
 mod past;
+mod questions;
+mod reading;
 
 pub use candidates::{in_period, is_exempt, names_all};
 pub use examiner::Examiner;

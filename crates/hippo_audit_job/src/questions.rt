@@ -1,0 +1,117 @@
+//! What an audit makes of one logged question.
+ghost use Rattle.std.specs.Prelude.{◌≡◌, ◌≤◌, ◌&&◌, bytes_eq, option_map, option_and_then};
+ghost use Rattle.std.specs.List.{IsDistinct};
+ghost use Rattle.hippo_model.specs.Audits.{flag_by};
+ghost use Rattle.hippo_keeper.specs.Keeping.{IsReady};
+ghost use Rattle.hippo_audit_job.specs.Looking.{question_in, LooksAt};
+
+use crate::candidates::{in_period, is_exempt, names_all};
+use crate::examiner::Examiner;
+use crate::past::Past;
+use hippo_backlog::ReadFault;
+use hippo_keeper::{Keeper, Steps};
+use hippo_model::{Act, Audit, Entry, Flag, Pair, SharedTuple};
+use hippo_typing::read_meaning;
+use hippo_values::{Memory, Name, Txt};
+use std::alloc::Global;
+use std::sync::ledger::Ledger;
+
+// For which purpose and recipient was asked, and the text.
+#[derive(Clone, Copy)]
+struct Question<'a> {
+    purpose: &'a Name,
+    recipient: &'a Name,
+    text: &'a Txt,
+}
+
+fn question_in(act: &Act) -> Option<Question<'_>>
+    ensures { option_map (λ q. (q.purpose.now, q.recipient.now, q.text.now)) result ≡ question_in act.now }
+{
+    match act {
+        Act::Asked {
+            purpose,
+            recipient,
+            text,
+            ..
+        } => Some(Question {
+            purpose,
+            recipient,
+            text,
+        }),
+        _ => None,
+    }
+}
+
+// An entry as a flag, with what it shares, where it is a question.
+fn flag_by(entry: Entry, shared: SharedTuple) -> Option<Flag>
+    ensures { result ≡ flag_by entry entry.act shared }
+{
+    let Entry { seq, moment, act } = entry;
+    match act {
+        Act::Asked {
+            user,
+            purpose,
+            recipient,
+            ..
+        } => Some(Flag {
+            seq,
+            moment,
+            user,
+            pair: Pair { purpose, recipient },
+            shared,
+        }),
+        other => {
+            drop(other);
+            None
+        }
+    }
+}
+
+/// The flag of an entry, where it shares something.
+pub(crate) fn flagged(entry: Entry, shared: Option<SharedTuple>) -> Option<Flag>
+    ensures { result ≡ option_and_then (flag_by entry entry.act) shared }
+{
+    match shared {
+        None => None,
+        Some(shared) => flag_by(entry, shared),
+    }
+}
+
+/// What a question shares with an audit: nothing where it is no candidate. `Damaged` where the entry is no question of
+/// the audit's period, or its text means nothing.
+pub(crate) fn shared_with<P: Keeper, L: Ledger, X: Examiner<P>>(
+    examiner: &mut X,
+    keeper: &mut P,
+    alloc: Global,
+    past: &Past<'_>,
+    entry: &Entry,
+    audit: &Audit,
+    steps: &mut Steps<L>,
+) -> Result<Option<SharedTuple>, ReadFault>
+    requires ready { IsReady true (P.state keeper.old) }
+    requires sound { X.terms.sound examiner.old }
+    requires order { X.terms.upto examiner.old ≤ entry.now.seq }
+    requires tables { IsDistinct bytes_eq audit.now.tables }
+    ensures looks { LooksAt X.terms past.now audit.now entry.now result examiner.old examiner.new
+        (P.state keeper.old) (P.state keeper.new) steps.old steps.new }
+{
+    let Some(question) = question_in(&entry.act) else {
+        return Err(ReadFault::Damaged(entry.seq));
+    };
+    if !in_period(audit, entry.moment) {
+        return Err(ReadFault::Damaged(entry.seq));
+    }
+    if is_exempt(audit, question.purpose, question.recipient) {
+        return Ok(None);
+    }
+    match read_meaning(alloc, past.catalog, question.text.as_str()) {
+        Ok(Some(query)) => {
+            if !names_all(&query, audit) {
+                return Ok(None);
+            }
+            examiner.examine(keeper, alloc, past, entry, &query, audit, steps)
+        }
+        Ok(None) => Err(ReadFault::Damaged(entry.seq)),
+        Err(Memory) => Err(ReadFault::Memory),
+    }
+}
