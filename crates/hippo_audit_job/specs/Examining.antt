@@ -1,5 +1,5 @@
 -- What examines a logged question: what it holds, and what it answers of one.
-use Rattle.std.specs.Prelude.{◌≡◌, ◌≢◌, ◌≤◌, ◌<◌, ⊤, ⊥, ℕ, ◌+◌, min, true, nat_lt, List, [], ◌∷◌, ◌++◌, map, find, length, slice_index_or, bytes_eq, Option, Some, None, is_some, Result, Err, IfOk}
+use Rattle.std.specs.Prelude.{◌≡◌, ◌≢◌, ◌≤◌, ◌<◌, ⊤, ℕ, ◌+◌, min, true, false, nat_lt, List, [], ◌∷◌, ◌++◌, map, find, length, slice_index_or, bytes_eq, Option, Some, None, is_some, Result, Err, IfOk}
 use Rattle.std.specs.List.{AllByRecursion, IsDistinct}
 use Rattle.hippo_values.specs.Texts.{Txt}
 use Rattle.hippo_values.specs.declared.names.Name.{Name}

@@ -1,5 +1,5 @@
 -- What an audit makes of one logged question, and of the questions that are read ahead.
-use Rattle.std.specs.Prelude.{◌≡◌, ◌≢◌, ◌≤◌, ◌<◌, ℕ, true, Bool, ◌&&◌, List, [], map, length, Option, Some, None, Result, Ok, Err, IfOk, OnOk, ⊤, ⊥}
+use Rattle.std.specs.Prelude.{◌≡◌, ◌≢◌, ◌≤◌, ◌<◌, ℕ, true, false, Bool, ◌&&◌, List, [], map, length, Option, Some, None, Result, Ok, Err, IfOk, OnOk, ⊤}
 use Rattle.hippo_values.specs.Texts.{Txt}
 use Rattle.hippo_values.specs.declared.names.Name.{Name}
 use Rattle.hippo_model.specs.declared.audit.Audit.{Audit}
