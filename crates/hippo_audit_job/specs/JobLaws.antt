@@ -17,9 +17,7 @@ use Rattle.hippo_catalog.specs.declared.period.Period.{Period}
 use Rattle.hippo_catalog.specs.Catalogs.{known_at}
 use Rattle.hippo_catalog.specs.AuditExpressions.{audit_refused, audit_of}
 use Rattle.hippo_typing.specs.Meanings.{meaning}
-use Rattle.hippo_audit_job.specs.declared.jobs.Job.{Job}
-use Rattle.hippo_audit_job.specs.Examining.{Examination, IsNew, IsAuditOf}
-use Rattle.hippo_audit_job.specs.Jobs.{new_job, IsSound, JobFits}
+use Rattle.hippo_audit_job.specs.Examining.{IsAuditOf}
 use Rattle.hippo_audit_job.specs.Looking.{was_asked}
 
 -- a text that means a query means it still when entries are added
@@ -55,18 +53,3 @@ UnrefusedAreAudits =
     (history later : History) (period : Period) (audit : RawAudit) → is_valid meaning (history ++ later) ≡ true
     → audit_refused (known_at history) period audit ≡ []
     → IsAuditOf (history ++ later) (audit_of (known_at history) period audit)
-
--- a new job is sound and fits the history at whose length it began
-abbrev pub NewJobsFit : Type 1
-NewJobsFit =
-    (X : Type 0) (terms : Examination X) (examiner : X) → IsNew terms examiner → (history : History) (audit : Audit)
-    → is_valid meaning history ≡ true → IsAuditOf history audit
-    → IsSound terms (new_job audit (length history) examiner)
-    × JobFits terms (new_job audit (length history) examiner) history
-
--- a job that fits a history fits it with one entry more
-abbrev pub JobsFitOn : Type 1
-JobsFitOn =
-    (X : Type 0) (terms : Examination X) (job : Job X) (history : History) (entry : Entry)
-    → is_valid meaning (history ++ entry ∷ []) ≡ true → IsSound terms job → JobFits terms job history
-    → JobFits terms job (history ++ entry ∷ [])

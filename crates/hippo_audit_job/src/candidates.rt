@@ -1,5 +1,5 @@
 //! Which questions an audit looks at.
-ghost use Rattle.std.specs.Prelude.{◌≡◌, ◌++◌, slice_index_or};
+ghost use Rattle.std.specs.Prelude.{◌≡◌, ◌++◌, [], slice_index_or};
 ghost use Rattle.std.specs.List.{list_any};
 ghost use Rattle.hippo_model.specs.Columns.{columns_in, condition_columns, named_column, same_column, names_all};
 ghost use Rattle.hippo_model.specs.Audits.{in_period, is_exempt};

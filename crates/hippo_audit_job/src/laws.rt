@@ -1,6 +1,6 @@
 //! Laws on audit jobs, and on what stays when entries are added to a history.
 ghost use Rattle.hippo_audit_job.specs.JobLaws.{MeaningsLast, QuestionsMean, StretchesLast, NoQuestionsNoFlags};
-ghost use Rattle.hippo_audit_job.specs.JobLaws.{UnrefusedAreAudits, NewJobsFit, JobsFitOn};
+ghost use Rattle.hippo_audit_job.specs.JobLaws.{UnrefusedAreAudits};
 
 /// A text that means a query after some entries means it still when entries are added.
 pub fn meanings_last()
@@ -26,14 +26,4 @@ pub fn no_questions_no_flags()
 /// are theirs; and so it does in each longer valid history.
 pub fn unrefused_are_audits()
     ensures { UnrefusedAreAudits }
-{}
-
-/// A new job is sound and fits the valid history at whose length it began.
-pub fn new_jobs_fit()
-    ensures { NewJobsFit }
-{}
-
-/// A job that fits a history fits it with one entry more, where that is valid.
-pub fn jobs_fit_on()
-    ensures { JobsFitOn }
 {}

@@ -14,7 +14,6 @@ pub use candidates::{in_period, is_exempt, names_all};
 pub use examiner::Examiner;
 pub use jobs::Job;
 pub use laws::{
-    meanings_last, new_jobs_fit, no_questions_no_flags, questions_mean, stretches_last,
-    unrefused_are_audits, jobs_fit_on,
+    meanings_last, no_questions_no_flags, questions_mean, stretches_last, unrefused_are_audits,
 };
 pub use past::Past;

@@ -1,5 +1,5 @@
 //! What an audit makes of one logged question.
-ghost use Rattle.std.specs.Prelude.{◌≡◌, ◌≤◌, ◌&&◌, bytes_eq, option_map, option_and_then};
+ghost use Rattle.std.specs.Prelude.{◌≡◌, ◌≤◌, true, bytes_eq, option_map, option_and_then};
 ghost use Rattle.std.specs.List.{IsDistinct};
 ghost use Rattle.hippo_model.specs.Audits.{flag_by};
 ghost use Rattle.hippo_keeper.specs.Keeping.{IsReady};
@@ -12,7 +12,7 @@ use hippo_backlog::ReadFault;
 use hippo_keeper::{Keeper, Steps};
 use hippo_model::{Act, Audit, Entry, Flag, Pair, SharedTuple};
 use hippo_typing::read_meaning;
-use hippo_values::{Memory, Name, Txt};
+use hippo_values::{Memory, Moment, Name, Txt};
 use std::alloc::Global;
 use std::sync::ledger::Ledger;
 
@@ -42,24 +42,26 @@ fn question_in(act: &Act) -> Option<Question<'_>>
     }
 }
 
-// An entry as a flag, with what it shares, where it is a question.
-fn flag_by(entry: Entry, shared: SharedTuple) -> Option<Flag>
-    ensures { result ≡ flag_by entry entry.act shared }
+// An act as a flag, with its number and moment, and with what it shares, where it is a question.
+fn flag_by(seq: u64, moment: Moment, act: Act, shared: SharedTuple) -> Option<Flag>
+    ensures { result ≡ flag_by (record { seq = seq; moment = moment; act = act }) act shared }
 {
-    let Entry { seq, moment, act } = entry;
     match act {
         Act::Asked {
             user,
             purpose,
             recipient,
-            ..
-        } => Some(Flag {
-            seq,
-            moment,
-            user,
-            pair: Pair { purpose, recipient },
-            shared,
-        }),
+            text,
+        } => {
+            drop(text);
+            Some(Flag {
+                seq,
+                moment,
+                user,
+                pair: Pair { purpose, recipient },
+                shared,
+            })
+        }
         other => {
             drop(other);
             None
@@ -71,9 +73,10 @@ fn flag_by(entry: Entry, shared: SharedTuple) -> Option<Flag>
 pub(crate) fn flagged(entry: Entry, shared: Option<SharedTuple>) -> Option<Flag>
     ensures { result ≡ option_and_then (flag_by entry entry.act) shared }
 {
+    let Entry { seq, moment, act } = entry;
     match shared {
         None => None,
-        Some(shared) => flag_by(entry, shared),
+        Some(shared) => flag_by(seq, moment, act, shared),
     }
 }
 

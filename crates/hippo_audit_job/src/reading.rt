@@ -1,5 +1,5 @@
 //! The logged questions of an audit's period, read ahead piece by piece.
-ghost use Rattle.std.specs.Prelude.{◌≡◌, [], IfOk, IfSome, OnOk, OnErr};
+ghost use Rattle.std.specs.Prelude.{◌≡◌, true, []};
 ghost use Rattle.hippo_keeper.specs.Keeping.{IsReady};
 ghost use Rattle.hippo_backlog.specs.ReadingAhead.{has_read};
 ghost use Rattle.hippo_audit_job.specs.Looking.{ReadsAhead, IsDecoded};
