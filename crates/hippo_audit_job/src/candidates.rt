@@ -128,6 +128,7 @@ fn items_name(wanted: Named<'_>, query: &Query) -> bool
 }
 
 // Whether a query names this column anywhere.
+#[tactic(auto, using(crate::proofs::NamedColumns::named_append))]
 fn names(wanted: Named<'_>, query: &Query) -> bool
     ensures { result ≡ is_named (wanted.entry.table.now, wanted.entry.column) query.now.tables
         (query.now.items ++ condition_columns query.now.cond) }
