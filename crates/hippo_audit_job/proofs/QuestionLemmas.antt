@@ -78,7 +78,7 @@ module _ (history : History) (audit : Audit) (entry : Entry) (question : IsQuest
     pub meant_then : (query : Query) → meaning_in past.catalog.now.names found.2 ≡ Some query → meaning (before_entry entry history) found.2 ≡ Some query
     meant_then query same = means.1 ∙ sym now_means ∙ same
 
-    asked_context : Context
+    abbrev asked_context : Context
     asked_context = record { purpose = found.0; recipient = found.1; moment = entry.moment }
 
     shared_is : shared meaning history audit entry ≡ option_and_then (λ query. shared_by (before_entry entry history) asked_context query audit) (meaning (before_entry entry history) found.2)
@@ -98,6 +98,7 @@ module _ (history : History) (audit : Audit) (entry : Entry) (question : IsQuest
 
     -- what is exempt shares nothing
     pub shares_exempt : is_exempt audit found.0 found.1 ≡ true → None ≡ shared meaning history audit entry
+    unfolding means
     shares_exempt exempt =
         let before = before_entry entry history in
         sym (shared_then means.0 now_means ∙ ap (λ (b : Bool). if in_period audit entry.moment && not b && names_all means.0 audit then first_serving before asked_context means.0 audit else None) exempt ∙ exempted (in_period audit entry.moment) (names_all means.0 audit) (first_serving before asked_context means.0 audit))

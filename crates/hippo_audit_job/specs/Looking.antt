@@ -7,16 +7,17 @@ use Rattle.hippo_model.specs.declared.audit.SharedRow.{SharedRow}
 use Rattle.hippo_model.specs.declared.entry.Act.{Act}
 use Rattle.hippo_model.specs.declared.entry.Act.TheVariants.{Asked}
 use Rattle.hippo_model.specs.declared.entry.Entry.{Entry}
+use Rattle.hippo_model.specs.declared.query.Query.{Query}
 use Rattle.hippo_model.specs.declared.stored.StoredEntry.{StoredEntry}
 use Rattle.hippo_model.specs.Terms.{History}
 use Rattle.hippo_model.specs.HandedOver.{is_asked}
 use Rattle.hippo_model.specs.StoredForms.{stored}
 use Rattle.hippo_model.specs.Stores.{IsStoreOf}
-use Rattle.hippo_model.specs.Audits.{in_period, shared}
+use Rattle.hippo_model.specs.Audits.{in_period, is_exempt, shared}
 use Rattle.hippo_laws.specs.Audits.{StandsIn}
 use Rattle.hippo_entry.specs.Forms.{IsEntryOf}
 use Rattle.hippo_keeper.specs.Keeping.{Store, KeeperState, IsAfterCall, RisesAbove}
-use Rattle.hippo_typing.specs.Meanings.{meaning}
+use Rattle.hippo_typing.specs.Meanings.{meaning_in, meaning}
 use Rattle.hippo_backlog.specs.declared.faults.ReadFault.{ReadFault}
 use Rattle.hippo_backlog.specs.declared.faults.ReadFault.TheVariants.{Keeper, Damaged, Memory}
 use Rattle.hippo_backlog.specs.Calls.{as_call, KeepsSame}
@@ -35,6 +36,22 @@ IsDecoded kept (Ok entry) = IsEntryOf kept (Some entry)
 IsDecoded kept (Err (Damaged number)) = IsEntryOf kept None × (number ≡ kept.seq)
 IsDecoded kept (Err Memory) = ⊤
 IsDecoded kept (Err Keeper) = ⊥
+
+-- what a text means now is found, or it means nothing
+abbrev pub IsMeant : Past → Txt → Result Query ReadFault → Type 0
+IsMeant past text (Ok query) = meaning_in past.catalog.now.names text ≡ Some query
+IsMeant past text (Err (Damaged number)) = meaning_in past.catalog.now.names text ≡ None
+IsMeant past text (Err Memory) = ⊤
+IsMeant past text (Err Keeper) = ⊥
+
+-- an entry is a question that is not exempt, and its text means this query now
+pub record IsAskedFor (past : Past) (audit : Audit) (entry : Entry) (query : Query) : Type 0 where
+  pub purpose : Name
+  pub recipient : Name
+  pub text : Txt
+  pub asked : question_in entry.act ≡ Some (purpose, recipient, text)
+  pub means : meaning_in past.catalog.now.names text ≡ Some query
+  pub counts : is_exempt audit purpose recipient ≡ false
 
 -- whether an entry is a question of an audit's period
 abbrev pub was_asked : Audit → Entry → Bool

@@ -3,14 +3,14 @@ ghost use Rattle.std.specs.Prelude.{◌≡◌, ◌≤◌, true, bytes_eq, option
 ghost use Rattle.std.specs.List.{IsDistinct};
 ghost use Rattle.hippo_model.specs.Audits.{flag_by};
 ghost use Rattle.hippo_keeper.specs.Keeping.{IsReady};
-ghost use Rattle.hippo_audit_job.specs.Looking.{question_in, LooksAt};
+ghost use Rattle.hippo_audit_job.specs.Looking.{question_in, IsMeant, IsAskedFor, LooksAt};
 
 use crate::candidates::{in_period, is_exempt, names_all};
 use crate::examiner::Examiner;
 use crate::past::Past;
 use hippo_backlog::ReadFault;
 use hippo_keeper::{Keeper, Steps};
-use hippo_model::{Act, Audit, Entry, Flag, Pair, SharedTuple};
+use hippo_model::{Act, Audit, Entry, Flag, Pair, Query, SharedTuple};
 use hippo_typing::read_meaning;
 use hippo_values::{Memory, Moment, Name, Txt};
 use std::alloc::Global;
@@ -80,6 +80,42 @@ pub(crate) fn flagged(entry: Entry, shared: Option<SharedTuple>) -> Option<Flag>
     }
 }
 
+// The query that a question's text means, `Damaged` with its number where it means none.
+fn meant(alloc: Global, past: &Past<'_>, number: u64, text: &Txt) -> Result<Query, ReadFault>
+    ensures { IsMeant past.now text.now result }
+{
+    match read_meaning(alloc, past.catalog, text.as_str()) {
+        Ok(Some(query)) => Ok(query),
+        Ok(None) => Err(ReadFault::Damaged(number)),
+        Err(Memory) => Err(ReadFault::Memory),
+    }
+}
+
+// What a question that is not exempt shares with an audit, where its text means this query.
+fn shared_by<P: Keeper, L: Ledger, X: Examiner<P>>(
+    examiner: &mut X,
+    keeper: &mut P,
+    alloc: Global,
+    past: &Past<'_>,
+    entry: &Entry,
+    query: &Query,
+    audit: &Audit,
+    steps: &mut Steps<L>,
+) -> Result<Option<SharedTuple>, ReadFault>
+    requires ready { IsReady true (P.state keeper.old) }
+    requires sound { X.terms.sound examiner.old }
+    requires order { X.terms.upto examiner.old ≤ entry.now.seq }
+    requires tables { IsDistinct bytes_eq audit.now.tables }
+    ensures looks { IsAskedFor past.now audit.now entry.now query.now → LooksAt X.terms past.now audit.now entry.now
+        result examiner.old examiner.new (P.state keeper.old) (P.state keeper.new) steps.old steps.new }
+{
+    if names_all(query, audit) {
+        examiner.examine(keeper, alloc, past, entry, query, audit, steps)
+    } else {
+        Ok(None)
+    }
+}
+
 /// What a question shares with an audit: nothing where it is no candidate. `Damaged` where the entry is no question of
 /// the audit's period, or its text means nothing.
 pub(crate) fn shared_with<P: Keeper, L: Ledger, X: Examiner<P>>(
@@ -107,14 +143,12 @@ pub(crate) fn shared_with<P: Keeper, L: Ledger, X: Examiner<P>>(
     if is_exempt(audit, question.purpose, question.recipient) {
         return Ok(None);
     }
-    match read_meaning(alloc, past.catalog, question.text.as_str()) {
-        Ok(Some(query)) => {
-            if !names_all(&query, audit) {
-                return Ok(None);
-            }
-            examiner.examine(keeper, alloc, past, entry, &query, audit, steps)
+    match meant(alloc, past, entry.seq, question.text) {
+        Ok(query) => {
+            let shared = shared_by(examiner, keeper, alloc, past, entry, &query, audit, steps);
+            drop(query);
+            shared
         }
-        Ok(None) => Err(ReadFault::Damaged(entry.seq)),
-        Err(Memory) => Err(ReadFault::Memory),
+        Err(fault) => Err(fault),
     }
 }
