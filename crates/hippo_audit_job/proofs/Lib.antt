@@ -4,3 +4,6 @@ pub mod AuditLemmas
 pub mod CountLemmas
 pub mod JobLemmas
 pub mod QuestionLemmas
+pub mod ReadingLemmas
+pub mod StepLemmas
+pub mod FirstLemmas

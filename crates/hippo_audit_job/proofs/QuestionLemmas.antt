@@ -20,12 +20,12 @@ use Rattle.hippo_model.specs.Audits.{in_period, is_exempt, shared_by, shared_in,
 use Rattle.hippo_keeper.specs.Keeping.{KeeperState, IsReady}
 use Rattle.hippo_typing.specs.Meanings.{meaning_in, meaning}
 use Rattle.hippo_backlog.specs.declared.faults.ReadFault.{ReadFault}
-use Rattle.hippo_backlog.specs.declared.faults.ReadFault.TheVariants.{Keeper, Damaged}
+use Rattle.hippo_backlog.specs.declared.faults.ReadFault.TheVariants.{Keeper, Damaged, Memory}
 use Rattle.hippo_backlog.specs.Calls.{as_call}
 use Rattle.hippo_backlog.proofs.CallLemmas.{KeepsSame-here, IsAfterCall-none, as_call-unfailed}
 use Rattle.hippo_audit_job.specs.declared.past.Past.{Past}
 use Rattle.hippo_audit_job.specs.Examining.{IsPastOf, Examination, first_serving, MovesOn, Examines}
-use Rattle.hippo_audit_job.specs.Looking.{question_in, was_asked, IsQuestionOf, LooksAt}
+use Rattle.hippo_audit_job.specs.Looking.{question_in, IsMeant, IsAskedFor, was_asked, IsQuestionOf, LooksAt}
 use Rattle.hippo_audit_job.proofs.CountLemmas.{RisesWith-none, FallsWith-none}
 use Rattle.hippo_audit_job.proofs.StretchLemmas.{question_means}
 
@@ -161,3 +161,33 @@ module _ {X : Type 0} (terms : Examination X) (past : Past) (audit : Audit) (ent
               (examined.finds question.stands asked.user found.0 found.1 found.2 asked.is (meant_then history audit entry question past stands found is query meant));
         };
   }
+
+  module _ (examiner : X) (keeper : KeeperState) (steps : ℕ) (ready : IsReady true keeper) (sound : terms.sound examiner) (order : terms.upto examiner ≤ entry.seq) where
+    -- a query that does not name each column shares nothing
+    pub LooksAt-unnamed : (query : Query) → IsAskedFor past audit entry query → names_all query audit ≡ false → LooksAt terms past audit entry (Ok None) examiner examiner keeper keeper steps steps
+    LooksAt-unnamed query asked names =
+        LooksAt-unasked examiner keeper steps ready sound order (Ok None) (λ e. absurd cc) (λ history stands question number e. absurd cc)
+        (λ history stands question. shares_unnamed history audit entry question past stands (asked.purpose, asked.recipient, asked.text) asked.asked query asked.means names)
+
+    -- nor a question that is exempt
+    pub LooksAt-exempt : (found : Name × Name × Txt) → question_in entry.act ≡ Some found → is_exempt audit found.0 found.1 ≡ true → LooksAt terms past audit entry (Ok None) examiner examiner keeper keeper steps steps
+    LooksAt-exempt found is exempt =
+        LooksAt-unasked examiner keeper steps ready sound order (Ok None) (λ e. absurd cc) (λ history stands question number e. absurd cc)
+        (λ history stands question. shares_exempt history audit entry question past stands found is exempt)
+
+    -- an entry that is no question of the period
+    pub LooksAt-other : (place : ℕ) → question_in entry.act ≡ None → LooksAt terms past audit entry (Err (Damaged place)) examiner examiner keeper keeper steps steps
+    LooksAt-other place none =
+        LooksAt-unasked examiner keeper steps ready sound order (Err (Damaged place)) (λ e. absurd cc) (λ history stands question number e. absurd (is_question history audit entry question none)) (λ history stands question. tt)
+
+    pub LooksAt-outside : (place : ℕ) → in_period audit entry.moment ≡ false → LooksAt terms past audit entry (Err (Damaged place)) examiner examiner keeper keeper steps steps
+    LooksAt-outside place outside =
+        LooksAt-unasked examiner keeper steps ready sound order (Err (Damaged place)) (λ e. absurd cc) (λ history stands question number e. absurd (is_inside history audit entry question outside)) (λ history stands question. tt)
+
+    -- a question whose text means nothing now
+    pub LooksAt-meant : (found : Name × Name × Txt) → question_in entry.act ≡ Some found → (fault : ReadFault) → IsMeant past found.2 (Err fault) → LooksAt terms past audit entry (Err fault) examiner examiner keeper keeper steps steps
+    LooksAt-meant found is Keeper meant = absurd meant
+    LooksAt-meant found is Memory meant =
+        LooksAt-unasked examiner keeper steps ready sound order (Err Memory) (λ e. absurd cc) (λ history stands question number e. absurd cc) (λ history stands question. tt)
+    LooksAt-meant found is (Damaged place) meant =
+        LooksAt-unasked examiner keeper steps ready sound order (Err (Damaged place)) (λ e. absurd cc) (λ history stands question number e. absurd (is_meant history audit entry question past stands found is meant)) (λ history stands question. tt)

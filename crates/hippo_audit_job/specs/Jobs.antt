@@ -9,7 +9,7 @@ use Rattle.hippo_model.specs.HandedOver.{is_asked}
 use Rattle.hippo_model.specs.StoredForms.{stored}
 use Rattle.hippo_model.specs.Versions.{versions}
 use Rattle.hippo_model.specs.Audits.{in_period, flags_between}
-use Rattle.hippo_keeper.specs.Keeping.{KeeperState, RisesAbove}
+use Rattle.hippo_keeper.specs.Keeping.{KeeperState, RisesAbove, last_number}
 use Rattle.hippo_typing.specs.Meanings.{meaning}
 use Rattle.hippo_backlog.specs.declared.faults.ReadFault.{ReadFault}
 use Rattle.hippo_backlog.specs.declared.faults.ReadFault.TheVariants.{Damaged}
@@ -62,7 +62,7 @@ pub record IsSound {X : Type 0} (terms : Examination X) (job : Job X) : Type 0 w
   pub tables : IsDistinct bytes_eq job.audit.tables
   pub within : job.place ≤ job.length
   pub counted : job.found ≤ job.place
-  pub read : job.place ≤ job.questions.reached
+  pub read : last_number job.place job.questions.waiting ≤ job.questions.reached
   pub ahead : RisesAbove job.place job.questions.waiting
   pub examiner_is : terms.sound job.examiner
   pub asked : terms.upto job.examiner ≤ job.place + 1

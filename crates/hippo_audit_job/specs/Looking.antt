@@ -16,7 +16,7 @@ use Rattle.hippo_model.specs.Stores.{IsStoreOf}
 use Rattle.hippo_model.specs.Audits.{in_period, is_exempt, shared}
 use Rattle.hippo_laws.specs.Audits.{StandsIn}
 use Rattle.hippo_entry.specs.Forms.{IsEntryOf}
-use Rattle.hippo_keeper.specs.Keeping.{Store, KeeperState, IsAfterCall, RisesAbove}
+use Rattle.hippo_keeper.specs.Keeping.{KeeperState, IsAfterCall, RisesAbove, last_number}
 use Rattle.hippo_typing.specs.Meanings.{meaning_in, meaning}
 use Rattle.hippo_backlog.specs.declared.faults.ReadFault.{ReadFault}
 use Rattle.hippo_backlog.specs.declared.faults.ReadFault.TheVariants.{Keeper, Damaged, Memory}
@@ -85,8 +85,8 @@ pub record ReadsAhead {A : Type 0} (audit : Audit) (end : ℕ) (result : Result 
     (before after : KeeperState) : Type 0 where
   pub is_after : IsAfterCall true false (as_call result) before after
   pub stays : after.tells → KeepsSame before after
-  pub further : old.reached ≤ new.reached
   pub order : RisesAbove old.reached new.waiting
+  pub last : last_number old.reached new.waiting ≤ new.reached
   pub onward : OnOk result (old.reached < end → old.reached < new.reached)
   pub undamaged : (number : ℕ) → result ≢ Err (Damaged number)
   pub told : after.tells → (history : History) → IsStoreOf meaning before.kept history → end ≤ length history

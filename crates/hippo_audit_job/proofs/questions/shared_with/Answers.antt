@@ -1,10 +1,11 @@
-use Rattle.std.proofs.Common.{rules, ◌≡◌, ◌≤◌, true, bytes_eq, option_map, option_and_then, ℕ, ◌+◌, ◌-◌, ◌*◌, ◌<◌, length, ◌/◌, ◌%◌, Bool, false, nat_eq, nat_lt, List, [], ◌∷◌, ◌++◌, slice_index_or, slice_set, bit_and, bit_or, Fits, w8, w32, w64, Bor, MutBor}
-use Rattle.std.specs.List.{IsDistinct}
-use Rattle.hippo_model.specs.Audits.{flag_by}
-use Rattle.hippo_keeper.specs.Keeping.{IsReady}
-use Rattle.hippo_audit_job.specs.Looking.{question_in, IsMeant, IsAskedFor, LooksAt}
+-- The question is taken apart and its text is read; or something is not right.
+use Rattle.std.proofs.Common.{◌≡◌, Some, sym, ap, ◌∙◌}
+use Rattle.hippo_audit_job.proofs.QuestionLemmas.{LooksAt-meant}
 use Rattle.hippo_audit_job.proofs.questions.shared_with.Goals as goal
 
--- src/questions.rt:121:1
 pub returns-in-Err : goal.returns-in-Err
-returns-in-Err g c = ?
+returns-in-Err g c = record {
+  looks =
+      LooksAt-meant g.X.Examiner.terms c.args.past.now c.args.audit.now c.args.entry.now c.args.examiner.now (g.P.Keeper.state c.args.keeper.now) c.args.steps.now c.requires.ready c.requires.sound c.requires.order
+      (c.in-Some.question.purpose.now, c.in-Some.question.recipient.now, c.in-Some.question.text.now) (sym c.in-Some.ensures) c.in-Err.fault c.in-Err.ensures;
+}
