@@ -1,0 +1,9 @@
+pub mod NamedColumns
+pub mod StretchLemmas
+pub mod AuditLemmas
+pub mod CountLemmas
+pub mod JobLemmas
+pub mod QuestionLemmas
+pub mod ReadingLemmas
+pub mod StepLemmas
+pub mod FirstLemmas

@@ -1,0 +1,146 @@
+-- What examines a logged question: what it holds, and what it answers of one.
+use Rattle.std.specs.Prelude.{◌≡◌, ◌≢◌, ◌≤◌, ◌<◌, ⊤, ℕ, ◌+◌, min, true, false, nat_lt, List, [], ◌∷◌, ◌++◌, map, find, length, slice_index_or, bytes_eq, Option, Some, None, is_some, Result, Err, IfOk}
+use Rattle.std.specs.List.{AllByRecursion, IsDistinct}
+use Rattle.hippo_values.specs.Texts.{Txt}
+use Rattle.hippo_values.specs.declared.names.Name.{Name}
+use Rattle.hippo_model.specs.declared.audit.Audit.{Audit}
+use Rattle.hippo_model.specs.declared.audit.SharedRow.{SharedRow}
+use Rattle.hippo_model.specs.declared.entry.Act.TheVariants.{Asked}
+use Rattle.hippo_model.specs.declared.entry.Entry.{Entry}
+use Rattle.hippo_model.specs.declared.query.Query.{Query}
+use Rattle.hippo_model.specs.declared.query.Ref.{Ref}
+use Rattle.hippo_model.specs.Terms.{History}
+use Rattle.hippo_model.specs.Histories.{before_entry, schema_at}
+use Rattle.hippo_model.specs.StoredForms.{stored}
+use Rattle.hippo_model.specs.Validity.{is_valid, table_passes}
+use Rattle.hippo_model.specs.Verdicts.{Context}
+use Rattle.hippo_model.specs.Versions.{versions}
+use Rattle.hippo_model.specs.Audits.{common, virtual_tuples, serves}
+use Rattle.hippo_laws.specs.Audits.{StandsIn}
+use Rattle.hippo_keeper.specs.Keeping.{KeeperState, IsAfterCall}
+use Rattle.hippo_catalog.specs.Catalogs.{known_at}
+use Rattle.hippo_policy.specs.Books.{StandsFor}
+use Rattle.hippo_typing.specs.Meanings.{meaning}
+use Rattle.hippo_backlog.specs.declared.faults.ReadFault.{ReadFault}
+use Rattle.hippo_backlog.specs.declared.faults.ReadFault.TheVariants.{Damaged}
+use Rattle.hippo_backlog.specs.Calls.{as_call, KeepsSame}
+use Rattle.hippo_audit_job.specs.declared.past.Past.{Past}
+
+-- the history is valid; its names, its rules and choices, and its length
+pub record IsPastOf (past : Past) (history : History) : Type 0 where
+  pub valid : is_valid meaning history ≡ true
+  pub names : past.catalog.now.names ≡ known_at history
+  pub book : StandsFor past.book.now history
+  pub count : past.count ≡ length history
+
+-- a column of one of these tables, which is created
+pub record IsColumnOf (history : History) (tables : List Name) (column : Ref) : Type 0 where
+  pub table : column.table < length tables
+  pub within : table_passes history (λ schema. nat_lt column.column (length schema.columns))
+      (slice_index_or tables column.table []) ≡ true
+
+-- the tables of an audit differ and are created, and the audited columns are theirs
+pub record IsAuditOf (history : History) (audit : Audit) : Type 0 where
+  pub differ : IsDistinct bytes_eq audit.tables
+  pub created : AllByRecursion (λ table. is_some (schema_at history table) ≡ true) audit.tables
+  pub columns : AllByRecursion (IsColumnOf history audit.tables) audit.columns
+
+-- a count, where there is one, has risen by as much as the steps
+abbrev pub RisesWith : Option ℕ → Option ℕ → ℕ → ℕ → Type 0
+RisesWith (Some old) (Some new) steps_old steps_new = new + steps_old ≡ old + steps_new
+RisesWith None None steps_old steps_new = ⊤
+RisesWith old new steps_old steps_new = ⊥
+
+-- a count, where there is one, has fallen by at least as much as the steps rose
+abbrev pub FallsWith : Option ℕ → Option ℕ → ℕ → ℕ → Type 0
+FallsWith (Some old) (Some new) steps_old steps_new = steps_new + new ≤ steps_old + old
+FallsWith None None steps_old steps_new = ⊤
+FallsWith old new steps_old steps_new = ⊥
+
+-- a count, where there is one, has risen by at most a number
+abbrev pub RisesWithin : Option ℕ → Option ℕ → ℕ → Type 0
+RisesWithin (Some old) (Some new) number = new ≤ old + number
+RisesWithin None None number = ⊤
+RisesWithin old new number = ⊥
+
+-- two counts, where there are any, are together at most a number
+abbrev pub AreWithin : Option ℕ → Option ℕ → ℕ → Type 0
+AreWithin (Some first) (Some second) number = first + second ≤ number
+AreWithin None None number = ⊤
+AreWithin first second number = ⊥
+
+-- what is said of an examiner: what fits a history and a number fits each higher number and each longer valid history,
+-- and what it has not read of the history grows by the versions that are added
+pub record Examination (X : Type 0) : Type 1 where
+  pub sound : X → Type 0
+  -- up to which entry number it was asked
+  pub upto : X → ℕ
+  -- it may be asked over a history about the entries from a number on
+  pub fits : X → History → ℕ → Type 0
+  -- how many versions it was handed, where it counts them
+  pub handed : X → Option ℕ
+  -- how many versions of a history it may still be handed, where it counts them
+  pub unread : X → History → Option ℕ
+  pub onward : (examiner : X) (history : History) (low high : ℕ) → low ≤ high → fits examiner history low
+      → fits examiner history high
+  pub longer : (examiner : X) (history : History) (entry : Entry) (number : ℕ)
+      → is_valid meaning (history ++ entry ∷ []) ≡ true → fits examiner history number
+      → fits examiner (history ++ entry ∷ []) number
+  pub grows : (examiner : X) (history : History) (entry : Entry) (number : ℕ)
+      → is_valid meaning (history ++ entry ∷ []) ≡ true → fits examiner history number
+      → RisesWithin (unread examiner history) (unread examiner (history ++ entry ∷ [])) (versions (entry ∷ []))
+
+-- an examiner that was asked nothing
+pub record IsNew {X : Type 0} (terms : Examination X) (examiner : X) : Type 0 where
+  pub is_sound : terms.sound examiner
+  pub unasked : terms.upto examiner ≡ 0
+  pub fits_each : (history : History) (number : ℕ) → is_valid meaning history ≡ true
+      → terms.fits examiner history number
+  pub none_handed : (count : ℕ) → terms.handed examiner ≡ Some count → count ≡ 0
+  pub counted : (history : History) → is_valid meaning history ≡ true
+      → AreWithin (terms.handed examiner) (terms.unread examiner history) (versions history)
+
+-- the first virtual tuple that serves
+abbrev pub first_serving : History → Context → Query → Audit → Option (List SharedRow)
+first_serving history context query audit =
+    find (serves history context query audit) (virtual_tuples history (common query audit))
+
+-- the first virtual tuple that serves is found, at the entry's own time
+abbrev pub FindsServing : History → Audit → Entry → Query → Result (Option (List SharedRow)) ReadFault → Type 0
+FindsServing history audit entry query result =
+    (user purpose recipient : Name) (text : Txt) → entry.act ≡ Asked user purpose recipient text
+    → meaning (before_entry entry history) text ≡ Some query
+    → let context : Context = record { purpose = purpose; recipient = recipient; moment = entry.moment } in
+    IfOk result (λ shared. shared ≡ first_serving (before_entry entry history) context query audit)
+
+-- of a history that is kept: the examiner fits it still, no entry of it is damaged, what is read of it is not read
+-- again, and what serves is found
+pub record ExaminesKept {X : Type 0} (terms : Examination X) (history : History) (audit : Audit) (entry : Entry)
+    (query : Query) (result : Result (Option (List SharedRow)) ReadFault) (old new : X)
+    (steps_old steps_new : ℕ) : Type 0 where
+  pub fits_still : terms.fits new history entry.seq
+  pub undamaged : (number : ℕ) → result ≢ Err (Damaged number)
+  pub once : FallsWith (terms.unread old history) (terms.unread new history) steps_old steps_new
+  pub finds : StandsIn meaning history entry → FindsServing history audit entry query result
+
+-- what each call of an examiner does, whatever the keeper tells: it was asked up to a number
+pub record MovesOn {A X : Type 0} (terms : Examination X) (number : ℕ) (result : Result A ReadFault) (old new : X)
+    (before after : KeeperState) (steps_old steps_new : ℕ) : Type 0 where
+  pub is_after : IsAfterCall true false (as_call result) before after
+  pub stays : after.tells → KeepsSame before after
+  pub is_sound : terms.sound new
+  pub limit : terms.upto new ≤ number
+  pub ledger : RisesWith (terms.handed old) (terms.handed new) steps_old steps_new
+
+-- what examining a question does
+pub record Examines {X : Type 0} (terms : Examination X) (past : Past) (audit : Audit) (entry : Entry) (query : Query)
+    (result : Result (Option (List SharedRow)) ReadFault) (old new : X) (before after : KeeperState)
+    (steps_old steps_new : ℕ) : Type 0 where
+  pub moves : MovesOn terms entry.seq result old new before after steps_old steps_new
+  pub told : after.tells → (history : History) → map stored history ≡ before.kept → IsPastOf past history
+      → IsAuditOf history audit → terms.fits old history entry.seq
+      → ExaminesKept terms history audit entry query result old new steps_old steps_new
+
+-- a count as far as 64 bits show it
+abbrev pub shown_count : ℕ → ℕ
+shown_count count = min count 18446744073709551615

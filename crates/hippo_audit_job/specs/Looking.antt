@@ -1,0 +1,93 @@
+-- What an audit makes of one logged question, and of the questions that are read ahead.
+use Rattle.std.specs.Prelude.{◌≡◌, ◌≢◌, ◌≤◌, ◌<◌, ℕ, true, false, Bool, ◌&&◌, List, [], map, length, Option, Some, None, Result, Ok, Err, IfOk, OnOk, ⊤}
+use Rattle.hippo_values.specs.Texts.{Txt}
+use Rattle.hippo_values.specs.declared.names.Name.{Name}
+use Rattle.hippo_model.specs.declared.audit.Audit.{Audit}
+use Rattle.hippo_model.specs.declared.audit.SharedRow.{SharedRow}
+use Rattle.hippo_model.specs.declared.entry.Act.{Act}
+use Rattle.hippo_model.specs.declared.entry.Act.TheVariants.{Asked}
+use Rattle.hippo_model.specs.declared.entry.Entry.{Entry}
+use Rattle.hippo_model.specs.declared.query.Query.{Query}
+use Rattle.hippo_model.specs.declared.stored.StoredEntry.{StoredEntry}
+use Rattle.hippo_model.specs.Terms.{History}
+use Rattle.hippo_model.specs.HandedOver.{is_asked}
+use Rattle.hippo_model.specs.StoredForms.{stored}
+use Rattle.hippo_model.specs.Stores.{IsStoreOf}
+use Rattle.hippo_model.specs.Audits.{in_period, is_exempt, shared}
+use Rattle.hippo_laws.specs.Audits.{StandsIn}
+use Rattle.hippo_entry.specs.Forms.{IsEntryOf}
+use Rattle.hippo_keeper.specs.Keeping.{KeeperState, IsAfterCall, RisesAbove, last_number}
+use Rattle.hippo_typing.specs.Meanings.{meaning_in, meaning}
+use Rattle.hippo_backlog.specs.declared.faults.ReadFault.{ReadFault}
+use Rattle.hippo_backlog.specs.declared.faults.ReadFault.TheVariants.{Keeper, Damaged, Memory}
+use Rattle.hippo_backlog.specs.Calls.{as_call, KeepsSame}
+use Rattle.hippo_backlog.specs.ReadingAhead.{ReadAhead, with_piece, IsAhead}
+use Rattle.hippo_audit_job.specs.declared.past.Past.{Past}
+use Rattle.hippo_audit_job.specs.Examining.{Examination, MovesOn, FallsWith, IsPastOf, IsAuditOf}
+
+-- for which purpose and recipient was asked, and the text, where an act is a question
+abbrev pub question_in : Act → Option (Name × Name × Txt)
+question_in (Asked user purpose recipient text) = Some (purpose, recipient, text)
+question_in act = None
+
+-- the entry of a stored form is found, or there is none
+abbrev pub IsDecoded : StoredEntry → Result Entry ReadFault → Type 0
+IsDecoded kept (Ok entry) = IsEntryOf kept (Some entry)
+IsDecoded kept (Err (Damaged number)) = IsEntryOf kept None × (number ≡ kept.seq)
+IsDecoded kept (Err Memory) = ⊤
+IsDecoded kept (Err Keeper) = ⊥
+
+-- what a text means now is found, or it means nothing
+abbrev pub IsMeant : Past → Txt → Result Query ReadFault → Type 0
+IsMeant past text (Ok query) = meaning_in past.catalog.now.names text ≡ Some query
+IsMeant past text (Err (Damaged number)) = meaning_in past.catalog.now.names text ≡ None
+IsMeant past text (Err Memory) = ⊤
+IsMeant past text (Err Keeper) = ⊥
+
+-- an entry is a question that is not exempt, and its text means this query now
+pub record IsAskedFor (past : Past) (audit : Audit) (entry : Entry) (query : Query) : Type 0 where
+  pub purpose : Name
+  pub recipient : Name
+  pub text : Txt
+  pub asked : question_in entry.act ≡ Some (purpose, recipient, text)
+  pub means : meaning_in past.catalog.now.names text ≡ Some query
+  pub counts : is_exempt audit purpose recipient ≡ false
+
+-- whether an entry is a question of an audit's period
+abbrev pub was_asked : Audit → Entry → Bool
+was_asked audit entry = is_asked entry.act && in_period audit entry.moment
+
+-- an entry of a valid history that is a question of the audit's period
+pub record IsQuestionOf (history : History) (audit : Audit) (entry : Entry) : Type 0 where
+  pub stands : StandsIn meaning history entry
+  pub asked : was_asked audit entry ≡ true
+
+-- of a history that is kept: the examiner fits it still, what is read of it is not read again, and of a question what it
+-- shares is found
+pub record LooksAtKept {X : Type 0} (terms : Examination X) (history : History) (audit : Audit) (entry : Entry)
+    (result : Result (Option (List SharedRow)) ReadFault) (old new : X) (steps_old steps_new : ℕ) : Type 0 where
+  pub fits_still : terms.fits new history entry.seq
+  pub once : FallsWith (terms.unread old history) (terms.unread new history) steps_old steps_new
+  pub undamaged : IsQuestionOf history audit entry → (number : ℕ) → result ≢ Err (Damaged number)
+  pub finds : IsQuestionOf history audit entry → IfOk result (λ found. found ≡ shared meaning history audit entry)
+
+-- what looking at a question does
+pub record LooksAt {X : Type 0} (terms : Examination X) (past : Past) (audit : Audit) (entry : Entry)
+    (result : Result (Option (List SharedRow)) ReadFault) (old new : X) (before after : KeeperState)
+    (steps_old steps_new : ℕ) : Type 0 where
+  pub moves : MovesOn terms entry.seq result old new before after steps_old steps_new
+  pub told : after.tells → (history : History) → map stored history ≡ before.kept → IsPastOf past history
+      → IsAuditOf history audit → terms.fits old history entry.seq
+      → LooksAtKept terms history audit entry result old new steps_old steps_new
+
+-- a piece of the questions of an audit's period is read, where nothing waits
+pub record ReadsAhead {A : Type 0} (audit : Audit) (end : ℕ) (result : Result A ReadFault) (old new : ReadAhead)
+    (before after : KeeperState) : Type 0 where
+  pub is_after : IsAfterCall true false (as_call result) before after
+  pub stays : after.tells → KeepsSame before after
+  pub order : RisesAbove old.reached new.waiting
+  pub last : last_number old.reached new.waiting ≤ new.reached
+  pub onward : OnOk result (old.reached < end → old.reached < new.reached)
+  pub undamaged : (number : ℕ) → result ≢ Err (Damaged number)
+  pub told : after.tells → (history : History) → IsStoreOf meaning before.kept history → end ≤ length history
+      → (place : ℕ) → IsAhead (was_asked audit) place old history → IsAhead (was_asked audit) place new history

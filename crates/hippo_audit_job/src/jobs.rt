@@ -1,0 +1,266 @@
+//! Audit jobs, which look at the logged questions of a history in steps.
+ghost use Rattle.std.specs.Prelude.{◌≡◌, ◌==◌, ◌≤◌, ◌<◌, ◌+◌, min, true, false, [], length, option_map, Ok, OnOk, OnErr};
+ghost use Rattle.hippo_keeper.specs.Keeping.{IsReady};
+ghost use Rattle.hippo_audit_job.specs.Examining.{shown_count};
+
+use crate::examiner::Examiner;
+use crate::past::Past;
+use crate::questions::{flagged, shared_with};
+use crate::reading::{decoded, has_read, read_ahead};
+use hippo_backlog::{Ahead, ReadFault};
+use hippo_keeper::{Keeper, Steps};
+use hippo_model::{Audit, Flag, Flags};
+use hippo_values::Memory;
+use std::alloc::Global;
+use std::sync::ledger::Ledger;
+
+// The number up to which so many more numbers go, and no further than to the end.
+fn step_end(place: u64, count: u64, length: u64) -> u64
+    ensures { result ≡ min (place + count) length }
+{
+    place.saturating_add(count).min(length)
+}
+
+/// An audit of the first entries of a history, which looks at the questions of its period in steps, however they are
+/// cut.
+#[derive(Drop)]
+pub struct Job<X> {
+    audit: Audit,
+    // How many entries the history had when it began.
+    length: u64,
+    // The number up to which it has looked.
+    place: u64,
+    // The flags that are not written yet.
+    waiting: Flags,
+    // How many flags it found.
+    found: u64,
+    unbroken: bool,
+    // The questions of the period that were read ahead of the place.
+    questions: Ahead,
+    examiner: X,
+}
+
+impl<X> Job<X> {
+    ghost use Rattle.hippo_audit_job.specs.Jobs.{new_job};
+
+    /// A job over the first `length` entries, with an examiner that was asked nothing; takes no memory.
+    pub fn begin(alloc: Global, audit: Audit, length: u64, examiner: X) -> Job<X>
+        ensures { result ≡ new_job audit length examiner }
+    {
+        Job {
+            audit,
+            length,
+            place: 0,
+            waiting: Flags::new(alloc),
+            found: 0,
+            unbroken: true,
+            questions: Ahead::new(alloc),
+            examiner,
+        }
+    }
+
+    /// Whether it has looked at all of its numbers.
+    pub fn at_end(&self) -> bool
+        ensures { result ≡ (self.now.place == self.now.length) }
+    {
+        self.place == self.length
+    }
+
+    /// The number up to which it has looked: 0 at first.
+    pub fn place(&self) -> u64
+        ensures { result ≡ self.now.place }
+    {
+        self.place
+    }
+
+    /// How many flags it found, those that are written included.
+    pub fn flag_count(&self) -> u64
+        ensures { result ≡ self.now.found }
+    {
+        self.found
+    }
+
+    /// The flags that are not written yet, in the order of their numbers.
+    pub fn waiting(&self) -> &Flags
+        ensures { result.now ≡ self.now.waiting }
+    {
+        &self.waiting
+    }
+
+    /// Whether each step so far answered Ok.
+    pub fn unbroken(&self) -> bool
+        ensures { result ≡ self.now.unbroken }
+    {
+        self.unbroken
+    }
+
+    /// No flag waits any more; takes no memory.
+    pub fn written(&mut self)
+        ensures { self.new ≡ record self.old { waiting = [] } }
+    {
+        self.waiting.clear();
+    }
+
+    /// How many versions its examiner was handed, where it counts them: at most 2^64 - 1, at which the count stands
+    /// still.
+    pub fn taken<P: Keeper>(&self) -> Option<u64>
+    where
+        X: Examiner<P>,
+        ensures { result ≡ option_map shown_count (X.terms.handed self.now.examiner) }
+    {
+        self.examiner.taken()
+    }
+}
+
+impl<X> Job<X> {
+    ghost use Rattle.hippo_audit_job.specs.Jobs.{with_flag, IsSound, LooksOn, HasStepped};
+    ghost use Rattle.hippo_backlog.specs.ReadingAhead.{BeginsAbove};
+
+    // A flag waits behind the others, and the first question is used.
+    fn add(&mut self, number: u64, flag: Option<Flag>) -> Result<(), Memory>
+        requires within { self.old.found < number }
+        ensures ok { OnOk result (self.new ≡ with_flag number flag self.old) }
+        ensures err { OnErr result (self.new ≡ self.old) }
+    {
+        if let Some(flag) = flag {
+            self.waiting.push(flag)?;
+            self.found += 1;
+        }
+        self.questions.pass();
+        self.place = number;
+        Ok(())
+    }
+
+    // Looks at the first question that was read ahead, if its number is at most this; whether there was one.
+    fn look_at_first<P: Keeper, L: Ledger>(
+        &mut self,
+        keeper: &mut P,
+        alloc: Global,
+        upto: u64,
+        past: &Past<'_>,
+        steps: &mut Steps<L>,
+    ) -> Result<bool, ReadFault>
+    where
+        X: Examiner<P>,
+        requires ready { IsReady true (P.state keeper.old) }
+        requires sound { IsSound X.terms self.old }
+        requires forward { self.old.place ≤ upto }
+        requires within { upto ≤ self.old.length }
+        ensures looks { LooksOn X.terms upto past.now result self.old self.new
+            (P.state keeper.old) (P.state keeper.new) steps.old steps.new }
+        ensures past { result ≡ Ok false → BeginsAbove upto self.new.questions.waiting }
+        ensures fewer { result ≡ Ok true → length self.new.questions.waiting < length self.old.questions.waiting }
+        ensures unbroken { self.new.unbroken ≡ self.old.unbroken }
+    {
+        let Some(kept) = self.questions.first() else {
+            return Ok(false);
+        };
+        let number = kept.seq;
+        if upto < number {
+            return Ok(false);
+        }
+        let entry = decoded(alloc, kept)?;
+        self.place = number - 1;
+        let examiner = &mut self.examiner;
+        let shared = shared_with(examiner, keeper, alloc, past, &entry, &self.audit, steps)?;
+        match self.add(number, flagged(entry, shared)) {
+            Ok(()) => Ok(true),
+            Err(Memory) => Err(ReadFault::Memory),
+        }
+    }
+
+    // Looks at the questions that were read ahead and are numbered up to this.
+    fn look_at_waiting<P: Keeper, L: Ledger>(
+        &mut self,
+        keeper: &mut P,
+        alloc: Global,
+        upto: u64,
+        past: &Past<'_>,
+        steps: &mut Steps<L>,
+    ) -> Result<(), ReadFault>
+    where
+        X: Examiner<P>,
+        requires ready { IsReady true (P.state keeper.old) }
+        requires sound { IsSound X.terms self.old }
+        requires forward { self.old.place ≤ upto }
+        requires within { upto ≤ self.old.length }
+        ensures looks { LooksOn X.terms upto past.now result self.old self.new
+            (P.state keeper.old) (P.state keeper.new) steps.old steps.new }
+        ensures past { OnOk result (BeginsAbove upto self.new.questions.waiting) }
+        ensures unbroken { self.new.unbroken ≡ self.old.unbroken }
+    {
+        loop {
+            match self.look_at_first(keeper, alloc, upto, past, steps) {
+                Ok(true) => {}
+                Ok(false) => return Ok(()),
+                Err(fault) => return Err(fault),
+            }
+        }
+    }
+
+    // Looks at the numbers up to this one.
+    fn look_up_to<P: Keeper, L: Ledger>(
+        &mut self,
+        keeper: &mut P,
+        alloc: Global,
+        upto: u64,
+        past: &Past<'_>,
+        steps: &mut Steps<L>,
+    ) -> Result<(), ReadFault>
+    where
+        X: Examiner<P>,
+        requires ready { IsReady true (P.state keeper.old) }
+        requires sound { IsSound X.terms self.old }
+        requires forward { self.old.place ≤ upto }
+        requires within { upto ≤ self.old.length }
+        ensures looks { LooksOn X.terms upto past.now result self.old self.new
+            (P.state keeper.old) (P.state keeper.new) steps.old steps.new }
+        ensures place { OnOk result (self.new.place ≡ upto) }
+        ensures unbroken { self.new.unbroken ≡ self.old.unbroken }
+    {
+        loop {
+            match self.look_at_waiting(keeper, alloc, upto, past, steps) {
+                Ok(()) => {}
+                Err(fault) => return Err(fault),
+            }
+            if has_read(&self.questions, upto) {
+                self.place = upto;
+                return Ok(());
+            }
+            match read_ahead(&mut self.questions, keeper, alloc, &self.audit, self.length) {
+                Ok(()) => {}
+                Err(fault) => return Err(fault),
+            }
+        }
+    }
+
+    /// Looks at the next `count` numbers, up to the job's end; the flags that it finds wait behind the others.
+    ///
+    /// Where it fails, it has looked up to a number between, and the flags up to there wait. That is said where the
+    /// keeper tells a valid history of which this is the past, and which the job fits; then `Damaged` never comes.
+    /// `Keeper` comes only where the keeper's count of faults rose. Steps and what is taken rise by the same.
+    pub fn step<P: Keeper, L: Ledger>(
+        &mut self,
+        keeper: &mut P,
+        alloc: Global,
+        count: u64,
+        past: &Past<'_>,
+        steps: &mut Steps<L>,
+    ) -> Result<(), ReadFault>
+    where
+        X: Examiner<P>,
+        requires ready { IsReady true (P.state keeper.old) }
+        requires sound { IsSound X.terms self.old }
+        ensures stepped { HasStepped X.terms count past.now result self.old self.new
+            (P.state keeper.old) (P.state keeper.new) steps.old steps.new }
+    {
+        let upto = step_end(self.place, count, self.length);
+        match self.look_up_to(keeper, alloc, upto, past, steps) {
+            Ok(()) => Ok(()),
+            Err(fault) => {
+                self.unbroken = false;
+                Err(fault)
+            }
+        }
+    }
+}

@@ -1,0 +1,12 @@
+//! What is known of the history whose past is looked at.
+use hippo_catalog::Catalog;
+use hippo_policy::PolicyBook;
+
+/// The names, the rules and choices, and the length of the history as it stands now: whoever looks at its past reads
+/// the rest from the keeper.
+pub struct Past<'a> {
+    pub catalog: &'a Catalog,
+    pub book: &'a PolicyBook,
+    /// The number of entries.
+    pub count: u64,
+}

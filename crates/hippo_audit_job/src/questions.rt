@@ -1,0 +1,154 @@
+//! What an audit makes of one logged question.
+ghost use Rattle.std.specs.Prelude.{◌≡◌, ◌≤◌, true, bytes_eq, option_map, option_and_then};
+ghost use Rattle.std.specs.List.{IsDistinct};
+ghost use Rattle.hippo_model.specs.Audits.{flag_by};
+ghost use Rattle.hippo_keeper.specs.Keeping.{IsReady};
+ghost use Rattle.hippo_audit_job.specs.Looking.{question_in, IsMeant, IsAskedFor, LooksAt};
+
+use crate::candidates::{in_period, is_exempt, names_all};
+use crate::examiner::Examiner;
+use crate::past::Past;
+use hippo_backlog::ReadFault;
+use hippo_keeper::{Keeper, Steps};
+use hippo_model::{Act, Audit, Entry, Flag, Pair, Query, SharedTuple};
+use hippo_typing::read_meaning;
+use hippo_values::{Memory, Moment, Name, Txt};
+use std::alloc::Global;
+use std::sync::ledger::Ledger;
+
+// For which purpose and recipient was asked, and the text.
+#[derive(Clone, Copy)]
+struct Question<'a> {
+    purpose: &'a Name,
+    recipient: &'a Name,
+    text: &'a Txt,
+}
+
+fn question_in(act: &Act) -> Option<Question<'_>>
+    ensures { option_map (λ q. (q.purpose.now, q.recipient.now, q.text.now)) result ≡ question_in act.now }
+{
+    match act {
+        Act::Asked {
+            purpose,
+            recipient,
+            text,
+            ..
+        } => Some(Question {
+            purpose,
+            recipient,
+            text,
+        }),
+        _ => None,
+    }
+}
+
+// An act as a flag, with its number and moment, and with what it shares, where it is a question.
+fn flag_by(seq: u64, moment: Moment, act: Act, shared: SharedTuple) -> Option<Flag>
+    ensures { result ≡ flag_by (record { seq = seq; moment = moment; act = act }) act shared }
+{
+    match act {
+        Act::Asked {
+            user,
+            purpose,
+            recipient,
+            text,
+        } => {
+            drop(text);
+            Some(Flag {
+                seq,
+                moment,
+                user,
+                pair: Pair { purpose, recipient },
+                shared,
+            })
+        }
+        other => {
+            drop(other);
+            None
+        }
+    }
+}
+
+/// The flag of an entry, where it shares something.
+pub(crate) fn flagged(entry: Entry, shared: Option<SharedTuple>) -> Option<Flag>
+    ensures { result ≡ option_and_then (flag_by entry entry.act) shared }
+{
+    let Entry { seq, moment, act } = entry;
+    match shared {
+        None => None,
+        Some(shared) => flag_by(seq, moment, act, shared),
+    }
+}
+
+// The query that a question's text means, `Damaged` with its number where it means none.
+fn meant(alloc: Global, past: &Past<'_>, number: u64, text: &Txt) -> Result<Query, ReadFault>
+    ensures { IsMeant past.now text.now result }
+{
+    match read_meaning(alloc, past.catalog, text.as_str()) {
+        Ok(Some(query)) => Ok(query),
+        Ok(None) => Err(ReadFault::Damaged(number)),
+        Err(Memory) => Err(ReadFault::Memory),
+    }
+}
+
+// What a question that is not exempt shares with an audit, where its text means this query.
+fn shared_by<P: Keeper, L: Ledger, X: Examiner<P>>(
+    examiner: &mut X,
+    keeper: &mut P,
+    alloc: Global,
+    past: &Past<'_>,
+    entry: &Entry,
+    query: &Query,
+    audit: &Audit,
+    steps: &mut Steps<L>,
+) -> Result<Option<SharedTuple>, ReadFault>
+    requires ready { IsReady true (P.state keeper.old) }
+    requires sound { X.terms.sound examiner.old }
+    requires order { X.terms.upto examiner.old ≤ entry.now.seq }
+    requires tables { IsDistinct bytes_eq audit.now.tables }
+    ensures looks { IsAskedFor past.now audit.now entry.now query.now → LooksAt X.terms past.now audit.now entry.now
+        result examiner.old examiner.new (P.state keeper.old) (P.state keeper.new) steps.old steps.new }
+{
+    if names_all(query, audit) {
+        examiner.examine(keeper, alloc, past, entry, query, audit, steps)
+    } else {
+        Ok(None)
+    }
+}
+
+/// What a question shares with an audit: nothing where it is no candidate. `Damaged` where the entry is no question of
+/// the audit's period, or its text means nothing.
+pub(crate) fn shared_with<P: Keeper, L: Ledger, X: Examiner<P>>(
+    examiner: &mut X,
+    keeper: &mut P,
+    alloc: Global,
+    past: &Past<'_>,
+    entry: &Entry,
+    audit: &Audit,
+    steps: &mut Steps<L>,
+) -> Result<Option<SharedTuple>, ReadFault>
+    requires ready { IsReady true (P.state keeper.old) }
+    requires sound { X.terms.sound examiner.old }
+    requires order { X.terms.upto examiner.old ≤ entry.now.seq }
+    requires tables { IsDistinct bytes_eq audit.now.tables }
+    ensures looks { LooksAt X.terms past.now audit.now entry.now result examiner.old examiner.new
+        (P.state keeper.old) (P.state keeper.new) steps.old steps.new }
+{
+    let Some(question) = question_in(&entry.act) else {
+        return Err(ReadFault::Damaged(entry.seq));
+    };
+    if !in_period(audit, entry.moment) {
+        return Err(ReadFault::Damaged(entry.seq));
+    }
+    if is_exempt(audit, question.purpose, question.recipient) {
+        return Ok(None);
+    }
+    match meant(alloc, past, entry.seq, question.text) {
+        Ok(query) => {
+            let shared = shared_by(examiner, keeper, alloc, past, entry, &query, audit, steps);
+            drop(query);
+            shared
+        }
+        Err(fault) => Err(fault),
+    }
+}

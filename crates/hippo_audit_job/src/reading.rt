@@ -1,0 +1,56 @@
+//! The logged questions of an audit's period, read ahead piece by piece.
+ghost use Rattle.std.specs.Prelude.{◌≡◌, true, []};
+ghost use Rattle.hippo_keeper.specs.Keeping.{IsReady};
+ghost use Rattle.hippo_backlog.specs.ReadingAhead.{has_read};
+ghost use Rattle.hippo_audit_job.specs.Looking.{ReadsAhead, IsDecoded};
+
+use hippo_backlog::{Ahead, ReadFault, fault_of};
+use hippo_entry::decode;
+use hippo_keeper::Keeper;
+use hippo_model::{Audit, Entry, StoredEntry};
+use hippo_values::Memory;
+use std::alloc::Global;
+
+// How many questions are read at once: a text may have 65,536 bytes.
+const PIECE: u64 = 100;
+
+/// Whether all questions up to a number are read, or a later one waits.
+pub(crate) fn has_read(questions: &Ahead, number: u64) -> bool
+    ensures { result ≡ has_read number questions.now }
+{
+    number <= questions.reached() || questions.first().is_some()
+}
+
+/// The entry of a stored form, or `Damaged` with its number where it has none.
+pub(crate) fn decoded(alloc: Global, kept: &StoredEntry) -> Result<Entry, ReadFault>
+    ensures { IsDecoded kept.now result }
+{
+    match decode(alloc, kept) {
+        Ok(Some(entry)) => Ok(entry),
+        Ok(None) => Err(ReadFault::Damaged(kept.seq)),
+        Err(Memory) => Err(ReadFault::Memory),
+    }
+}
+
+/// Reads the next piece of the questions of an audit's period, where nothing waits; `end` says up to which number the
+/// history is looked at.
+pub(crate) fn read_ahead<P: Keeper>(
+    questions: &mut Ahead,
+    keeper: &mut P,
+    alloc: Global,
+    audit: &Audit,
+    end: u64,
+) -> Result<(), ReadFault>
+    requires ready { IsReady true (P.state keeper.old) }
+    requires used { questions.old.waiting ≡ [] }
+    ensures reads { ReadsAhead audit.now end result questions.old questions.new
+        (P.state keeper.old) (P.state keeper.new) }
+{
+    match keeper.read_asked(alloc, audit.from, audit.to, questions.reached(), PIECE) {
+        Ok(piece) => {
+            questions.put(piece, PIECE, end);
+            Ok(())
+        }
+        Err(fault) => Err(fault_of(fault)),
+    }
+}
