@@ -1,0 +1,6 @@
+mod ColumnLemmas
+mod ListingLemmas
+mod VersionCounts
+mod QuestionLemmas
+mod DenyingLemmas
+mod TextLemmas

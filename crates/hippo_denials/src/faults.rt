@@ -1,0 +1,37 @@
+//! Why denied cells are not listed.
+ghost use Rattle.std.specs.Prelude.{◌≡◌};
+ghost use Rattle.hippo_denials.specs.Listing.{fault_of};
+
+use hippo_backlog::ReadFault;
+use thiserror::Error;
+
+/// Why the cells that were denied to a question are not listed.
+#[derive(Clone, Copy, Debug, PartialEq, Eq, Error)]
+pub enum DenialsFault {
+    /// What is kept was not read, or memory was short.
+    #[error("the past was not read")]
+    Read(ReadFault),
+    /// There are more than were asked for.
+    #[error("too many cells were denied")]
+    TooMany,
+}
+
+/// Why the denied cells of rows are not listed.
+#[derive(Clone, Copy, Debug, PartialEq, Eq, Error)]
+pub enum ListFault {
+    #[error("too many cells were denied")]
+    TooMany,
+    /// The allocator refused.
+    #[error("out of memory")]
+    Memory,
+}
+
+/// The same, where rows are read.
+pub(crate) fn fault_of(fault: ListFault) -> DenialsFault
+    ensures { result ≡ fault_of fault }
+{
+    match fault {
+        ListFault::TooMany => DenialsFault::TooMany,
+        ListFault::Memory => DenialsFault::Read(ReadFault::Memory),
+    }
+}

@@ -1,0 +1,187 @@
+//! The denied cells of rows.
+ghost use Rattle.std.specs.Prelude.{◌≡◌, ◌≤◌, ◌++◌, length, take, flat_map, slice_get, Some, IfOk, OnOk};
+ghost use Rattle.hippo_model.specs.Terms.{History};
+ghost use Rattle.hippo_model.specs.declared.born_row.BornRow.{BornRow};
+ghost use Rattle.hippo_model.specs.Denials.{denial_by};
+ghost use Rattle.hippo_model.specs.Rows.{cell_at, key_of};
+ghost use Rattle.hippo_model.specs.Verdicts.{verdict};
+ghost use Rattle.hippo_policy.specs.Books.{StandsFor};
+ghost use Rattle.hippo_denials.specs.Listing.{context_of, listed_columns, listed_denials, rows_denials, Lists};
+
+use crate::columns::{Listed, listed_columns};
+use crate::faults::ListFault;
+use hippo_model::{Cells, Query, RowSet, Schema, Verdict};
+use hippo_policy::PolicyBook;
+use hippo_values::{Duplicate, Memory, Moment, Name, Sequence, Value};
+use std::alloc::Global;
+use std::marker::Model;
+
+/// A cell that was denied: its table, its row's key, its column, and the number of the rule that denied it, 0 where no
+/// rule ever spoke of it.
+#[derive(Drop)]
+pub struct Denied<'a> {
+    pub table: &'a Name,
+    pub key: Cells,
+    pub column: &'a Name,
+    pub rule: u64,
+}
+
+impl<'a> Model for Denied<'a> {
+    ghost use Rattle.hippo_model.specs.Denials.{Denial};
+
+    ghost Value = { Denial };
+
+    ghost view = { λ denied. record {
+      table = denied.table.now;
+      key = denied.key;
+      column = denied.column.now;
+      rule = denied.rule;
+    } };
+}
+
+/// The rules after the first entries, those before the one with a number, for a purpose and recipient at a moment.
+#[derive(Clone, Copy)]
+pub struct RulesThen<'a> {
+    pub number: u64,
+    pub book: &'a PolicyBook,
+    pub count: u64,
+    pub moment: Moment,
+    pub purpose: &'a Name,
+    pub recipient: &'a Name,
+}
+
+fn verdict(
+    rules: &RulesThen<'_>,
+    schema: &Schema,
+    row: &Cells,
+    born: Moment,
+    column: usize,
+) -> Verdict
+    ensures { (history : History) → StandsFor rules.now.book.now history
+        → result ≡ verdict (take rules.now.count history) (context_of rules.now) schema.now
+        (record { row = row.now; born = born }) column }
+{
+    rules.book.verdict(
+        rules.count,
+        rules.moment,
+        rules.purpose,
+        rules.recipient,
+        schema,
+        row,
+        born,
+        column,
+    )
+}
+
+fn copied_cell(alloc: Global, row: &[Value], place: usize) -> Result<Value, Memory>
+    ensures { IfOk result (λ value. value ≡ cell_at row.now place) }
+{
+    row.get(place).unwrap_or(&Value::Null).copy(alloc)
+}
+
+fn copied_key(alloc: Global, places: &[usize], row: &[Value]) -> Result<Cells, Memory>
+    ensures { IfOk result (λ key. key ≡ key_of places.now row.now) }
+{
+    let mut key = Sequence::new(alloc);
+    for place in places {
+        key.push(copied_cell(alloc, row, *place)?)?;
+    }
+    Ok(key)
+}
+
+// The cell of a row, where the verdict denies it.
+fn denied_by<'a>(
+    alloc: Global,
+    schema: &'a Schema,
+    column: &'a Name,
+    row: &Cells,
+    verdict: Verdict,
+) -> Result<Option<Denied<'a>>, Memory>
+    ensures { IfOk result (λ denied. denied ≡ denial_by schema.now row.now column.now verdict) }
+{
+    match verdict {
+        Verdict::Shown => Ok(None),
+        Verdict::Denied(rule) => {
+            let key = copied_key(alloc, schema.key.as_slice(), row.as_slice())?;
+            Ok(Some(Denied {
+                table: &schema.name,
+                key,
+                column,
+                rule,
+            }))
+        }
+    }
+}
+
+// Adds the denied cells of a row.
+fn list_row<'a>(
+    alloc: Global,
+    rules: &RulesThen<'_>,
+    schema: &'a Schema,
+    listed: &[Listed<'a>],
+    row: &Cells,
+    born: Moment,
+    cells: &mut Sequence<Denied<'a>>,
+) -> Result<(), Memory>
+    ensures { OnOk result ((history : History) → StandsFor rules.now.book.now history
+        → cells.new ≡ cells.old ++ listed_denials (take rules.now.count history) (context_of rules.now) schema.now
+        listed.now (record { row = row.now; born = born })) }
+{
+    for column in listed {
+        let verdict = verdict(rules, schema, row, born, column.place);
+        if let Some(denied) = denied_by(alloc, schema, &column.column.name, row, verdict)? {
+            cells.push(denied)?;
+        }
+    }
+    Ok(())
+}
+
+// Adds the denied cells of rows, while there are not more than so many.
+fn list_rows<'a>(
+    alloc: Global,
+    rules: &RulesThen<'_>,
+    schema: &'a Schema,
+    listed: &[Listed<'a>],
+    rows: &RowSet,
+    limit: usize,
+    cells: &mut Sequence<Denied<'a>>,
+) -> Result<(), ListFault>
+    requires within { length cells.old ≤ limit }
+    ensures lists { (history : History) → StandsFor rules.now.book.now history
+        → Lists limit (rows_denials (take rules.now.count history) (context_of rules.now) schema.now listed.now
+        rows.now.rows) result cells.old cells.new }
+    ensures within { OnOk result (length cells.new ≤ limit) }
+{
+    for place in 0..rows.len() {
+        let row = rows.row(place);
+        if list_row(alloc, rules, schema, listed, row, rows.born(place), cells).is_err() {
+            return Err(ListFault::Memory);
+        }
+        if cells.len() > limit {
+            return Err(ListFault::TooMany);
+        }
+    }
+    Ok(())
+}
+
+/// Adds the denied cells of a table's rows that are listed for a query, while there are not more than so many.
+pub(crate) fn list_table<'a>(
+    alloc: Global,
+    rules: &RulesThen<'_>,
+    query: &Query,
+    schema: &'a Schema,
+    rows: &RowSet,
+    limit: usize,
+    cells: &mut Sequence<Denied<'a>>,
+) -> Result<(), ListFault>
+    requires within { length cells.old ≤ limit }
+    ensures lists { (history : History) → StandsFor rules.now.book.now history
+        → Lists limit (rows_denials (take rules.now.count history) (context_of rules.now) schema.now
+        (listed_columns query.now schema.now) rows.now.rows) result cells.old cells.new }
+    ensures within { OnOk result (length cells.new ≤ limit) }
+{
+    match listed_columns(alloc, query, schema) {
+        Ok(listed) => list_rows(alloc, rules, schema, listed.as_slice(), rows, limit, cells),
+        Err(Memory) => Err(ListFault::Memory),
+    }
+}
