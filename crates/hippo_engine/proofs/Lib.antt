@@ -10,3 +10,5 @@ mod LineLemmas
 mod ChangeLemmas
 mod AskingLemmas
 mod QuestionLemmas
+mod LookingLemmas
+mod ExplainingLemmas

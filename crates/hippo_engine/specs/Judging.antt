@@ -1,5 +1,5 @@
 -- What is to be done for a command, or the first refusal that holds.
-use Rattle.std.specs.Prelude.{ℕ, ◌-◌, ◌==◌, ℤ, Bool, true, false, not, int_lt, List, take, drop, length, filter_map, position, slice_get, Option, Some, None, option_map, option_and_then, is_some, is_none, Ok, Err, ok_or, if◌then◌else◌}
+use Rattle.std.specs.Prelude.{ℕ, ◌-◌, ◌==◌, ℤ, Bool, true, false, not, int_lt, List, take, drop, length, filter_map, position, slice_get, Option, Some, None, option_map, option_and_then, is_none, Ok, Err, ok_or, if◌then◌else◌}
 use Rattle.std.specs.Option.{option_map_or}
 use Rattle.hippo_values.specs.Texts.{Txt}
 use Rattle.hippo_values.specs.declared.names.Name.{Name}
@@ -198,7 +198,6 @@ judged_statement history world number statement text = judged_change history wor
 -- what is carried out so far
 abbrev pub is_statement_built : Stmt → Bool
 is_statement_built (stmt.Extract select start end) = false
-is_statement_built (stmt.Explain question) = false
 is_statement_built (stmt.Audit audit) = false
 is_statement_built (stmt.BeginAudit audit) = false
 is_statement_built (stmt.Watch audit) = false

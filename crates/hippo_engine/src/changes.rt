@@ -29,7 +29,8 @@ use hippo_tables::Tables;
 use hippo_world::World;
 use std::alloc::Global;
 
-fn check_console(session: u8) -> Result<(), Refusal>
+/// Whether a line is the console's.
+pub(crate) fn check_console(session: u8) -> Result<(), Refusal>
     ensures judged { result ≡ by_console session }
     ensures console { OnOk result (session ≡ 0) }
 {

@@ -120,8 +120,8 @@ impl Engine {
                     text,
                 )
             }
+            Stmt::Explain(number) => self.explain(alloc, keeper, session, number, steps),
             Stmt::Extract { .. }
-            | Stmt::Explain(_)
             | Stmt::Audit(_)
             | Stmt::BeginAudit(_)
             | Stmt::Watch(_) => {
