@@ -11,3 +11,5 @@ mod ChangeLemmas
 mod LoadLemmas
 mod AskingLemmas
 mod QuestionLemmas
+mod LookingLemmas
+mod ExplainingLemmas

@@ -1,5 +1,5 @@
 -- What the checks of a statement that changes something find: the entry that it adds, or why it is refused.
-use Rattle.std.specs.Prelude.{◌≡◌, ◌⊎◌, ℕ, [], ◌∷◌, Some, Result, Ok, Err, MatchResult, true, ok_or, codes}
+use Rattle.std.specs.Prelude.{◌≡◌, ℕ, [], ◌∷◌, Some, Result, Ok, MatchResult, true, ok_or, codes}
 use Rattle.hippo_model.specs.declared.entry.Act.{Act}
 use Rattle.hippo_model.specs.declared.entry.Entry.{Entry}
 use Rattle.hippo_model.specs.declared.statement.Stmt.{Stmt}
@@ -10,7 +10,7 @@ use Rattle.hippo_catalog.specs.ChangesRefused.{change_refused}
 use Rattle.hippo_catalog.specs.ChangesWanted.{wanted_by}
 use Rattle.hippo_replay.specs.Standing.{StandsFor}
 use Rattle.hippo_report.specs.declared.refusal.Refusal.{Refusal}
-use Rattle.hippo_report.specs.declared.refusal.Refusal.TheVariants.{BadSyntax, Memory}
+use Rattle.hippo_report.specs.declared.refusal.Refusal.TheVariants.{BadSyntax}
 use Rattle.hippo_report.specs.Notices.{number_line}
 use Rattle.hippo_world.specs.Worlds.{World}
 use Rattle.hippo_world.specs.Holding.{world_of}

@@ -6,5 +6,6 @@ pub mod Ledgers
 pub mod Carrying
 pub mod Changing
 pub mod Asking
+pub mod Explaining
 pub mod Runs
 pub mod EffectLaws

@@ -29,7 +29,7 @@ use hippo_tables::Tables;
 use hippo_world::World;
 use std::alloc::Global;
 
-/// Whether it is the console.
+/// Whether a line is the console's.
 pub(crate) fn check_console(session: u8) -> Result<(), Refusal>
     ensures judged { result ≡ by_console session }
     ensures console { OnOk result (session ≡ 0) }

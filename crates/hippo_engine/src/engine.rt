@@ -132,7 +132,8 @@ impl Engine {
                     text,
                 )
             }
-            Stmt::Explain(_) | Stmt::Audit(_) | Stmt::BeginAudit(_) | Stmt::Watch(_) => {
+            Stmt::Explain(number) => self.explain(alloc, keeper, session, number, steps),
+            Stmt::Audit(_) | Stmt::BeginAudit(_) | Stmt::Watch(_) => {
                 self.refuse_unbuilt(session, statement);
                 Ok(())
             }

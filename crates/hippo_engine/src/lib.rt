@@ -4,6 +4,7 @@
 mod asking;
 mod changes;
 mod engine;
+mod explaining;
 mod faults;
 mod fetching;
 pub mod laws;

@@ -11,6 +11,9 @@ returns-in-Select-clause-carries g c = rw c.in-Select.is (c.question.ensures.car
 pub returns-in-Ask-clause-carries : goal.returns-in-Ask-clause-carries
 returns-in-Ask-clause-carries g c = rw c.in-Ask.is (c.question-in-Ask.ensures.carries c.args.steps.now)
 
+pub returns-in-Explain-clause-carries : goal.returns-in-Explain-clause-carries
+returns-in-Explain-clause-carries g c = rw c.in-Explain.is (c.explain.ensures.carries c.args.text.now)
+
 pub returns-in-Extract-clause-carries : goal.returns-in-Extract-clause-carries
 returns-in-Extract-clause-carries g c = rw c.in-Extract.is (c.question-in-Extract.ensures.carries c.args.steps.now)
 

@@ -1,0 +1,63 @@
+-- From a command that reads what is kept and adds nothing to what carrying it out does.
+use Rattle.std.proofs.Common.{◌≡◌, ◌≢◌, ◌∙◌, ℕ, ℤ, refl, sym, subst, inr, [], Result, Err, true, false}
+use Rattle.std.proofs.lemmas.Bool.{false≢true}
+use Rattle.hippo_model.specs.Terms.{History}
+use Rattle.hippo_model.specs.Versions.{versions}
+use Rattle.hippo_keeper.specs.Keeping.{KeeperState, IsAfterCall}
+use Rattle.hippo_backlog.specs.Calls as backlog
+use Rattle.hippo_replay.specs.declared.state.State.{State}
+use Rattle.hippo_replay.specs.Loading.{KeepsSame}
+use Rattle.hippo_replay.specs.Standing.{StandsFor, IsSound}
+use Rattle.hippo_report.specs.declared.refusal.Refusal.{Refusal}
+use Rattle.hippo_report.specs.declared.refusal.Refusal.TheVariants.{NoSuchQuery}
+use Rattle.hippo_world.specs.Holding.{world_of}
+use Rattle.hippo_commands.specs.Commands.{Command}
+use Rattle.hippo_engine.specs.declared.engine.Engine.{Engine}
+use Rattle.hippo_engine.specs.declared.faults.EngineFault.{EngineFault}
+use Rattle.hippo_engine.specs.declared.faults.EngineFault.TheVariants.{Damaged}
+use Rattle.hippo_engine.specs.Judging.{judged}
+use Rattle.hippo_engine.specs.Effects.{effect_of, IsEffect}
+use Rattle.hippo_engine.specs.Ledgers.{reads_kept, taken_of, Tallies}
+use Rattle.hippo_engine.specs.Carrying.{JobsFit, WatchesFit, Holds, AtWork, as_call, is_carried, shown, Carries}
+use Rattle.hippo_engine.proofs.CarryingLemmas.{Holds-same}
+
+-- what is kept is the same, as both say it
+pub KeepsSame-read : (before after : KeeperState) → backlog.KeepsSame before after → KeepsSame before after
+KeepsSame-read before after keeps = record { same = keeps.same; stop = keeps.stop; some = keeps.some }
+
+-- what a command did that read what is kept of a history
+pub record HasLooked (history : History) (command : Command) (result : Result (Unit {0}) EngineFault) (old new : Engine) (steps steps' : ℕ) : Type 0 where
+  pub effect : is_carried result ≡ true → IsEffect history (world_of old.world) command (shown new)
+  pub jobs : JobsFit history new.world
+  pub watches : WatchesFit history new.world
+  pub counts : Tallies command (versions history) steps steps' (taken_of old.world) (taken_of new.world)
+  pub refused : (refusal : Refusal) → judged history (world_of old.world) command ≡ Err refusal → ((number : ℤ) → refusal ≢ NoSuchQuery number) → steps' ≡ steps
+  pub adds : (effect_of history (world_of old.world) command).added ≡ []
+  pub undamaged : (number : ℕ) → result ≢ Err (Damaged number)
+
+pub Carries-looked : (command : Command) (result : Result (Unit {0}) EngineFault) (old new : Engine) (before after : KeeperState) (steps steps' : ℕ) → reads_kept command ≡ true → AtWork old before
+    → new.state ≡ old.state → IsAfterCall true false (as_call result) before after → (after.tells → backlog.KeepsSame before after)
+    → (after.tells → (history : History) → Holds history old before → HasLooked history command result old new steps steps')
+    → Carries command result old new before after steps steps'
+Carries-looked command result old new before after steps steps' reads at_work same call stays told = record {
+  call = call;
+  sound = λ fine. subst IsSound (sym same) at_work.sound;
+  idle = λ none. absurd (false≢true (sym none ∙ reads));
+  carried = λ fine tells history holds.
+      let looked = told tells history holds in
+      let keeps = KeepsSame-read before after (stays tells) in
+      record {
+        effect = shown new;
+        is = looked.effect fine;
+        reply = refl;
+        world = refl;
+        holds = Holds-same history old new before after holds (subst (λ (held : State). StandsFor held history) (sym same) holds.stands) looked.jobs looked.watches keeps;
+        kept = keeps;
+        counts = λ ample. looked.counts;
+        refused = looked.refused;
+      };
+  failed = λ fails tells history holds.
+      let looked = told tells history holds in
+      inr (record { reads = reads; adds = looked.adds; kept = KeepsSame-read before after (stays tells) });
+  undamaged = λ tells history holds. (told tells history holds).undamaged;
+}
