@@ -1,0 +1,4 @@
+pub mod Held
+pub mod Bringing
+pub mod Sharing
+pub mod Combining

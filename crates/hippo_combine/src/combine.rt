@@ -1,0 +1,76 @@
+//! An examiner that brings the rows of the tables that it needs forward.
+ghost use Rattle.hippo_combine.specs.Bringing.{IsNumberBefore};
+
+use crate::bringing::bring_both;
+use crate::held::all_taken;
+use crate::sharing::shared_with;
+use hippo_audit_job::{Examiner, Past};
+use hippo_backlog::ReadFault;
+use hippo_intervals::Lives;
+use hippo_keeper::{Keeper, Steps};
+use hippo_model::{Audit, Entry, Query, SharedTuple};
+use std::alloc::Global;
+use std::sync::ledger::Ledger;
+
+/// Examines logged questions in the order of their numbers, over the rows of each table that it needed so far. They are
+/// brought forward from question to question, so each version of a row is read once.
+#[derive(Debug, Drop)]
+pub struct Combine {
+    tables: Vec<Lives>,
+    // The number of the entry that it was asked about last.
+    asked: u64,
+}
+
+impl Combine {
+    ghost use Rattle.hippo_audit_job.specs.Examining.{IsNew};
+    ghost use Rattle.hippo_combine.specs.Combining.{combine_terms};
+
+    /// An examiner that was asked nothing and holds nothing; takes no memory.
+    pub fn new(alloc: Global) -> Combine
+        ensures { IsNew combine_terms result }
+    {
+        Combine {
+            tables: Vec::new(alloc),
+            asked: 0,
+        }
+    }
+}
+
+// The number of the entry before this one, where this one is among the first so many.
+fn number_before(seq: u64, count: u64) -> Option<u64>
+    ensures { IsNumberBefore seq count result }
+{
+    if seq == 0 || count < seq {
+        None
+    } else {
+        Some(seq - 1)
+    }
+}
+
+impl<P: Keeper> Examiner<P> for Combine {
+    ghost use Rattle.hippo_combine.specs.Combining.{combine_terms};
+
+    ghost terms = { combine_terms };
+
+    fn examine<L: Ledger>(
+        &mut self,
+        keeper: &mut P,
+        alloc: Global,
+        past: &Past<'_>,
+        entry: &Entry,
+        query: &Query,
+        audit: &Audit,
+        steps: &mut Steps<L>,
+    ) -> Result<Option<SharedTuple>, ReadFault> {
+        self.asked = entry.seq;
+        let Some(number) = number_before(entry.seq, past.count) else {
+            return Ok(None);
+        };
+        bring_both(&mut self.tables, keeper, alloc, past, query, audit, number, steps)?;
+        shared_with(alloc, self.tables.as_slice(), past.book, number, entry, query, audit)
+    }
+
+    fn taken(&self) -> Option<u64> {
+        Some(all_taken(self.tables.as_slice()))
+    }
+}

@@ -1,0 +1,93 @@
+//! What is held of tables, by their names.
+ghost use Rattle.std.specs.Prelude.{◌≡◌, bytes_eq, filter_map, option_copied, IfOk};
+ghost use Rattle.std.specs.List.{position_or_len};
+ghost use Rattle.hippo_audit_job.specs.Examining.{shown_count};
+ghost use Rattle.hippo_combine.specs.Held.{lives_of, schema_held, rows_held, has_some, have_rows, all_taken};
+
+use hippo_intervals::Lives;
+use hippo_model::{Lent, Schemas, Sets};
+use hippo_values::{Duplicate, Memory, Name, Sequence};
+use std::alloc::Global;
+
+/// The first place with a table of this name, or the number of tables where there is none.
+pub(crate) fn place_of(tables: &[Lives], table: &Name) -> usize
+    ensures { result ≡ position_or_len (λ lives. bytes_eq lives.schema.name table.now) tables.now }
+{
+    let mut place = 0;
+    for lives in tables {
+        if lives.schema().name == *table {
+            return place;
+        }
+        place += 1;
+    }
+    place
+}
+
+/// What is held of a table.
+pub(crate) fn lives_of<'a>(tables: &'a [Lives], table: &Name) -> Option<&'a Lives>
+    ensures { option_copied result ≡ lives_of tables.now table.now }
+{
+    tables.iter().find(|lives| lives.schema().name == *table)
+}
+
+// Whether rows of a table are held, and there are some.
+fn has_rows(tables: &[Lives], table: &Name) -> bool
+    ensures { result ≡ has_some (rows_held tables.now table.now) }
+{
+    match lives_of(tables, table) {
+        Some(lives) => !lives.rows().is_empty(),
+        None => false,
+    }
+}
+
+/// Whether there are rows of each of these tables.
+pub(crate) fn have_rows(tables: &[Lives], names: &[Name]) -> bool
+    ensures { result ≡ have_rows tables.now names.now }
+{
+    names.iter().all(|table| has_rows(tables, table))
+}
+
+/// Copies of the schemas of tables, of those that are held.
+pub(crate) fn schemas_of(
+    alloc: Global,
+    tables: &[Lives],
+    names: &[Name],
+) -> Result<Schemas, Memory>
+    ensures { IfOk result (λ schemas. schemas ≡ filter_map (schema_held tables.now) names.now) }
+{
+    let mut schemas = Sequence::new(alloc);
+    for table in names {
+        if let Some(lives) = lives_of(tables, table) {
+            schemas.push(lives.schema().copy(alloc)?)?;
+        }
+    }
+    Ok(schemas)
+}
+
+/// The rows of tables, of those that are held.
+pub(crate) fn sets_of<'a>(
+    alloc: Global,
+    tables: &'a [Lives],
+    names: &[Name],
+) -> Result<Sets<'a>, Memory>
+    ensures { IfOk result (λ sets. sets ≡ filter_map (rows_held tables.now) names.now) }
+{
+    let mut sets = Lent::new(alloc);
+    for table in names {
+        if let Some(lives) = lives_of(tables, table) {
+            sets.push(lives.rows())?;
+        }
+    }
+    Ok(sets)
+}
+
+/// How many versions were handed over for all tables, as far as 64 bits show it.
+pub(crate) fn all_taken(tables: &[Lives]) -> u64
+    ensures { result ≡ shown_count (all_taken tables.now) }
+{
+    let mut sum = 0_u64;
+    for lives in tables {
+        sum = sum.saturating_add(lives.taken());
+    }
+    sum
+}

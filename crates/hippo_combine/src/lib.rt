@@ -1,0 +1,9 @@
+//! An examiner that holds the rows of each table that it needed so far, and brings them forward from question to question.
+#![tactic(auto)]
+
+mod bringing;
+mod combine;
+mod held;
+mod sharing;
+
+pub use combine::Combine;
