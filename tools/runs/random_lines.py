@@ -189,12 +189,16 @@ class Lines:
     def line(self):
         kind = self.random.random()
         number = self.pick([1, 1, 1, 1, 1, 1, 2, 2, 64])
+        if kind < 0.04:
+            return "%d %s %s" % (number if self.chance(0.02) else 0, self.pick(["load", "load", "LOAD", "load "]), self.load())
         if kind < 0.34:
             return "%d %s" % (0 if not self.chance(0.02) else number, self.in_case(self.change()))
         if kind < 0.62:
             return "%d %s" % (0 if self.chance(0.02) else number, self.in_case(self.select()) + self.pick(["", "", "", ";", " "]))
-        if kind < 0.70:
+        if kind < 0.67:
             return "%d OPEN %s" % (number, self.in_case(self.select()))
+        if kind < 0.70:
+            return "%d EXTRACT %s" % (number, self.in_case(self.select()))
         if kind < 0.79:
             return "%d fetch %d %d" % (number, self.random.randint(1, 4), self.pick([1, 2, 3, 100000]))
         if kind < 0.82:
@@ -213,6 +217,25 @@ class Lines:
                           "1 SELECT DISTINCT name FROM patient GROUP BY name", "1 SELECT MAX(pid) FROM patient", "0 EXPLAIN 3",
                           "1 EXTRACT SELECT name FROM patient", "0 DROP TABLE patient", "1\tlogout", "1 logout\r",
                           "0 WATCH DURING '' TO '' AUDIT name FROM patient", "0 BEGIN AUDIT DURING '' TO '' AUDIT name FROM patient"])
+
+    def load(self):
+        table = self.table()
+        fields = [self.field(k) for _, k in TABLES.get(table, TABLES["patient"])]
+        if self.chance(0.05):
+            fields.pop()
+        return table + " " + self.pick([""] * 20 + [" ", "\ufeff"]) + ",".join(fields)
+
+    def field(self, kind):
+        if self.chance(0.03):
+            return self.pick(['"', 'a"b', '"a"b', "+1", "--", " ", "2024-02-30", "\t", "\u007f", "\r", '"1\r"'])
+        if self.chance(0.08):
+            return self.pick(["", '""'])
+        if kind == "INTEGER":
+            number = self.pick(["%d", "%d", "%d", "00%d", "-%d", '"%d"']) % self.random.randint(0, 12)
+            return "9223372036854775808" if self.chance(0.02) else number
+        if kind == "DATE":
+            return self.pick(["2024-03-01", "2024-02-29", "0001-01-01", '"9999-12-31"'])
+        return self.pick(["Ada", "Bob", '"O\'Hara, Pat"', '"a ""b"""', " south ", "DENIED(0)", "\u00e9"])
 
     def all(self, count):
         yield "at 2024-01-01T00:00:00Z"

@@ -12,6 +12,7 @@ import sys
 sys.path.insert(0, os.path.join(os.path.dirname(os.path.abspath(__file__)), "..", "readers"))
 from second_reader import (BadSyntax, Fault, KEYWORDS, UNSUPPORTED, Reader, Rec, Tup, Unit,  # noqa: E402
                            check_words, cut, days_before, leap, read_day, DAYS_IN)
+from second_records import field_value, records, written  # noqa: E402
 
 SHORT_WORDS = ("login", "logout", "fetch", "close", "step", "drop", "unwatch", "load")
 NUMBER = re.compile(r"(0|[1-9][0-9]*)\Z")
@@ -361,14 +362,19 @@ class Engine:
     # ------------------------------------------------------------ changes
 
     def change(self, statement):
-        act = getattr(self, "do_" + statement.name)(statement)
+        return self.add(getattr(self, "do_" + statement.name)(statement))
+
+    def add(self, act):
         self.entries.append((self.clock, act))
         return ["0 ok %d" % len(self.entries)]
 
     def known_table(self, statement):
-        table = self.table(field(statement, "table"))
+        return self.table_named(field(statement, "table"))
+
+    def table_named(self, name):
+        table = self.table(name)
         if table is None:
-            raise Refused("30 UnknownTable", field(statement, "table"))
+            raise Refused("30 UnknownTable", name)
         return table
 
     def known_pair(self, statement):
@@ -450,8 +456,9 @@ class Engine:
         return ("Choice", field(statement, "subject"), field(statement, "item"), field(statement, "yes"))
 
     def do_Insert(self, statement):
-        table = self.known_table(statement)
-        row = [value_of(v) for v in field(statement, "values")]
+        return self.insert(self.known_table(statement), [value_of(v) for v in field(statement, "values")])
+
+    def insert(self, table, row):
         if len(row) != len(table[2]):
             raise Refused("42 WrongCount", len(table[2]))
         fit(table, list(zip(range(len(row)), row)))
@@ -459,6 +466,21 @@ class Engine:
         if found is not None:
             raise Refused("43 KeyThere", found[2])
         return ("Insert", table[1], row)
+
+    def load(self, number, name, text):
+        if number != 0:
+            raise Refused("24 ConsoleOnly", None)
+        table = self.table_named(name)
+        found = records(text)
+        if len(found) != 1:
+            raise Refused("61 BadRecord", None)
+        if len(found[0]) != len(table[2]):
+            raise Refused("42 WrongCount", len(table[2]))
+        row = [field_value(column[1], text, read_day) for column, text in zip(table[2], found[0])]
+        for column, value in zip(table[2], row):
+            if isinstance(value, list):
+                raise Refused("62 BadField", column[0])
+        return self.add(self.insert(table, row))
 
     def key_written(self, table, statement):
         columns = field(statement, "key_columns")
@@ -580,7 +602,7 @@ class Engine:
             if number != 0:
                 raise Refused("24 ConsoleOnly", None)
             return self.change(statement)
-        if kind not in ("Select", "Ask"):
+        if kind not in ("Select", "Ask", "Extract"):
             raise Refused("99 NotBuilt", None)
         asked = data[field(statement, "start"):field(statement, "end")].decode()
         session, resolved = self.question(number, field(statement, "select"), asked)
@@ -594,7 +616,8 @@ class Engine:
         if kind == "Ask":
             session["cursors"][free] = {"rows": rows, "given": 0}
             return ["%d cursor %d" % (number, free)]
-        return row_lines(number, rows) + ["%d end %d" % (number, len(rows))]
+        lines = record_lines if kind == "Extract" else row_lines
+        return lines(number, rows) + ["%d end %d" % (number, len(rows))]
 
     def at(self, word):
         moment = read_moment(word.encode())
@@ -629,8 +652,10 @@ class Engine:
         word = ascii_lower(words[1])
         if word == "load":
             behind = text[len(words[0]):].lstrip(" ")[4:].lstrip(" ")
-            table, space, _ = behind.partition(" ")
-            return ["%d no 99 NotBuilt" % number] if space and name_of(table) else bad
+            table, space, record = behind.partition(" ")
+            if not space or name_of(table) is None:
+                return bad
+            return guarded(number, lambda: self.load(number, name_of(table), record))
         if word in SHORT_WORDS:
             replies = guarded(number, lambda: self.short_word(number, word, words[2:]))
             return bad if replies is None else replies
@@ -647,6 +672,16 @@ def guarded(who, call):
 
 def row_lines(number, rows):
     return ["%d row %s" % (number, ", ".join(printed(cell) for cell in row)) for row in rows]
+
+
+def record_lines(number, rows):
+    return ["%d csv %s" % (number, written([cell_field(cell) for cell in row])) for row in rows]
+
+
+def cell_field(cell):
+    if cell is None:
+        return ""
+    return cell[1] if cell[0] == "Text" else printed(cell)
 
 
 def repeated(names):

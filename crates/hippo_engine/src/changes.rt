@@ -29,7 +29,7 @@ use hippo_tables::Tables;
 use hippo_world::World;
 use std::alloc::Global;
 
-/// Whether it is the console.
+/// Whether a line is the console's.
 pub(crate) fn check_console(session: u8) -> Result<(), Refusal>
     ensures judged { result ≡ by_console session }
     ensures console { OnOk result (session ≡ 0) }
@@ -134,7 +134,7 @@ impl Engine {
     }
 
     // Replies why a command is refused.
-    fn refuse_command(&mut self, session: u8, refusal: &Refusal)
+    pub(crate) fn refuse_command(&mut self, session: u8, refusal: &Refusal)
         ensures { (command : Command) → IsRefused command session refusal.now self.old
             → IsQuiet command self.old self.new }
     {
