@@ -172,9 +172,9 @@ fn cut(text: &str, start: usize, end: usize) -> Result<&str, Refusal>
     }
 }
 
-/// What a SELECT, an EXTRACT or an OPEN asks, or why it may not be asked: its session has to be open, its user still authorized,
-/// its names and types have to mean something, an OPEN's session has to have a cursor left, and the history has to have
-/// room. Want of memory may refuse it, too.
+/// What a SELECT, an EXTRACT or an OPEN asks, or why it may not be asked: its session has to be open, its user still
+/// authorized, its names and types have to mean something, an OPEN's session has to have a cursor left, and the history
+/// has to have room. Want of memory may refuse it, too.
 pub fn asks<'a>(
     alloc: Global,
     state: &State,

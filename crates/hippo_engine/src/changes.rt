@@ -134,7 +134,7 @@ impl Engine {
     }
 
     // Replies why a command is refused.
-    fn refuse_command(&mut self, session: u8, refusal: &Refusal)
+    pub(crate) fn refuse_command(&mut self, session: u8, refusal: &Refusal)
         ensures { (command : Command) → IsRefused command session refusal.now self.old
             → IsQuiet command self.old self.new }
     {
