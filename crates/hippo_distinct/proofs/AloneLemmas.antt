@@ -1,6 +1,6 @@
 -- The marks of an answer's rows, one combination more; and the tuples that they say are needed.
 use Rattle.std.proofs.Common.{◌≡◌, ℕ, zero, suc, ◌<◌, Bool, true, false, not, cond, ◌&&◌, ◌||◌, List, [], ◌∷◌, ◌++◌, map, length, refl, sym, ap, subst, ◌∙◌, Option, Some, None, unwrap_or}
-use Rattle.std.specs.Prelude.{filter, find, slice_get}
+use Rattle.std.specs.Prelude.{filter, find, slice_get, Result, Ok, Err, IfOk}
 use Rattle.std.specs.List.{All, list_any, list_all}
 use Rattle.std.specs.Map.{lookup}
 use Rattle.std.specs.Ordering.{is_eq}
@@ -115,6 +115,19 @@ module _ (choices : Choices) (query : Masked) (sets : List KeyedRows) (tables : 
           ap (λ b. cond b (mark_of (tuples made before ++ row_places sets tables rows ∷ [])) (mark_at key_order marks (row_key row))) (key_same _ agrees made row ∙ e)
           ∙ are row
           ∙ sym (one_tuple row false ((λ i. passes i && (turned row made ∙ e) i)) ∙ ap mark_of (append_nothing (tuples row before)))
+
+  -- one that makes the row with a key, and has the tuple of given places
+  pub marked-by : (marks after : Marks) (key : List CellKey) (given : List Place) → passing ≡ true → key ≡ row_key made → given ≡ row_places sets tables rows
+      → ((some : List (List Place)) → mark_at key_order marks key ≡ mark_of some → (other : List CellKey) → mark_at key_order after other ≡ cond (is_eq (key_order key other)) (mark_of (some ++ given ∷ [])) (mark_at key_order marks other))
+      → AreMarked key_order choices query sets tables before marks → AreMarked key_order choices query sets tables (before ++ rows ∷ []) after
+  marked-by marks after key given passes is given_is told are =
+      marked-more marks after passes
+      (λ other. told (tuples made before) (ap (mark_at key_order marks) is ∙ are made) other
+      ∙ (λ i. cond (is_eq (key_order (is i) other)) (mark_of (tuples made before ++ given_is i ∷ [])) (mark_at key_order marks other))) are
+
+-- no mark of no combination
+pub marked-none : (choices : Choices) (query : Masked) (sets : List KeyedRows) (tables : List Place) (marks : Marks) → marks.entries ≡ [] → AreMarked key_order choices query sets tables [] marks
+marked-none choices query sets tables marks none row = ap (λ (es : List (List CellKey × Mark)). unwrap_or (lookup (λ other. is_eq (key_order (row_key row) other)) es) Unmarked) none
 
 -- ---- the marks that are kept, and those of the rows
 any-at : {A : Type 0} (test : A → Bool) (xs : List A) → list_any test xs ≡ true → (i : ℕ) × (x : A) × (slice_get xs i ≡ Some x) × (test x ≡ true)
@@ -262,3 +275,8 @@ none-needed choices query form audit seen query_sets audit_sets none =
     never : (b : Bool) → (b && false) ≡ false
     never true = refl
     never false = refl
+
+-- what an answer that is Ok says
+pub ok-by : {A E : Type 0} (P Q : A → Type 0) → ((a : A) → P a → Q a) → (result : Result A E) → IfOk result P → IfOk result Q
+ok-by P Q then (Ok a) told = then a told
+ok-by P Q then (Err fault) told = tt
