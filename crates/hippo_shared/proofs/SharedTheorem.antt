@@ -19,11 +19,11 @@ use Rattle.hippo_join.specs.Existence.{are_shown, HasOne}
 use Rattle.hippo_join.proofs.SlotLemmas.{Fits-open, length-in_range}
 use Rattle.hippo_shared.specs.Sharing.{common_tables, place_in, rows_named, HaveSameRows, has_tuple, query_has, audit_has, first_shared}
 use Rattle.hippo_shared.specs.Tuples.{tuple_at}
-use Rattle.hippo_shared.specs.FirstPlaces.{ShareAt, IsFirst}
+use Rattle.hippo_shared.specs.FirstPlaces.{ShareAt, IsFirst, with_rows}
 use Rattle.hippo_shared.specs.Searching.{AreCommon}
 use Rattle.hippo_shared.proofs.CommonLemmas.{place-found, common-in-query, common-in-audit, common-distinct, common-open}
 use Rattle.hippo_shared.proofs.FirstLemmas.{find-map, find-first, find-none, first-holds}
-use Rattle.hippo_shared.proofs.SideLemmas.{one-of-product, any-of-product, with_rows, share-both, both-share, one-agrees, agrees-one, counts-parts, parts-counted, unmasked_query, passes-unmasked}
+use Rattle.hippo_shared.proofs.SideLemmas.{one-of-product, any-of-product, share-both, both-share, one-agrees, agrees-one, counts-parts, parts-counted, unmasked_query, passes-unmasked}
 use Rattle.hippo_shared.proofs.TupleLemmas.{AllStandIn, tuples-by-places, agrees-from-tuple, tuple-from-agrees, agrees-in-range}
 
 length_map : {A B : Type 0} (f : A → B) (xs : List A) → length (map f xs) ≡ length xs

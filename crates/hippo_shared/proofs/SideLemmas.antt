@@ -30,7 +30,7 @@ use Rattle.hippo_join.proofs.ProductLemmas.{product-rows, has-places_of}
 use Rattle.hippo_join.proofs.FoundLemmas.{same_places}
 use Rattle.hippo_join.proofs.SlotLemmas.{Fits-at, Fits-set}
 use Rattle.hippo_join.proofs.ExistenceLemmas.{Fits-unset}
-use Rattle.hippo_shared.specs.FirstPlaces.{AreOpen, ShareAt}
+use Rattle.hippo_shared.specs.FirstPlaces.{AreOpen, ShareAt, with_rows}
 use Rattle.hippo_shared.proofs.TupleLemmas.{AgreeAt}
 
 -- ---- a combination of the product that passes a test
@@ -70,11 +70,6 @@ any-of-product sets test places within good =
     ∙ any_by (λ places. test (chosen sets places)) (places_of sets) places (has-places_of sets places ∙ within) good
 
 -- ---- rows of the common tables that are chosen
-abbrev pub with_rows : List Place → List Place → List (Option Place) → List (Option Place)
-with_rows [] given slots = slots
-with_rows (table ∷ tables) [] slots = slots
-with_rows (table ∷ tables) (place ∷ given) slots = with_rows tables given (slice_set slots table (Some place))
-
 module _ (Query Audit : List (Option Place) → Type 0) where
   pub share-both : (tables others : List Place) (query audit : List (Option Place)) (given : List Place) → ShareAt Query Audit tables others query audit given
       → (length given ≡ length tables) × Query (with_rows tables given query) × Audit (with_rows others given audit)

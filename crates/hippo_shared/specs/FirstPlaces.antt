@@ -1,5 +1,5 @@
 -- The first places of the tables that two sides have in common.
-use Rattle.std.specs.Prelude.{◌≡◌, ◌<◌, List, [], ◌∷◌, length, map, Option, Some, None, slice_get, slice_set}
+use Rattle.std.specs.Prelude.{◌≡◌, ◌<◌, List, [], ◌∷◌, length, map, Option, Some, None, slice_get, slice_set, ◌⊎◌}
 use Rattle.std.specs.List.{All, Contains}
 use Rattle.hippo_model.specs.declared.query.Masked.{Masked}
 use Rattle.hippo_model.specs.Masking.{Choices}
@@ -38,6 +38,20 @@ AreFirst holds (place ∷ places) =
 abbrev pub IsFirst : (List Place → Type 0) → Option (List Place) → Type 0
 IsFirst holds (Some places) = AreFirst holds places
 IsFirst holds None = (places : List Place) → ¬ holds places
+
+-- the first of some places with which something holds; or it holds with none of them
+abbrev pub IsFirstAmong : (List Place → Type 0) → List (List Place) → Option (List Place) → Type 0
+IsFirstAmong holds [] (Some places) = ⊥
+IsFirstAmong holds [] None = Unit {0}
+IsFirstAmong holds (first ∷ rest) (Some places) =
+    ((first ≡ places) × holds first) ⊎ ((¬ holds first) × IsFirstAmong holds rest (Some places))
+IsFirstAmong holds (first ∷ rest) None = (¬ holds first) × IsFirstAmong holds rest None
+
+-- slots in which the rows of some tables are chosen too
+abbrev pub with_rows : List Place → List Place → List (Option Place) → List (Option Place)
+with_rows [] places slots = slots
+with_rows (table ∷ tables) [] slots = slots
+with_rows (table ∷ tables) (place ∷ places) slots = with_rows tables places (slice_set slots table (Some place))
 
 -- stages of all tables
 pub record AreWhole (choices : Choices) (query : Masked) (sets : List KeyedRows) (stages : List Stage) : Type 0 where

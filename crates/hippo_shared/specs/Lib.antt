@@ -4,3 +4,5 @@ pub mod FirstPlaces
 pub mod Searching
 pub mod Tuples
 pub mod HistoryLaws
+pub mod Marks
+pub mod Candidates

@@ -9,9 +9,9 @@ use hippo_model::{ChoiceView, Sets, Sizes};
 use hippo_values::{Memory, Name, Sequence};
 use std::alloc::Global;
 
-// The places of the common tables in the query's FROM list, and in the audit's; both in the audit's order.
+/// The places of the common tables in the query's FROM list, and in the audit's; both in the audit's order.
 #[derive(Drop)]
-pub(crate) struct CommonPlaces {
+pub struct CommonPlaces {
     pub query: Vec<usize>,
     pub audit: Vec<usize>,
 }
@@ -37,7 +37,8 @@ fn place_in(tables: &[Name], table: &Name) -> usize
     place
 }
 
-pub(crate) fn common_places(
+/// The places in a query's FROM list, and in an audit's, of the tables that both have.
+pub fn common_places(
     alloc: Global,
     query: &[Name],
     audit: &[Name],

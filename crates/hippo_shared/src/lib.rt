@@ -1,10 +1,15 @@
 //! The first rows that a query and an audit share.
 #![tactic(auto)]
 
+mod candidates;
 mod commons;
 pub mod laws;
+mod marks;
 mod searching;
 mod sharing;
 mod tuples;
 
+pub use candidates::{audit_has_any, first_of};
+pub use commons::{CommonPlaces, common_places};
+pub use marks::{Mark, row_places};
 pub use sharing::first_shared;

@@ -1,12 +1,14 @@
 //! The first places of the common tables' rows with which both sides have a combination.
-ghost use Rattle.std.specs.Prelude.{◌≡◌, [], ◌∷◌, Some, OnOk, IfOk, length, option_map, slice_set, true, ◌⊎◌};
+ghost use Rattle.std.specs.Prelude.{◌≡◌, ◌<◌, [], ◌∷◌, None, Some, OnOk, IfOk, length, option_copied, option_map, replicate, slice_set, true, ◌⊎◌};
+ghost use Rattle.std.specs.List.{All};
 ghost use Rattle.std.specs.List.Sorted.{IsNonDecreasing, IsPermutation};
-ghost use Rattle.hippo_shared.specs.FirstPlaces.{IsFirst};
-ghost use Rattle.hippo_shared.specs.Searching.{AreCommon, FindsFirst, HasOneOf, IsReady, IsStageOf, ReachesOf, Shared, SharedPlaces};
+ghost use Rattle.hippo_join.specs.Existence.{Decides};
+ghost use Rattle.hippo_shared.specs.FirstPlaces.{IsFirst, IsFirstAmong, with_rows};
+ghost use Rattle.hippo_shared.specs.Searching.{AreCommon, AreWholeOf, FindsFirst, HasOneOf, IsReady, IsStageOf, ReachesOf, Shared, SharedPlaces};
 
 use crate::commons::{CommonPlaces, CommonStages, common_stages, order_from};
 use hippo_join::{Side, Stage, open_slots};
-use hippo_model::{ChoiceView, Expr};
+use hippo_model::{ChoiceView, Expr, Places};
 use hippo_values::Memory;
 use std::alloc::Global;
 
@@ -44,6 +46,24 @@ fn with_first(place: usize, mut others: Vec<usize>) -> Result<Vec<usize>, Memory
 {
     others.insert(0, place)?;
     Ok(others)
+}
+
+// Slots of some tables, where the rows of these are chosen.
+fn slots_with(
+    alloc: Global,
+    count: usize,
+    tables: &[usize],
+    places: &[usize],
+) -> Result<Vec<Option<usize>>, Memory>
+    requires below { All (λ table. table < count) tables.now }
+    requires long { length places.now ≡ length tables.now }
+    ensures { IfOk result (λ slots. slots.items ≡ with_rows tables.now places.now (replicate count None)) }
+{
+    let mut slots = open_slots(alloc, count)?;
+    for (index, table) in tables.iter().enumerate() {
+        slots[*table] = Some(places[index]);
+    }
+    Ok(slots)
 }
 
 impl<'a, C: ChoiceView> Search<'a, C> {
@@ -154,6 +174,83 @@ impl<'a, C: ChoiceView> Search<'a, C> {
         }
         Ok(None)
     }
+}
+
+impl<'a, C: ChoiceView> Search<'a, C> {
+    // Whether both sides have a combination with these places of the common tables.
+    fn shares(
+        &self,
+        alloc: Global,
+        common: &CommonPlaces,
+        places: &[usize],
+    ) -> Result<bool, Memory>
+        requires common { AreCommon (length self.now.query.now.sets.now) (length self.now.audit.now.sets.now)
+            common.now.query.items common.now.audit.items }
+        requires query { AreWholeOf C.choices self.now.query.now self.now.query_stages.now }
+        requires audit { AreWholeOf C.choices self.now.audit.now self.now.audit_stages.now }
+        ensures { Decides (SharedPlaces C.choices self.now.query.now self.now.audit.now self.now.seen.now
+            common.now.query.items common.now.audit.items places.now) result }
+    {
+        if places.len() != common.query.len() {
+            return Ok(false);
+        }
+        let mut query = slots_with(alloc, self.query.sets.len(), &common.query, places)?;
+        let mut audit = slots_with(alloc, self.audit.sets.len(), &common.audit, places)?;
+        Ok(
+            self.audit.has(alloc, self.audit_stages, &[], &mut audit)?
+                && self.query.has(alloc, self.query_stages, self.seen, &mut query)?,
+        )
+    }
+
+    // The first of some places of the common tables with which both sides have a combination.
+    fn first_of<'p>(
+        &self,
+        alloc: Global,
+        common: &CommonPlaces,
+        candidates: &'p [Places],
+    ) -> Result<Option<&'p Places>, Memory>
+        requires common { AreCommon (length self.now.query.now.sets.now) (length self.now.audit.now.sets.now)
+            common.now.query.items common.now.audit.items }
+        requires query { AreWholeOf C.choices self.now.query.now self.now.query_stages.now }
+        requires audit { AreWholeOf C.choices self.now.audit.now self.now.audit_stages.now }
+        ensures { IfOk result (λ found. IsFirstAmong (SharedPlaces C.choices self.now.query.now self.now.audit.now
+            self.now.seen.now common.now.query.items common.now.audit.items) candidates.now (option_copied found)) }
+    {
+        for places in candidates {
+            if self.shares(alloc, common, places.as_slice())? {
+                return Ok(Some(places));
+            }
+        }
+        Ok(None)
+    }
+}
+
+// The first of some places of the common tables' rows with which both sides have a combination.
+pub(crate) fn first_candidate<'p, C: ChoiceView>(
+    alloc: Global,
+    query: &Side<'_, C>,
+    audit: &Side<'_, C>,
+    seen: &[Expr],
+    common: &CommonPlaces,
+    candidates: &'p [Places],
+) -> Result<Option<&'p Places>, Memory>
+    requires { AreCommon (length query.now.sets.now) (length audit.now.sets.now)
+        common.now.query.items common.now.audit.items }
+    ensures { IfOk result (λ found. IsFirstAmong (SharedPlaces C.choices query.now audit.now seen.now
+        common.now.query.items common.now.audit.items) candidates.now (option_copied found)) }
+{
+    let query_order = order_from(alloc, query, &common.query)?;
+    let audit_order = order_from(alloc, audit, &common.audit)?;
+    let query_stages = query.stages(alloc, &query_order)?;
+    let audit_stages = audit.stages(alloc, &audit_order)?;
+    let search = Search {
+        query,
+        audit,
+        query_stages: &query_stages,
+        audit_stages: &audit_stages,
+        seen,
+    };
+    search.first_of(alloc, common, candidates)
 }
 
 // The first places of the common tables' rows with which both sides have a combination.

@@ -15,7 +15,7 @@ use hippo_values::{Memory, Sequence};
 use std::alloc::Global;
 
 // An audit's condition as that of a query without guards.
-fn unmasked_query(alloc: Global, audit: &Audit) -> Result<Masked, Memory>
+pub(crate) fn unmasked_query(alloc: Global, audit: &Audit) -> Result<Masked, Memory>
     ensures { IfOk result (λ query.
         query ≡ record { items = []; tables = []; guards = []; cond = unmasked_condition audit.now.cond }) }
 {
@@ -28,7 +28,7 @@ fn unmasked_query(alloc: Global, audit: &Audit) -> Result<Masked, Memory>
 }
 
 // The rows of each table stand in the order of their keys; takes no memory.
-fn know_order(sets: &Sets<'_>)
+pub(crate) fn know_order(sets: &Sets<'_>)
     ensures { All (λ set. IsAscending (map (key_in set.key) set.rows)) sets.now }
 {
     for table in 0..sets.len() {
