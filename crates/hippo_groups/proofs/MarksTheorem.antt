@@ -27,7 +27,7 @@ use Rattle.hippo_shared.specs.declared.marks.Mark.TheVariants.{Unmarked, One, Se
 use Rattle.hippo_shared.specs.Marks.{row_places, same_places, mark_of, is_one}
 use Rattle.hippo_groups.specs.declared.group_marks.Best.{Best}
 use Rattle.hippo_groups.specs.declared.group_marks.GroupMarks.{GroupMarks}
-use Rattle.hippo_groups.specs.GroupMarks.{PlacedRow, placed_rows, value_at, places_of, best_by, best_of, marks_of, changes_without}
+use Rattle.hippo_groups.specs.GroupMarks.{PlacedRow, placed_rows, value_at, places_of, best_by, best_of, marks_of, is_best_changed, changes_without}
 use Rattle.hippo_groups.specs.KeptGroups.{members_of, keys_of}
 use Rattle.hippo_groups.proofs.BestTheorem.{IsBest, least_is_best, greatest_is_best, who_have_it, some-have-it, changes}
 use Rattle.hippo_groups.proofs.GroupLemmas.{any-different, kept_at}
@@ -128,9 +128,6 @@ module _ (places : List Place) where
       one-mark first.places (places_of rest)
       ∙ ap (λ (all : Bool). is_out first && all) (list_all-map (λ other. same_places other places) (λ (member : PlacedRow). member.places) rest)
 
-  abbrev best_changes : Best → Bool
-  best_changes best = not (is_null best.value) && is_one places best.mark
-
   module _ (key : ShownRow) (members : List PlacedRow) where
     abbrev left : List PlacedRow
     left = filter is_left members
@@ -142,7 +139,7 @@ module _ (places : List Place) where
     now = group_cell key (map row_in left)
 
     best-changes : (below : Value → Value → Bool) (lower : Value → Value → Value) (best : List Value → Value) → IsBest below lower best → (place : Place)
-        → best_changes (best_by best place members) ≡ not (is_eq (value_cmp (best (values_in place (map row_in left))) (best (values_in place (map row_in members)))))
+        → is_best_changed places (best_by best place members) ≡ not (is_eq (value_cmp (best (values_in place (map row_in left))) (best (values_in place (map row_in members)))))
     best-changes below lower best is place =
         by (is_null value) refl
         ∙ sym (changes below lower best is value_of is_out members)
@@ -165,7 +162,7 @@ module _ (places : List Place) where
         by false n = all-out who (full-from_any (λ (member : PlacedRow). is_eq (value_cmp (value_at place member.row) (best (map (λ (one : PlacedRow). value_at place one.row) members)))) members
             (some-have-it below lower best is (λ member. value_at place member.row) members n))
 
-    cell-changes : (out : Out) → best_changes (best_of members out) ≡ not (same_cell (now out) (before out))
+    cell-changes : (out : Out) → is_best_changed places (best_of members out) ≡ not (same_cell (now out) (before out))
     cell-changes (Column place) = ap not (sym (same_cell-refl (before (Column place))))
     cell-changes (Min place) = best-changes _ _ least_value least_is_best place
     cell-changes (Max place) = best-changes _ _ greatest_value greatest_is_best place
@@ -174,7 +171,7 @@ module _ (places : List Place) where
         → changes_without places (marks_of outs members) ≡ (list_all is_out members || not (same_row (map now outs) (map before outs)))
     group-changes outs full = λ i.
         all-out members full i
-        || (any-map best_changes (best_of members) outs ∙ (λ j. list_any (λ out. cell-changes out j) outs) ∙ row-changes now before outs) i
+        || (any-map (is_best_changed places) (best_of members) outs ∙ (λ j. list_any (λ out. cell-changes out j) outs) ∙ row-changes now before outs) i
 
   module _ (shape : Shape) (found : List PlacedRow) where
     abbrev key_of : PlacedRow → ShownRow

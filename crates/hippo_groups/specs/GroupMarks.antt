@@ -59,10 +59,13 @@ best_after old who value is_better places =
     else if is_better then record { value = value; mark = mark_of (places ∷ []) }
     else record { value = old; mark = mark_of who }
 
+-- whether a best value becomes another without the tuple of some places
+abbrev pub is_best_changed : List Place → Best → Bool
+is_best_changed places best = not (is_null best.value) && is_one places best.mark
+
 -- whether a group goes, or a best value of it becomes another, without the tuple of some places
 abbrev pub changes_without : List Place → GroupMarks → Bool
-changes_without places group =
-    is_one places group.mark || list_any (λ best. not (is_null best.value) && is_one places best.mark) group.bests
+changes_without places group = is_one places group.mark || list_any (is_best_changed places) group.bests
 
 -- the best values before a place are those of more members, and the others those of the members before
 abbrev pub AreJoined : List PlacedRow → List PlacedRow → List Out → Place → List Best → Type 0

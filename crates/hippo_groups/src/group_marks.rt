@@ -1,13 +1,12 @@
 //! Without which virtual tuples a group changes: what is kept of its members to know it, one after the other.
-ghost use Rattle.std.specs.Prelude.{◌≡◌, ◌+◌, ◌<◌, [], ◌∷◌, ◌++◌, ◌||◌, not, ◌&&◌, List, length, map, IfOk, OnOk};
+ghost use Rattle.std.specs.Prelude.{◌≡◌, ◌+◌, ◌<◌, [], ◌∷◌, ◌++◌, ◌||◌, List, length, map, IfOk, OnOk};
 ghost use Rattle.std.specs.List.{list_any};
 ghost use Rattle.hippo_model.specs.Terms.{Place};
-ghost use Rattle.hippo_model.specs.Conditions.{is_null};
 ghost use Rattle.hippo_model.specs.Forms.{least_value, greatest_value};
 ghost use Rattle.hippo_join.specs.Finding.{has_places};
-ghost use Rattle.hippo_shared.specs.Marks.{mark_of, is_one};
+ghost use Rattle.hippo_shared.specs.Marks.{mark_of};
 ghost use Rattle.hippo_groups.specs.declared.group_marks.GroupMarks as marks;
-ghost use Rattle.hippo_groups.specs.GroupMarks.{PlacedRow, value_at, best_by, best_of, best_after, marks_of, changes_without, AreJoined};
+ghost use Rattle.hippo_groups.specs.GroupMarks.{PlacedRow, value_at, best_by, best_of, best_after, marks_of, is_best_changed, changes_without, AreJoined};
 
 use crate::best_values::{is_greater, is_lesser, value_at};
 use hippo_model::{CellRow, Out, Outs, Places};
@@ -232,60 +231,46 @@ pub(crate) fn join_at(
     Ok(())
 }
 
-// Adds the tuple that all members with a mark have, if there is one.
-fn add_one(alloc: Global, mark: &Mark, candidates: &mut BTreeSet<Places>) -> Result<(), Memory>
-    ensures { OnOk result ((places : List Place)
-        → has_places places candidates.new.keys ≡ (is_one places mark.now || has_places places candidates.old.keys)) }
-{
-    match mark {
-        Mark::One(places) => {
-            candidates.insert(copied(alloc, places)?)?;
-            Ok(())
-        }
-        Mark::Unmarked | Mark::Several => Ok(()),
-    }
-}
-
 // Adds the tuple without which a best value becomes another, if there is one.
-fn add_of_best(alloc: Global, best: &Best, candidates: &mut BTreeSet<Places>) -> Result<(), Memory>
+fn add_of_best(best: Best, candidates: &mut BTreeSet<Places>) -> Result<(), Memory>
     ensures { OnOk result ((places : List Place) → has_places places candidates.new.keys
-        ≡ ((not (is_null best.now.value) && is_one places best.now.mark) || has_places places candidates.old.keys)) }
+        ≡ (is_best_changed places best || has_places places candidates.old.keys)) }
 {
     match best.value {
         Value::Null => Ok(()),
-        _ => add_one(alloc, &best.mark, candidates),
+        _ => best.mark.add_to(candidates),
     }
 }
 
 // Adds the tuples without which some best value becomes another.
-fn add_of_bests(alloc: Global, bests: &Sequence<Best>, candidates: &mut BTreeSet<Places>) -> Result<(), Memory>
+fn add_of_bests(bests: Vec<Best>, candidates: &mut BTreeSet<Places>) -> Result<(), Memory>
     ensures { OnOk result ((places : List Place) → has_places places candidates.new.keys
-        ≡ (list_any (λ best. not (is_null best.value) && is_one places best.mark) bests.now
-        || has_places places candidates.old.keys)) }
+        ≡ (list_any (is_best_changed places) bests.items || has_places places candidates.old.keys)) }
 {
-    for best in bests.as_slice() {
-        add_of_best(alloc, best, candidates)?;
+    for best in bests {
+        add_of_best(best, candidates)?;
     }
     Ok(())
 }
 
 // Adds the tuples without which a group goes, or a best value of it becomes another.
-fn add_of_group(alloc: Global, group: &GroupMarks, candidates: &mut BTreeSet<Places>) -> Result<(), Memory>
+fn add_of_group(group: GroupMarks, candidates: &mut BTreeSet<Places>) -> Result<(), Memory>
     ensures { OnOk result ((places : List Place) → has_places places candidates.new.keys
-        ≡ (changes_without places group.now || has_places places candidates.old.keys)) }
+        ≡ (changes_without places group || has_places places candidates.old.keys)) }
 {
-    add_of_bests(alloc, &group.bests, candidates)?;
-    add_one(alloc, &group.mark, candidates)
+    let GroupMarks { mark, bests } = group;
+    add_of_bests(bests.into_vec(), candidates)?;
+    mark.add_to(candidates)
 }
 
 // The places of the tuples without which some group changes.
-pub(crate) fn candidates(alloc: Global, groups: &[GroupMarks]) -> Result<BTreeSet<Places>, Memory>
+pub(crate) fn candidates(alloc: Global, groups: Vec<GroupMarks>) -> Result<BTreeSet<Places>, Memory>
     ensures { IfOk result (λ candidates. (places : List Place)
-        → has_places places candidates.keys ≡ list_any (changes_without places) groups.now) }
+        → has_places places candidates.keys ≡ list_any (changes_without places) groups.items) }
 {
     let mut candidates = BTreeSet::new(alloc);
     for group in groups {
-        add_of_group(alloc, group, &mut candidates)?;
+        add_of_group(group, &mut candidates)?;
     }
     Ok(candidates)
 }
