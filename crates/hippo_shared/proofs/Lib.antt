@@ -4,6 +4,8 @@ pub mod CommonLemmas
 pub mod LoopLemmas
 pub mod TupleLemmas
 pub mod SideLemmas
+pub mod MarkLemmas
+pub mod CandidateLemmas
 pub mod SearchLemmas
 pub mod SharedTheorem
 pub mod HistoryLemmas

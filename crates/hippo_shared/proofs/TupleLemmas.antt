@@ -71,7 +71,7 @@ AgreeAt [] (given ∷ others) places = ⊥
 AgreeAt (table ∷ tables) [] places = ⊥
 AgreeAt (table ∷ tables) (given ∷ others) places = (slice_get places table ≡ Some given) × AgreeAt tables others places
 
-set_at : (tables : List Name) (sets : List KeyedRows) (table : Name) → length sets ≡ length tables → list_any (bytes_eq table) tables ≡ true → slice_get sets (place_in tables table) ≡ Some (rows_named tables sets table)
+pub set_at : (tables : List Name) (sets : List KeyedRows) (table : Name) → length sets ≡ length tables → list_any (bytes_eq table) tables ≡ true → slice_get sets (place_in tables table) ≡ Some (rows_named tables sets table)
 set_at tables sets table long has = slice_get-get_or sets (place_in tables table) no_rows (subst (λ (n : ℕ). place_in tables table < n) (sym long) (place-found tables table has).0)
 
 key_is : (tables : List Name) (sets : List KeyedRows) (table : Name) (places : List Place) (place : Place) → length sets ≡ length tables → list_any (bytes_eq table) tables ≡ true → slice_get places (place_in tables table) ≡ Some place
