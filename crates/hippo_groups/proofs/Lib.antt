@@ -5,3 +5,4 @@ pub mod JoinLemmas
 pub mod BestTheorem
 pub mod MarkLemmas
 pub mod MarksTheorem
+pub mod ChangingTheorem

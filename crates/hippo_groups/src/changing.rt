@@ -5,7 +5,6 @@ ghost use Rattle.hippo_model.specs.declared.query.Form.TheVariants.{Grouped};
 ghost use Rattle.hippo_shared.specs.Needs.{first_needed};
 ghost use Rattle.hippo_shared.specs.Sharing.{HaveSameRows};
 
-use crate::group_marks::candidates;
 use crate::marking::marked_groups;
 use hippo_model::{Audit, ChoiceView, Exprs, Masked, Sets, Shape, SharedTuple};
 use hippo_shared::{common_places, first_of};
@@ -37,7 +36,7 @@ pub fn first_changing<C: ChoiceView>(
 {
     let common = common_places(alloc, query.tables.as_slice(), audit.tables.as_slice())?;
     let groups = marked_groups(alloc, query, shape, query_sets, &common.query, choices)?;
-    let candidates = candidates(alloc, &groups.marks)?;
+    let candidates = groups.candidates(alloc)?;
     first_of(
         alloc,
         candidates,

@@ -4,11 +4,13 @@ ghost use Rattle.std.specs.BTreeMap.{get};
 ghost use Rattle.std.specs.List.{list_any};
 ghost use Rattle.hippo_model.specs.declared.query.Shape as shapes;
 ghost use Rattle.hippo_model.specs.Answers.{product};
+ghost use Rattle.hippo_model.specs.Terms.{Place};
 ghost use Rattle.hippo_eval.specs.Walks.{rows_of};
-ghost use Rattle.hippo_groups.specs.GroupMarks.{PlacedRow, placed_rows};
+ghost use Rattle.hippo_join.specs.Finding.{has_places};
+ghost use Rattle.hippo_groups.specs.GroupMarks.{PlacedRow, placed_rows, changes_without};
 ghost use Rattle.hippo_groups.specs.KeptGroups.{AreMarked};
 
-use crate::group_marks::{GroupMarks, join_at, marks_of_first};
+use crate::group_marks::{GroupMarks, candidates, join_at, marks_of_first};
 use crate::grouping::front;
 use hippo_distinct::{CellKey, RowKey, row_key};
 use hippo_eval::{Onward, Visitor, passes, project, walk};
@@ -16,7 +18,7 @@ use hippo_model::{CellRow, ChoiceView, Combo, Masked, Places, Sets, Shape};
 use hippo_shared::row_places;
 use hippo_values::{Memory, Sequence};
 use std::alloc::Global;
-use std::collections::BTreeMap;
+use std::collections::{BTreeMap, BTreeSet};
 
 // The marks of the groups in the order of their first members, and the place of each group by its key.
 #[derive(Drop)]
@@ -56,6 +58,15 @@ impl MarkedGroups {
         self.places.insert(key, self.marks.len())?;
         self.marks.push(first)?;
         Ok(())
+    }
+
+    // The places of the tuples without which some group changes.
+    pub(crate) fn candidates(self, alloc: Global) -> Result<BTreeSet<Places>, Memory>
+        ensures { IfOk result (λ candidates. (places : List Place)
+            → has_places places candidates.keys ≡ list_any (changes_without places) self.marks.items) }
+    {
+        let MarkedGroups { marks, .. } = self;
+        candidates(alloc, marks)
     }
 }
 
