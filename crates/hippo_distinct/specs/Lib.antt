@@ -2,3 +2,4 @@ pub mod RowKeys
 pub mod DistinctRows
 pub mod DistinctNeeds
 pub mod GroupedNeeds
+pub mod AloneRows

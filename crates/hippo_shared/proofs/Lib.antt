@@ -6,6 +6,7 @@ pub mod TupleLemmas
 pub mod SideLemmas
 pub mod MarkLemmas
 pub mod CandidateLemmas
+pub mod AmongLemmas
 pub mod SearchLemmas
 pub mod SharedTheorem
 pub mod HistoryLemmas

@@ -23,7 +23,7 @@ use Rattle.hippo_join.specs.Places.{row_at}
 use Rattle.hippo_join.proofs.FoundLemmas.{same_places as equal_places}
 use Rattle.hippo_shared.specs.declared.marks.Mark.{Mark}
 use Rattle.hippo_shared.specs.declared.marks.Mark.TheVariants.{Unmarked, One, Several}
-use Rattle.hippo_shared.specs.Marks.{place_like, row_place, row_places, same_places, mark_of, is_unmarked, is_one}
+use Rattle.hippo_shared.specs.Marks.{place_like, row_place, row_places, same_places, mark_of, has_no_other, is_one}
 use Rattle.hippo_shared.proofs.KeyLemmas.{below_at}
 
 -- ---- equal places
@@ -95,32 +95,23 @@ all_more first rest places = list_all-append (same_places first) rest (places �
     and_true true = refl
     and_true false = refl
 
--- the mark of the tuples so far is that of no tuple
-pub mark-first : (mark : Mark) (tuples : List (List Place)) (places : List Place) → mark ≡ mark_of tuples → is_unmarked mark ≡ true → One places ≡ mark_of (tuples ++ places ∷ [])
-mark-first mark [] places e test = refl
-mark-first mark (first ∷ rest) places e test = by (list_all (same_places first) rest) (sym (ap is_unmarked e) ∙ test)
+-- one that has the same tuple, or is the first
+pub mark-same : (mark : Mark) (tuples : List (List Place)) (places : List Place) → mark ≡ mark_of tuples → has_no_other places mark ≡ true → One places ≡ mark_of (tuples ++ places ∷ [])
+mark-same mark [] places e test = refl
+mark-same mark (first ∷ rest) places e test = by (list_all (same_places first) rest) refl (sym (ap (has_no_other places) e) ∙ test)
   where
-    by : (all : Bool) → is_unmarked (cond all (One first) Several) ≡ true → One places ≡ mark_of ((first ∷ rest) ++ places ∷ [])
-    by true wrong = absurd (false≢true wrong)
-    by false wrong = absurd (false≢true wrong)
-
--- that of the same tuple
-pub mark-same : (mark : Mark) (tuples : List (List Place)) (places : List Place) → mark ≡ mark_of tuples → is_one places mark ≡ true → One places ≡ mark_of (tuples ++ places ∷ [])
-mark-same mark [] places e test = absurd (false≢true (sym (ap (is_one places) e) ∙ test))
-mark-same mark (first ∷ rest) places e test = by (list_all (same_places first) rest) refl (sym (ap (is_one places) e) ∙ test)
-  where
-    by : (all : Bool) → list_all (same_places first) rest ≡ all → is_one places (cond all (One first) Several) ≡ true → One places ≡ mark_of ((first ∷ rest) ++ places ∷ [])
+    by : (all : Bool) → list_all (same_places first) rest ≡ all → has_no_other places (cond all (One first) Several) ≡ true → One places ≡ mark_of ((first ∷ rest) ++ places ∷ [])
     by true is same =
         ap One (sym (same-exact first places same))
         ∙ sym (ap (λ b. cond b (One first) Several) (all_more first rest places ∙ (λ i. is i && same i)))
     by false is wrong = absurd (false≢true wrong)
 
--- that of another
-pub mark-other : (mark : Mark) (tuples : List (List Place)) (places : List Place) → mark ≡ mark_of tuples → is_unmarked mark ≡ false → is_one places mark ≡ false → Several ≡ mark_of (tuples ++ places ∷ [])
-mark-other mark [] places e some test = absurd (false≢true (sym some ∙ ap is_unmarked e))
-mark-other mark (first ∷ rest) places e some test = by (list_all (same_places first) rest) refl (sym (ap (is_one places) e) ∙ test)
+-- one that has another
+pub mark-other : (mark : Mark) (tuples : List (List Place)) (places : List Place) → mark ≡ mark_of tuples → has_no_other places mark ≡ false → Several ≡ mark_of (tuples ++ places ∷ [])
+mark-other mark [] places e test = absurd (false≢true (sym test ∙ ap (has_no_other places) e))
+mark-other mark (first ∷ rest) places e test = by (list_all (same_places first) rest) refl (sym (ap (has_no_other places) e) ∙ test)
   where
-    by : (all : Bool) → list_all (same_places first) rest ≡ all → is_one places (cond all (One first) Several) ≡ false → Several ≡ mark_of ((first ∷ rest) ++ places ∷ [])
+    by : (all : Bool) → list_all (same_places first) rest ≡ all → has_no_other places (cond all (One first) Several) ≡ false → Several ≡ mark_of ((first ∷ rest) ++ places ∷ [])
     by true is other = sym (ap (λ b. cond b (One first) Several) (all_more first rest places ∙ (λ i. is i && other i)))
     by false is other = sym (ap (λ b. cond b (One first) Several) (all_more first rest places ∙ ap (λ b. b && same_places first places) is))
 

@@ -1,10 +1,10 @@
 -- The first places of the common tables that are left.
-use Rattle.std.proofs.Common.{◌≡◌, ℕ, zero, suc, ◌+◌, ◌<◌, ◌≤◌, Bool, true, false, List, [], ◌∷◌, map, length, get_or, refl, sym, ap, subst, ◌∙◌, Option, Some, None, unwrap_or, option_map, replicate, take, inl, inr, ◌⊎◌, arith, Result, Ok, Vec, Global}
+use Rattle.std.proofs.Common.{◌≡◌, ℕ, zero, suc, ◌+◌, ◌<◌, ◌≤◌, Bool, true, false, List, [], ◌∷◌, map, length, get_or, refl, sym, ap, subst, ◌∙◌, Option, Some, None, unwrap_or, option_map, replicate, take, drop, inl, inr, ◌⊎◌, arith, Result, Ok, Vec, Global}
 use Rattle.std.specs.Prelude.{slice_get, slice_set, is_some}
 use Rattle.std.specs.List.{All, Contains}
 use Rattle.std.specs.List.Sorted.{IsPermutation, IsNonDecreasing}
 use Rattle.std.proofs.lemmas.Bool.{false≢true}
-use Rattle.std.proofs.lemmas.List.{length-set, set-set}
+use Rattle.std.proofs.lemmas.List.{length-set, set-set, drop_more, drop_all}
 use Rattle.std.proofs.lemmas.List.Sorted.{Contains-permutation}
 use Rattle.hippo_values.specs.declared.memory.Memory.{Memory}
 use Rattle.hippo_model.specs.declared.query.Expr.{Expr}
@@ -21,7 +21,7 @@ use Rattle.hippo_join.proofs.SlotLemmas.{Fits-at}
 use Rattle.hippo_join.specs.declared.stages.Stage.{Stage}
 use Rattle.hippo_shared.specs.declared.commons.CommonStages.{CommonStages}
 use Rattle.hippo_shared.specs.declared.searching.Search.{Search}
-use Rattle.hippo_shared.specs.FirstPlaces.{AreOpen, AreWhole, AreFirst, IsFirst}
+use Rattle.hippo_shared.specs.FirstPlaces.{AreOpen, AreWhole, AreFirst, IsFirst, with_rows}
 use Rattle.hippo_shared.specs.Searching.{Slots, query_tables, audit_tables, FindsFirst, HasOneOf, IsReady, IsStageOf, ReachesOf, Shared}
 use Rattle.hippo_shared.proofs.SideLemmas.{set-here, share-both, one-agrees}
 
@@ -264,3 +264,13 @@ pub open-by : (n m : ℕ) (tables given : List Place) (slots : List (Option Plac
 open-by n m tables given slots same none long free =
     let slots_are : slots ≡ replicate n None = none ∙ ap (λ (k : ℕ). replicate {A = Option Place} k None) long in
     subst (λ (s : List (Option Place)). AreOpen tables s) (sym slots_are) (subst (λ (l : List Place). AreOpen l (replicate {A = Option Place} n None)) (sym same) free)
+
+-- the rows of some tables, one after the other
+pub with-one-more : (tables places : List Place) (i : ℕ) (slots whole : List (Option Place)) → i < length tables → i < length places → with_rows (drop i tables) (drop i places) slots ≡ whole
+    → with_rows (drop (i + 1) tables) (drop (i + 1) places) (slice_set slots (get_or tables i 0) (Some (get_or places i 0))) ≡ whole
+with-one-more tables places i slots whole in_tables in_places so_far =
+    sym (λ j. with_rows (drop_more tables i 0 in_tables j) (drop_more places i 0 in_places j) slots) ∙ so_far
+
+pub with-all : (tables places : List Place) (i : ℕ) (slots whole : List (Option Place)) → length tables ≤ i → with_rows (drop i tables) (drop i places) slots ≡ whole → slots ≡ whole
+with-all tables places i slots whole past so_far =
+    sym (ap (λ (l : List Place). with_rows l (drop i places) slots) (drop_all i tables past)) ∙ so_far

@@ -1,4 +1,5 @@
--- The first places with which both sides have a combination are those of the first shared tuple.
+-- The first places with which both sides have a combination are those of the first shared tuple; and the first of some
+-- places, those of the first virtual tuple that passes a test.
 use Rattle.std.proofs.Common.{◌≡◌, ℕ, zero, suc, ◌<◌, Bool, true, false, ◌&&◌, List, [], ◌∷◌, map, length, refl, sym, ap, subst, ◌∙◌, Option, Some, None, option_map, replicate, arith}
 use Rattle.std.specs.Prelude.{bytes_eq, find}
 use Rattle.std.specs.List.{All, AllByRecursion, IsDistinct, list_any}
@@ -14,12 +15,15 @@ use Rattle.hippo_model.specs.Answers.{product, passes}
 use Rattle.hippo_model.specs.Masking.{Choices, is_guarded, masked_passes}
 use Rattle.hippo_eval.specs.Unmasked.{all_shown}
 use Rattle.hippo_eval.specs.Walks.{rows_of}
+use Rattle.hippo_join.specs.Finding.{IsRising}
 use Rattle.hippo_join.specs.Places.{chosen, in_range, places_of}
 use Rattle.hippo_join.specs.Existence.{are_shown, HasOne}
 use Rattle.hippo_join.proofs.SlotLemmas.{Fits-open, length-in_range}
-use Rattle.hippo_shared.specs.Sharing.{common_tables, place_in, rows_named, HaveSameRows, has_tuple, query_has, audit_has, first_shared}
+use Rattle.hippo_shared.specs.Sharing.{common_tables, place_in, rows_named, HaveSameRows, virtual_tuples, has_tuple, query_has, audit_has, first_shared}
 use Rattle.hippo_shared.specs.Tuples.{tuple_at}
-use Rattle.hippo_shared.specs.FirstPlaces.{ShareAt, IsFirst, with_rows}
+use Rattle.hippo_shared.specs.FirstPlaces.{ShareAt, IsFirst, IsFirstAmong, with_rows}
+use Rattle.hippo_shared.specs.Candidates.{AreThoseOf, first_passing}
+use Rattle.hippo_shared.proofs.AmongLemmas.{find-filter, find-same, and_grouped, those-of, found-among, among-holds}
 use Rattle.hippo_shared.specs.Searching.{AreCommon}
 use Rattle.hippo_shared.proofs.CommonLemmas.{place-found, common-in-query, common-in-audit, common-distinct, common-open}
 use Rattle.hippo_shared.proofs.FirstLemmas.{find-map, find-first, find-none, first-holds}
@@ -229,3 +233,48 @@ module _ (choices : Choices) (query : Masked) (audit : Audit) (seen : List Expr)
     none-shared at =
         let none : IsFirst Holds None = subst (λ (o : Option V). IsFirst Holds (option_map items o)) at told_here in
         shared-is None none
+
+  -- the first of some places, ascending, that are those of the virtual tuples that pass a test
+  candidate-is : (test : List SharedRow → Bool) (candidates : List (List Place)) → IsRising candidates → AreThoseOf test audit.tables audit_sets common candidates → (found : Option (List Place)) → IsFirstAmong Holds candidates found
+      → option_map shared_at found ≡ first_passing test choices query audit seen query_sets audit_sets
+  candidate-is test candidates rising those found first =
+      let passes : List Place → Bool = λ given. shares (shared_at given) in
+      let chosen_by : List Place → Bool = λ given. test (shared_at given) in
+      let here : find passes candidates ≡ found =
+      found-among Holds passes candidates (λ given has. (so given, back given (and_parts (in_range common_sets given) (chosen_by given) (sym (those given) ∙ has)).0)) found first in
+      let tuples = virtual_tuples audit.tables audit_sets common in
+      sym (find-same (λ tuple. test tuple && query_has choices query seen query_sets tuple && audit_has audit audit_sets tuple) (λ tuple. test tuple && shares tuple)
+      (λ tuple. and_grouped (test tuple) (query_has choices query seen query_sets tuple) (audit_has audit audit_sets tuple)) tuples
+      ∙ ap (find (λ tuple. test tuple && shares tuple)) (tuples-by-places audit.tables audit_sets common in_audit)
+      ∙ find-map (λ tuple. test tuple && shares tuple) shared_at (places_of common_sets)
+      ∙ ap (option_map shared_at) (find-filter chosen_by passes (places_of common_sets) ∙ ap (find passes) (sym (those-of common_sets chosen_by candidates rising those)) ∙ here))
+
+  -- what a search among them answers, over the query that stands for the audit
+  module _ (listed candidates : List (List Place)) (found : Option (List Place)) (unmasked : Masked) (these : List Expr) (query_items audit_items : List Place) (is_unmasked : unmasked ≡ unmasked_query audit.cond) (is_seen : these ≡ seen)
+      (is_query : query_items ≡ query_places) (is_audit : audit_items ≡ audit_places) (is_listed : listed ≡ candidates) (rising : IsRising candidates)
+      (told : IsFirstAmong (ShareAt (HasOne choices query these query_sets) (HasOne choices unmasked [] audit_sets) query_items audit_items (replicate (length query_sets) None) (replicate (length audit_sets) None)) listed found) where
+    told_among : IsFirstAmong Holds candidates found
+    told_among =
+        let open_query : List (Option Place) = replicate (length query_sets) None in
+        let open_audit : List (Option Place) = replicate (length audit_sets) None in
+        let a = subst (λ (m : Masked). IsFirstAmong (ShareAt (HasOne choices query these query_sets) (HasOne choices m [] audit_sets) query_items audit_items open_query open_audit) listed found) is_unmasked told in
+        let b = subst (λ (e : List Expr). IsFirstAmong (ShareAt (HasOne choices query e query_sets) AuditHas query_items audit_items open_query open_audit) listed found) is_seen a in
+        let d = subst (λ (l : List Place). IsFirstAmong (ShareAt QueryHas AuditHas l audit_items open_query open_audit) listed found) is_query b in
+        let e = subst (λ (l : List Place). IsFirstAmong (ShareAt QueryHas AuditHas query_places l open_query open_audit) listed found) is_audit d in
+        subst (λ (l : List (List Place)). IsFirstAmong Holds l found) is_listed e
+
+    among_some : (places : List Place) → found ≡ Some places → IsFirstAmong Holds candidates (Some places)
+    among_some places at = subst (λ (o : Option (List Place)). IsFirstAmong Holds candidates o) at told_among
+
+    pub candidate-long : (places : List Place) → found ≡ Some places → length places ≡ length audit_items
+    candidate-long places at =
+        let both = share-both QueryHas AuditHas query_places audit_places (replicate (length query_sets) None) (replicate (length audit_sets) None) places (among-holds Holds candidates places (among_some places at)) in
+        both.0 ∙ length_map (place_in query.tables) common ∙ sym (length_map (place_in audit.tables) common) ∙ sym (ap length is_audit)
+
+    pub candidate-some : (places : List Place) → found ≡ Some places → (tuple : List SharedRow) → tuple ≡ tuple_at audit.tables audit_sets audit_items places → (test : List SharedRow → Bool) → AreThoseOf test audit.tables audit_sets common candidates
+        → Some tuple ≡ first_passing test choices query audit seen query_sets audit_sets
+    candidate-some places at tuple is test those =
+        ap Some (is ∙ ap (λ (l : List Place). tuple_at audit.tables audit_sets l places) is_audit) ∙ candidate-is test candidates rising those (Some places) (among_some places at)
+
+    pub candidate-none : found ≡ None → (test : List SharedRow → Bool) → AreThoseOf test audit.tables audit_sets common candidates → None ≡ first_passing test choices query audit seen query_sets audit_sets
+    candidate-none at test those = candidate-is test candidates rising those None (subst (λ (o : Option (List Place)). IsFirstAmong Holds candidates o) at told_among)

@@ -1,12 +1,16 @@
 -- Whether a side has a combination with given rows of the common tables.
-use Rattle.std.proofs.Common.{◌≡◌, zero, suc, Bool, true, false, ◌&&◌, ◌||◌, List, [], ◌∷◌, map, length, refl, sym, ap, ◌∙◌, Option, Some, None, unwrap_or, arith}
-use Rattle.std.specs.Prelude.{slice_get, slice_set, is_some}
+use Rattle.std.proofs.Common.{◌≡◌, zero, suc, Bool, true, false, ◌&&◌, ◌||◌, List, [], ◌∷◌, map, length, refl, sym, ap, ◌∙◌, subst, Option, Some, None, unwrap_or, replicate, Result, Ok, Err, arith}
+use Rattle.std.specs.Prelude.{slice_get, slice_set, is_some, IfOk}
 use Rattle.std.specs.List.{list_any}
 use Rattle.std.specs.Ordering.{is_eq, nat_cmp}
 use Rattle.std.specs.Cmp.{eq_by_cmp_equiv}
 use Rattle.std.specs.Cmp.Lexicographic.{slice_cmp}
 use Rattle.std.proofs.lemmas.Bool.{and_parts, false≢true}
 use Rattle.std.proofs.lemmas.Cmp.{nat_list_cmp_total}
+use Rattle.std.proofs.lemmas.List.{length-set}
+use Rattle.hippo_values.specs.declared.memory.Memory.{Memory}
+use Rattle.hippo_model.specs.declared.audit.Audit.{Audit}
+use Rattle.hippo_model.specs.declared.audit.SharedRow.{SharedRow}
 use Rattle.hippo_model.specs.declared.query.Expr.{Expr}
 use Rattle.hippo_model.specs.declared.query.Masked.{Masked}
 use Rattle.hippo_model.specs.declared.query.CondOf.{CondOf}
@@ -24,13 +28,14 @@ use Rattle.hippo_eval.specs.Walks.{rows_of}
 use Rattle.hippo_eval.proofs.UnmaskedLemmas.{value_is}
 use Rattle.hippo_join.specs.Places.{slot_at, chosen, in_range, places_of, stays, stands}
 use Rattle.hippo_join.specs.Known.{is_chosen}
-use Rattle.hippo_join.specs.Existence.{HasOne}
+use Rattle.hippo_join.specs.Existence.{HasOne, Decides}
 use Rattle.hippo_join.specs.Finding.{has_places}
 use Rattle.hippo_join.proofs.ProductLemmas.{product-rows, has-places_of}
 use Rattle.hippo_join.proofs.FoundLemmas.{same_places}
-use Rattle.hippo_join.proofs.SlotLemmas.{Fits-at, Fits-set}
+use Rattle.hippo_join.proofs.SlotLemmas.{Fits-at, Fits-set, Fits-open, length-in_range}
 use Rattle.hippo_join.proofs.ExistenceLemmas.{Fits-unset}
 use Rattle.hippo_shared.specs.FirstPlaces.{AreOpen, ShareAt, with_rows}
+use Rattle.hippo_shared.specs.Sharing.{has_tuple, audit_has}
 use Rattle.hippo_shared.proofs.TupleLemmas.{AgreeAt}
 
 -- ---- a combination of the product that passes a test
@@ -94,6 +99,32 @@ module _ (Query Audit : List (Option Place) → Type 0) where
   both-share (table ∷ tables) (other ∷ others) query audit (place ∷ given) long same q a =
       both-share tables others (slice_set query table (Some place)) (slice_set audit other (Some place)) given (omega arith) (omega arith) q a
 
+-- whether both sides have a combination, by one side after the other
+module _ (Query Audit : List (Option Place) → Type 0) (tables others : List Place) (query audit : List (Option Place)) (given : List Place) where
+  abbrev Both : Type 0
+  Both = ShareAt Query Audit tables others query audit given
+
+  pub not-long : ¬ (length given ≡ length tables) → ¬ Both
+  not-long wrong share = wrong (share-both Query Audit tables others query audit given share).0
+
+  pub not-there : (slots : List (Option Place)) → slots ≡ with_rows others given audit → (has : Bool) → has ≡ false → Decides (Audit slots) (Ok has) → ¬ Both
+  not-there slots is true wrong decided share = absurd (false≢true (sym wrong))
+  not-there slots is false e none share = none (subst Audit (sym is) (share-both Query Audit tables others query audit given share).2)
+
+  pub both-decided : length given ≡ length tables → length given ≡ length others → (slots other_slots : List (Option Place)) → slots ≡ with_rows tables given query → other_slots ≡ with_rows others given audit
+      → (has : Bool) → has ≡ true → Decides (Audit other_slots) (Ok has) → (result : Result Bool Memory) → Decides (Query slots) result → Decides Both result
+  both-decided long same slots other_slots is other_is false wrong decided result told = absurd (false≢true wrong)
+  both-decided long same slots other_slots is other_is true e one (Ok true) told =
+      both-share Query Audit tables others query audit given long same (subst Query is told) (subst Audit other_is one)
+  both-decided long same slots other_slots is other_is true e one (Ok false) told = λ share.
+      told (subst Query (sym is) (share-both Query Audit tables others query audit given share).1)
+  both-decided long same slots other_slots is other_is true e one (Err fault) told = tt
+
+pub length-with_rows : (tables given : List Place) (slots : List (Option Place)) → length (with_rows tables given slots) ≡ length slots
+length-with_rows [] given slots = refl
+length-with_rows (table ∷ tables) [] slots = refl
+length-with_rows (table ∷ tables) (place ∷ given) slots = length-with_rows tables given (slice_set slots table (Some place)) ∙ length-set slots table (Some place)
+
 pub set-here : (slots : List (Option Place)) (table : Place) (slot before : Option Place) → slice_get slots table ≡ Some before → slice_get (slice_set slots table slot) table ≡ Some slot
 set-here [] table slot before at = absurd cc
 set-here (first ∷ slots) zero slot before at = refl
@@ -139,3 +170,25 @@ unmasked_query condition = record { items = []; tables = []; guards = []; cond =
 pub passes-unmasked : (choices : Choices) (condition : CondOf Operand) (rows : Combination) → masked_passes choices (unmasked_query condition) rows ≡ passes condition (all_shown rows)
 passes-unmasked choices condition rows =
     ap is_true (agrees unmasked (masked_value choices rows) condition ∙ ap (λ (value : Operand → Value). truth value condition) (λ i operand. value_is choices rows operand i))
+
+-- where no combination of an audit's rows counts, none has a tuple
+pub audit-none : (choices : Choices) (audit : Audit) (sets : List KeyedRows) (unmasked : Masked) → unmasked ≡ unmasked_query audit.cond
+    → (result : Result Bool Memory) → Decides (HasOne choices unmasked [] sets (replicate (length sets) None)) result
+    → IfOk result (λ has. has ≡ false → (tuple : List SharedRow) → audit_has audit sets tuple ≡ false)
+audit-none choices audit sets unmasked is (Ok true) one = λ wrong. absurd (false≢true (sym wrong))
+audit-none choices audit sets unmasked is (Ok false) none = λ e tuple. not_so (audit_has audit sets tuple) (λ has.
+    let found = one-of-product sets (λ rows. has_tuple audit.tables sets tuple rows && passes audit.cond (all_shown rows)) has in
+    let rows : Combination = chosen sets found.0 in
+    let counts : masked_passes choices (unmasked_query audit.cond) rows ≡ true = passes-unmasked choices audit.cond rows ∙ (and_parts (has_tuple audit.tables sets tuple rows) (passes audit.cond (all_shown rows)) found.2).1 in
+    let one : HasOne choices (unmasked_query audit.cond) [] sets (replicate (length sets) None) = record {
+      places = found.0;
+      fits = Fits-open found.0 (length sets) (length-in_range sets found.0 found.1);
+      counts = counts-parts choices (unmasked_query audit.cond) [] sets found.0 found.1 counts;
+      shows = refl;
+    } in
+    none (subst (λ (m : Masked). HasOne choices m [] sets (replicate (length sets) None)) (sym is) one))
+  where
+    not_so : (b : Bool) → ¬ (b ≡ true) → b ≡ false
+    not_so true wrong = absurd (wrong refl)
+    not_so false wrong = refl
+audit-none choices audit sets unmasked is (Err fault) told = tt

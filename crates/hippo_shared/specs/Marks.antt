@@ -30,12 +30,13 @@ abbrev pub mark_of : List (List Place) → Mark
 mark_of [] = Unmarked
 mark_of (first ∷ rest) = if list_all (same_places first) rest then One first else Several
 
-abbrev pub is_unmarked : Mark → Bool
-is_unmarked Unmarked = true
-is_unmarked (One places) = false
-is_unmarked Several = false
+-- whether combinations with this mark have no other tuple than that of some places
+abbrev pub has_no_other : List Place → Mark → Bool
+has_no_other places Unmarked = true
+has_no_other places (One others) = same_places others places
+has_no_other places Several = false
 
--- whether combinations with this mark have the tuple of some places, and there are such combinations
+-- whether there are combinations with this mark, and they have the tuple of some places
 abbrev pub is_one : List Place → Mark → Bool
 is_one places Unmarked = false
 is_one places (One others) = same_places others places

@@ -12,4 +12,4 @@ mod tuples;
 pub use candidates::{audit_has_any, first_of};
 pub use commons::{CommonPlaces, common_places};
 pub use marks::{Mark, row_places};
-pub use sharing::first_shared;
+pub use sharing::{first_shared, know_order};

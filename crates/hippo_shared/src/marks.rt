@@ -2,7 +2,7 @@
 ghost use Rattle.std.specs.Prelude.{◌≡◌, [], ◌∷◌, ◌++◌, ◌||◌, List, IfOk, OnOk};
 ghost use Rattle.hippo_model.specs.Terms.{Place};
 ghost use Rattle.hippo_join.specs.Finding.{has_places};
-ghost use Rattle.hippo_shared.specs.Marks.{row_place, row_places, mark_of, is_unmarked, is_one};
+ghost use Rattle.hippo_shared.specs.Marks.{row_place, row_places, mark_of, has_no_other, is_one};
 
 use hippo_model::{Combo, Places, Sets};
 use hippo_values::{Memory, Sequence};
@@ -48,18 +48,14 @@ pub fn row_places(
 }
 
 impl Mark {
-    fn is_unmarked(&self) -> bool
-        ensures { result ≡ is_unmarked self.now }
-    {
-        matches!(self, Mark::Unmarked)
-    }
-
-    fn is_one(&self, places: &Places) -> bool
-        ensures { result ≡ is_one places.now self.now }
+    // Whether the combinations have no other tuple than that of these places.
+    fn has_no_other(&self, places: &Places) -> bool
+        ensures { result ≡ has_no_other places.now self.now }
     {
         match self {
+            Mark::Unmarked => true,
             Mark::One(others) => others == places,
-            Mark::Unmarked | Mark::Several => false,
+            Mark::Several => false,
         }
     }
 
@@ -68,7 +64,7 @@ impl Mark {
         ensures { (tuples : List (List Place)) → self.now ≡ mark_of tuples
             → result ≡ mark_of (tuples ++ places ∷ []) }
     {
-        if self.is_unmarked() || self.is_one(&places) {
+        if self.has_no_other(&places) {
             Mark::One(places)
         } else {
             Mark::Several

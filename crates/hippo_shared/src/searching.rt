@@ -192,14 +192,15 @@ impl<'a, C: ChoiceView> Search<'a, C> {
             common.now.query.items common.now.audit.items places.now) result }
     {
         if places.len() != common.query.len() {
+            // They are those of no tuple.
             return Ok(false);
         }
         let mut query = slots_with(alloc, self.query.sets.len(), &common.query, places)?;
         let mut audit = slots_with(alloc, self.audit.sets.len(), &common.audit, places)?;
-        Ok(
-            self.audit.has(alloc, self.audit_stages, &[], &mut audit)?
-                && self.query.has(alloc, self.query_stages, self.seen, &mut query)?,
-        )
+        if self.audit.has(alloc, self.audit_stages, &[], &mut audit)? {
+            return self.query.has(alloc, self.query_stages, self.seen, &mut query);
+        }
+        Ok(false)
     }
 
     // The first of some places of the common tables with which both sides have a combination.

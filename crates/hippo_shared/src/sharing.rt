@@ -27,8 +27,8 @@ pub(crate) fn unmasked_query(alloc: Global, audit: &Audit) -> Result<Masked, Mem
     })
 }
 
-// The rows of each table stand in the order of their keys; takes no memory.
-pub(crate) fn know_order(sets: &Sets<'_>)
+/// The rows of each table stand in the order of their keys: says so, and does nothing.
+pub fn know_order(sets: &Sets<'_>)
     ensures { All (λ set. IsAscending (map (key_in set.key) set.rows)) sets.now }
 {
     for table in 0..sets.len() {

@@ -1,0 +1,139 @@
+//! The first virtual tuple that a DISTINCT query needs and an audit has, found by marks in one walk.
+ghost use Rattle.std.specs.Prelude.{◌≡◌, [], ◌∷◌, ◌++◌, List, IfOk, OnOk, bytes_eq, cond, length};
+ghost use Rattle.std.specs.BTreeMap.{IsOrdered};
+ghost use Rattle.std.specs.List.{IsDistinct, list_any};
+ghost use Rattle.std.specs.Ordering.{is_eq};
+ghost use Rattle.hippo_model.specs.declared.query.Form.TheVariants.{Distinct};
+ghost use Rattle.hippo_model.specs.Answers.{product};
+ghost use Rattle.hippo_model.specs.Terms.{Place};
+ghost use Rattle.hippo_eval.specs.Walks.{rows_of};
+ghost use Rattle.hippo_join.specs.Finding.{has_places};
+ghost use Rattle.hippo_shared.specs.Marks.{mark_of, is_one};
+ghost use Rattle.hippo_shared.specs.Needs.{first_needed};
+ghost use Rattle.hippo_shared.specs.Sharing.{HaveSameRows};
+ghost use Rattle.hippo_distinct.specs.declared.keys.CellKey as cell_keys;
+ghost use Rattle.hippo_distinct.specs.AloneRows.{AreMarked, mark_at};
+
+use crate::keys::{CellKey, RowKey, row_key};
+use hippo_eval::{Onward, Visitor, passes, project, walk};
+use hippo_model::{Audit, ChoiceView, Combo, Exprs, Masked, Places, Sets, SharedTuple};
+use hippo_shared::{Mark, audit_has_any, common_places, first_of, know_order, row_places};
+use hippo_values::{Memory, Sequence};
+use std::alloc::Global;
+use std::collections::{BTreeMap, BTreeSet};
+
+// Marks one combination more, which makes the row with this key and has the tuple of these places.
+fn mark(
+    marks: &mut BTreeMap<RowKey, Mark>,
+    key: RowKey,
+    places: Places,
+) -> Result<(), Memory>
+    ensures { (tuples : List (List Place)) → mark_at ⟦<Sequence<CellKey> as Ord>⟧.cmp marks.old key ≡ mark_of tuples
+        → OnOk result ((other : List cell_keys.CellKey) → mark_at ⟦<Sequence<CellKey> as Ord>⟧.cmp marks.new other
+        ≡ cond (is_eq (⟦<Sequence<CellKey> as Ord>⟧.cmp key other)) (mark_of (tuples ++ places ∷ []))
+        (mark_at ⟦<Sequence<CellKey> as Ord>⟧.cmp marks.old other)) }
+{
+    let mark = marks.get(&key).unwrap_or(&Mark::Unmarked).with(places);
+    marks.insert(key, mark)?;
+    Ok(())
+}
+
+// Marks the rows of a query's answer, by the places of the combinations' rows of some tables.
+#[derive(Drop)]
+struct Marker<'a, C> {
+    query: &'a Masked,
+    sets: &'a Sets<'a>,
+    tables: &'a [usize],
+    choices: &'a C,
+}
+
+impl<'a, C: ChoiceView> Visitor for Marker<'a, C> {
+    ghost use Rattle.hippo_distinct.specs.AloneRows.{AreMarked};
+
+    type State = BTreeMap<RowKey, Mark>;
+
+    ghost Keeps = { λ marker combinations marks. AreMarked ⟦<Sequence<CellKey> as Ord>⟧.cmp
+        (C.choices marker.choices.now) marker.query.now marker.sets.now marker.tables.now combinations marks };
+
+    fn visit(
+        &self,
+        alloc: Global,
+        state: &mut BTreeMap<RowKey, Mark>,
+        combo: &Combo<'_>,
+    ) -> Result<Onward, Memory> {
+        if passes(self.query, combo, self.choices) {
+            let row = project(alloc, self.query, combo, self.choices)?;
+            let key = row_key(alloc, row.as_slice())?;
+            mark(state, key, row_places(alloc, self.sets, self.tables, combo)?)?;
+        }
+        Ok(Onward::More)
+    }
+}
+
+fn row_marks<C: ChoiceView>(
+    alloc: Global,
+    query: &Masked,
+    sets: &Sets<'_>,
+    tables: &[usize],
+    choices: &C,
+) -> Result<BTreeMap<RowKey, Mark>, Memory>
+    ensures { IfOk result (λ marks. AreMarked ⟦<Sequence<CellKey> as Ord>⟧.cmp (C.choices choices.now) query.now
+        sets.now tables.now (product (rows_of sets.now)) marks) }
+{
+    let marker = Marker {
+        query: &*query,
+        sets: &*sets,
+        tables: &*tables,
+        choices: &*choices,
+    };
+    let mut marks = BTreeMap::new(alloc);
+    walk(alloc, sets, &marker, &mut marks)?;
+    Ok(marks)
+}
+
+// The places of the tuples that stand alone behind some row.
+fn alone(alloc: Global, marks: BTreeMap<RowKey, Mark>) -> Result<BTreeSet<Places>, Memory>
+    ensures order { IsOrdered ⟦<Sequence<CellKey> as Ord>⟧.cmp marks }
+    ensures places { IfOk result (λ candidates. (places : List Place)
+        → has_places places candidates.keys ≡ list_any (λ entry. is_one places entry.1) marks.entries) }
+{
+    let mut candidates = BTreeSet::new(alloc);
+    for (_, mark) in marks {
+        mark.add_to(&mut candidates)?;
+    }
+    Ok(candidates)
+}
+
+/// The first virtual tuple (a row of each table in both FROM lists, by its key; in the audit's order) that a DISTINCT
+/// query needs, that some row of its answer has with each expression of `seen` a shown cell, and that some combination
+/// of the audit's rows has of which its condition is true; none exactly where there is none. A tuple is needed where
+/// some row of the answer comes from combinations with the tuple alone. Wants what `first_shared` wants. Takes time in
+/// proportion to the combinations of the query's rows, unless no combination of the audit's rows counts; and memory for
+/// the different rows.
+pub fn first_alone<C: ChoiceView>(
+    alloc: Global,
+    query: &Masked,
+    audit: &Audit,
+    seen: &Exprs,
+    query_sets: &Sets<'_>,
+    audit_sets: &Sets<'_>,
+    choices: &C,
+) -> Result<Option<SharedTuple>, Memory>
+    requires query_sets { length query_sets.now ≡ length query.now.tables }
+    requires audit_sets { length audit_sets.now ≡ length audit.now.tables }
+    requires tables { IsDistinct bytes_eq audit.now.tables }
+    requires rows { HaveSameRows query.now.tables query_sets.now audit.now.tables audit_sets.now }
+    ensures { IfOk result (λ shared. shared ≡ first_needed (C.choices choices.now) query.now Distinct audit.now seen.now
+        query_sets.now audit_sets.now) }
+{
+    if !audit_has_any(alloc, audit, audit_sets, choices)? {
+        return Ok(None);
+    }
+    know_order(audit_sets);
+    let common = common_places(alloc, query.tables.as_slice(), audit.tables.as_slice())?;
+    let marks = row_marks(alloc, query, query_sets, &common.query, choices)?;
+    let candidates = alone(alloc, marks)?;
+    first_of(
+        alloc, candidates, query, audit, seen, query_sets, audit_sets, choices,
+    )
+}
