@@ -54,7 +54,7 @@ any-map : {A B : Type 0} (test : B → Bool) (f : A → B) (items : List A) → 
 any-map test f [] = refl
 any-map test f (item ∷ items) = ap (λ (rest : Bool). test (f item) || rest) (any-map test f items)
 
-filter-all : {A : Type 0} (items : List A) → filter (λ item. true) items ≡ items
+pub filter-all : {A : Type 0} (items : List A) → filter (λ item. true) items ≡ items
 filter-all [] = refl
 filter-all {A} (item ∷ items) = ap (λ (rest : List A). item ∷ rest) (filter-all items)
 

@@ -7,7 +7,7 @@ ghost use Rattle.hippo_shared.specs.Sharing.{HaveSameRows};
 
 use crate::marking::marked_groups;
 use hippo_model::{Audit, ChoiceView, Exprs, Masked, Sets, Shape, SharedTuple};
-use hippo_shared::{common_places, first_of};
+use hippo_shared::{common_places, first_of, know_order};
 use hippo_values::Memory;
 use std::alloc::Global;
 
@@ -34,6 +34,7 @@ pub fn first_changing<C: ChoiceView>(
     ensures { IfOk result (λ shared. shared ≡ first_needed (C.choices choices.now) query.now (Grouped shape.now)
         audit.now seen.now query_sets.now audit_sets.now) }
 {
+    know_order(audit_sets);
     let common = common_places(alloc, query.tables.as_slice(), audit.tables.as_slice())?;
     let groups = marked_groups(alloc, query, shape, query_sets, &common.query, choices)?;
     let candidates = groups.candidates(alloc)?;
