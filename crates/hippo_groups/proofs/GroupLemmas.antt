@@ -1,18 +1,17 @@
--- The groups of rows, one row more.
+-- The groups of what was found, one member more.
 use Rattle.std.proofs.Common.{◌≡◌, Bool, true, false, not, cond, ◌&&◌, ◌||◌, List, [], ◌∷◌, ◌++◌, map, take, refl, sym, ap, ◌∙◌}
 use Rattle.std.specs.Prelude.{filter}
 use Rattle.std.specs.List.{list_any, list_all}
 use Rattle.std.proofs.lemmas.Bool.{and_parts, and_from, or_parts, or_left, or_right}
 use Rattle.std.proofs.lemmas.List.{append-nil, map-append}
 use Rattle.std.proofs.lemmas.List.Elements.{filter-append}
-use Rattle.hippo_model.specs.declared.query.Shape.{Shape}
-use Rattle.hippo_model.specs.Terms.{ShownRow}
+use Rattle.hippo_model.specs.Terms.{ShownRow, Place}
 use Rattle.hippo_model.specs.Bags.{same_row}
-use Rattle.hippo_model.specs.Forms.{different, members, group_cell, grouped}
+use Rattle.hippo_model.specs.Forms.{different}
 use Rattle.hippo_distinct.specs.DistinctRows.{stands_in}
 use Rattle.hippo_distinct.proofs.DifferentLemmas.{if_new, different-push, same_row-exact}
 use Rattle.hippo_distinct.proofs.NeededRows.{same_row-refl, all_different, not_all}
-use Rattle.hippo_groups.specs.KeptGroups.{keys_of}
+use Rattle.hippo_groups.specs.KeptGroups.{members_of, keys_of}
 
 pub same_row-sym : (a b : ShownRow) → same_row a b ≡ same_row b a
 same_row-sym a b = by (same_row a b) (same_row b a) refl refl
@@ -27,12 +26,16 @@ not_not : (test : Bool) → not (not test) ≡ test
 not_not true = refl
 not_not false = refl
 
-stands-all : (row : ShownRow) (rows : List ShownRow) → stands_in row rows ≡ not (list_all (λ other. not (same_row other row)) rows)
-stands-all row rows = sym (λ i. list_any (λ other. not_not (same_row other row) i) rows) ∙ sym (not_all (λ other. not (same_row other row)) rows)
+any-not-all : (test : ShownRow → Bool) (rows : List ShownRow) → list_any test rows ≡ not (list_all (λ row. not (test row)) rows)
+any-not-all test rows = sym (λ i. list_any (λ row. not_not (test row) i) rows) ∙ sym (not_all (λ row. not (test row)) rows)
+
+-- some of the different rows pass a test where some of all do
+pub any-different : (test : ShownRow → Bool) (rows : List ShownRow) → list_any test (different rows) ≡ list_any test rows
+any-different test rows = any-not-all test (different rows) ∙ ap not (all_different (λ row. not (test row)) rows) ∙ sym (any-not-all test rows)
 
 -- a row stands among the different rows where it stands among all
 pub stands-different : (row : ShownRow) (rows : List ShownRow) → stands_in row (different rows) ≡ stands_in row rows
-stands-different row rows = stands-all row (different rows) ∙ ap not (all_different (λ other. not (same_row other row)) rows) ∙ sym (stands-all row rows)
+stands-different row rows = any-different (λ other. same_row other row) rows
 
 pub stands-there : (row : ShownRow) (front back : List ShownRow) → stands_in row (front ++ row ∷ back) ≡ true
 stands-there row [] back = or_left (same_row row row) (stands_in row back) (same_row-refl row)
@@ -100,77 +103,83 @@ apart-at row (first ∷ front) back apart =
     let later = apart-at row front back both.1 in
     ((λ i. not-at first row front back both.0 i || later.0 i), later.1)
 
-module _ (shape : Shape) where
-  -- the row of the group with a key
-  abbrev pub row_of : List ShownRow → ShownRow → ShownRow
-  row_of rows key = map (group_cell key (members rows key shape.keys)) shape.outs
+module _ {M K : Type 0} (row_of : M → ShownRow) (keys : Place) (kept_of : ShownRow → List M → K) where
+  -- what is kept of the group with a key
+  abbrev pub kept_at : List M → ShownRow → K
+  kept_at found key = kept_of key (members_of row_of keys found key)
 
-  module _ (found : List ShownRow) (row : ShownRow) where
-    abbrev pub its_key : ShownRow
-    its_key = take shape.keys row
+  abbrev key_of : M → ShownRow
+  key_of member = take keys (row_of member)
 
-    abbrev more : List ShownRow
-    more = found ++ row ∷ []
+  module _ (found : List M) (member : M) where
+    abbrev its_key : ShownRow
+    its_key = key_of member
 
-    members-push : (key : ShownRow) → members more key shape.keys ≡ members found key shape.keys ++ cond (same_row key its_key) (row ∷ []) []
-    members-push key = filter-append (λ one. same_row key (take shape.keys one)) found (row ∷ [])
+    abbrev more : List M
+    more = found ++ member ∷ []
+
+    abbrev keys_found : List ShownRow
+    keys_found = keys_of row_of keys found
+
+    members-push : (key : ShownRow) → members_of row_of keys more key ≡ members_of row_of keys found key ++ cond (same_row key its_key) (member ∷ []) []
+    members-push key = filter-append (λ one. same_row key (key_of one)) found (member ∷ [])
 
     -- a group with another key stays
-    other_stays : (other : ShownRow) → same_row other its_key ≡ false → row_of more other ≡ row_of found other
-    other_stays other apart = ap (λ (rows : List ShownRow). map (group_cell other rows) shape.outs)
-        (members-push other ∙ ap (λ (same : Bool). members found other shape.keys ++ cond same (row ∷ []) []) apart ∙ append-nil (members found other shape.keys))
+    other_stays : (other : ShownRow) → same_row other its_key ≡ false → kept_at more other ≡ kept_at found other
+    other_stays other apart = ap (kept_of other)
+        (members-push other ∙ ap (λ (same : Bool). members_of row_of keys found other ++ cond same (member ∷ []) []) apart ∙ append-nil (members_of row_of keys found other))
 
-    others_stay : (others : List ShownRow) → stands_in its_key others ≡ false → map (row_of more) others ≡ map (row_of found) others
+    others_stay : (others : List ShownRow) → stands_in its_key others ≡ false → map (kept_at more) others ≡ map (kept_at found) others
     others_stay [] none = refl
     others_stay (other ∷ rest) none =
         let both = or_parts (same_row other its_key) (stands_in its_key rest) none in
         λ i. other_stays other both.0 i ∷ others_stay rest both.1 i
 
-    its_members : members more its_key shape.keys ≡ members found its_key shape.keys ++ row ∷ []
-    its_members = members-push its_key ∙ ap (λ (same : Bool). members found its_key shape.keys ++ cond same (row ∷ []) []) (same_row-refl its_key)
+    its_members : members_of row_of keys more its_key ≡ members_of row_of keys found its_key ++ member ∷ []
+    its_members = members-push its_key ∙ ap (λ (same : Bool). members_of row_of keys found its_key ++ cond same (member ∷ []) []) (same_row-refl its_key)
 
     -- a key that is new has no members yet
-    none_yet : (rows : List ShownRow) → stands_in its_key (map (take shape.keys) rows) ≡ false → members rows its_key shape.keys ≡ []
+    none_yet : (some : List M) → stands_in its_key (map key_of some) ≡ false → members_of row_of keys some its_key ≡ []
     none_yet [] none = refl
-    none_yet (one ∷ rows) none =
-        let both = or_parts (same_row (take shape.keys one) its_key) (stands_in its_key (map (take shape.keys) rows)) none in
-        ap (λ (same : Bool). cond same (one ∷ members rows its_key shape.keys) (members rows its_key shape.keys)) (same_row-sym its_key (take shape.keys one) ∙ both.0)
-        ∙ none_yet rows both.1
+    none_yet (one ∷ some) none =
+        let both = or_parts (same_row (key_of one) its_key) (stands_in its_key (map key_of some)) none in
+        ap (λ (same : Bool). cond same (one ∷ members_of row_of keys some its_key) (members_of row_of keys some its_key)) (same_row-sym its_key (key_of one) ∙ both.0)
+        ∙ none_yet some both.1
 
-    keys-push : keys_of shape more ≡ keys_of shape found ++ if_new (stands_in its_key (keys_of shape found)) its_key
+    keys-push : keys_of row_of keys more ≡ keys_found ++ if_new (stands_in its_key keys_found) its_key
     keys-push =
-        ap different (map-append (take shape.keys) found (row ∷ []))
-        ∙ different-push (map (take shape.keys) found) its_key
-        ∙ ap (λ (stands : Bool). keys_of shape found ++ if_new stands its_key) (sym (stands-different its_key (map (take shape.keys) found)))
+        ap different (map-append key_of found (member ∷ []))
+        ∙ different-push (map key_of found) its_key
+        ∙ ap (λ (stands : Bool). keys_found ++ if_new stands its_key) (sym (stands-different its_key (map key_of found)))
 
-    -- a row with a new key is a group of its own, behind the others
-    pub keys-new : stands_in its_key (keys_of shape found) ≡ false → keys_of shape more ≡ keys_of shape found ++ its_key ∷ []
-    keys-new none = keys-push ∙ ap (λ (stands : Bool). keys_of shape found ++ if_new stands its_key) none
+    -- a member with a new key is a group of its own, behind the others
+    pub keys-new : stands_in its_key keys_found ≡ false → keys_of row_of keys more ≡ keys_found ++ its_key ∷ []
+    keys-new none = keys-push ∙ ap (λ (stands : Bool). keys_found ++ if_new stands its_key) none
 
-    pub grouped-new : stands_in its_key (keys_of shape found) ≡ false → grouped shape more ≡ grouped shape found ++ map (group_cell its_key (row ∷ [])) shape.outs ∷ []
-    grouped-new none =
-        let alone : members more its_key shape.keys ≡ row ∷ [] =
-        its_members ∙ ap (λ (before : List ShownRow). before ++ row ∷ []) (none_yet found (sym (stands-different its_key (map (take shape.keys) found)) ∙ none)) in
-        ap (map (row_of more)) (keys-new none)
-        ∙ map-append (row_of more) (keys_of shape found) (its_key ∷ [])
-        ∙ λ i. others_stay (keys_of shape found) none i ++ map (group_cell its_key (alone i)) shape.outs ∷ []
+    pub kept-new : stands_in its_key keys_found ≡ false → map (kept_at more) (keys_of row_of keys more) ≡ map (kept_at found) keys_found ++ kept_of its_key (member ∷ []) ∷ []
+    kept-new none =
+        let alone : members_of row_of keys more its_key ≡ member ∷ [] =
+        its_members ∙ ap (λ (before : List M). before ++ member ∷ []) (none_yet found (sym (stands-different its_key (map key_of found)) ∙ none)) in
+        ap (map (kept_at more)) (keys-new none)
+        ∙ map-append (kept_at more) keys_found (its_key ∷ [])
+        ∙ λ i. others_stay keys_found none i ++ kept_of its_key (alone i) ∷ []
 
-    -- a row with a key that is there joins that group
-    module _ (front back : List ShownRow) (split : keys_of shape found ≡ front ++ its_key ∷ back) where
-      pub keys-same : keys_of shape more ≡ keys_of shape found
+    -- a member with a key that is there joins that group
+    module _ (front back : List ShownRow) (split : keys_found ≡ front ++ its_key ∷ back) where
+      pub keys-same : keys_of row_of keys more ≡ keys_found
       keys-same =
           keys-push
-          ∙ ap (λ (stands : Bool). keys_of shape found ++ if_new stands its_key) (ap (stands_in its_key) split ∙ stands-there its_key front back)
-          ∙ append-nil (keys_of shape found)
+          ∙ ap (λ (stands : Bool). keys_found ++ if_new stands its_key) (ap (stands_in its_key) split ∙ stands-there its_key front back)
+          ∙ append-nil keys_found
 
-      pub grouped-before : grouped shape found ≡ map (row_of found) front ++ map (group_cell its_key (members found its_key shape.keys)) shape.outs ∷ map (row_of found) back
-      grouped-before = ap (map (row_of found)) split ∙ map-append (row_of found) front (its_key ∷ back)
+      pub kept-before : map (kept_at found) keys_found ≡ map (kept_at found) front ++ kept_of its_key (members_of row_of keys found its_key) ∷ map (kept_at found) back
+      kept-before = ap (map (kept_at found)) split ∙ map-append (kept_at found) front (its_key ∷ back)
 
-      pub grouped-joined : map (row_of found) front ++ map (group_cell its_key (members found its_key shape.keys ++ row ∷ [])) shape.outs ∷ map (row_of found) back ≡ grouped shape more
-      grouped-joined =
-          let apart = apart-at its_key front back (ap are_apart (sym split) ∙ different-apart (map (take shape.keys) found)) in
+      pub kept-joined : map (kept_at found) front ++ kept_of its_key (members_of row_of keys found its_key ++ member ∷ []) ∷ map (kept_at found) back ≡ map (kept_at more) (keys_of row_of keys more)
+      kept-joined =
+          let apart = apart-at its_key front back (ap are_apart (sym split) ∙ different-apart (map key_of found)) in
           sym (
-          ap (map (row_of more)) (keys-same ∙ split)
-          ∙ map-append (row_of more) front (its_key ∷ back)
-          ∙ λ i. others_stay front apart.0 i ++ map (group_cell its_key (its_members i)) shape.outs ∷ others_stay back apart.1 i
+          ap (map (kept_at more)) (keys-same ∙ split)
+          ∙ map-append (kept_at more) front (its_key ∷ back)
+          ∙ λ i. others_stay front apart.0 i ++ kept_of its_key (its_members i) ∷ others_stay back apart.1 i
           )

@@ -1,4 +1,4 @@
--- What is kept of groups, one row more.
+-- What is kept of groups, one member more.
 use Rattle.std.proofs.Common.{◌≡◌, ℕ, zero, suc, ◌<◌, ◌≤◌, Bool, true, false, cond, List, [], ◌∷◌, ◌++◌, map, take, drop, length, Option, Some, None, refl, sym, ap, subst, ◌∙◌, arith, length-append}
 use Rattle.std.specs.Prelude.{slice_get, MatchOption, Result, Ok, Err, OnOk}
 use Rattle.std.specs.Ordering.{is_eq}
@@ -8,18 +8,17 @@ use Rattle.std.proofs.lemmas.Bool.{or_from}
 use Rattle.std.proofs.lemmas.List.{length-map, length-take-le, map-append}
 use Rattle.std.proofs.lemmas.Option.{slice_get_within, get_or_from_slice_get}
 use Rattle.hippo_model.specs.declared.query.Shape.{Shape}
-use Rattle.hippo_model.specs.Terms.{ShownRow}
+use Rattle.hippo_model.specs.Terms.{ShownRow, Place}
 use Rattle.hippo_model.specs.Bags.{same_row}
-use Rattle.hippo_model.specs.Forms.{different, members, group_cell, grouped}
+use Rattle.hippo_model.specs.Forms.{different, group_cell, grouped}
 use Rattle.hippo_distinct.specs.declared.keys.CellKey.{CellKey}
 use Rattle.hippo_distinct.specs.RowKeys.{row_key}
 use Rattle.hippo_distinct.specs.DistinctRows.{stands_in}
 use Rattle.hippo_distinct.proofs.CellOrder.{key_order, agrees}
 use Rattle.hippo_distinct.proofs.DifferentLemmas.{same_row-exact, stands-push, different-append}
 use Rattle.hippo_distinct.proofs.KeptLemmas.{key_same}
-use Rattle.hippo_groups.specs.declared.grouping.Groups.{Groups}
-use Rattle.hippo_groups.specs.KeptGroups.{keys_of, HasPlaces, AreGroups}
-use Rattle.hippo_groups.proofs.GroupLemmas.{row_of, its_key, keys-new, grouped-new, keys-same, grouped-before, grouped-joined}
+use Rattle.hippo_groups.specs.KeptGroups.{members_of, keys_of, HasPlaces, AreKept}
+use Rattle.hippo_groups.proofs.GroupLemmas.{kept_at, keys-new, kept-new, keys-same, kept-before, kept-joined}
 
 -- a list, cut around the place of a member
 cut_at : (rows : List ShownRow) (place : ℕ) (row : ShownRow) → slice_get rows place ≡ Some row → rows ≡ take place rows ++ row ∷ drop (suc place) rows
@@ -36,83 +35,77 @@ get-last : (rows : List ShownRow) (row : ShownRow) → slice_get (rows ++ row �
 get-last [] row = refl
 get-last (first ∷ rows) row = get-last rows row
 
--- what `join_at` makes of rows
-abbrev pub Joins : Shape → ShownRow → List ShownRow → ℕ → List ShownRow → Type 0
-Joins shape row before place after =
-    (front back : List ShownRow) (key : ShownRow) (rows : List ShownRow) → before ≡ front ++ map (group_cell key rows) shape.outs ∷ back → place ≡ length front
-    → after ≡ front ++ map (group_cell key (rows ++ row ∷ [])) shape.outs ∷ back
-
 -- where a key stands, or that it does not
 abbrev Placed : List ShownRow → ShownRow → Option ℕ → Type 0
 Placed keys key at = MatchOption at (stands_in key keys ≡ false) (λ place. slice_get keys place ≡ Some key)
 
-module _ (shape : Shape) (found : List ShownRow) (kept : Groups) (row : ShownRow) (are : AreGroups key_order shape found kept) where
-  -- a row of a group that is there
-  pub joined : (place : ℕ) → tree.get key_order kept.places (row_key (its_key shape found row)) ≡ Some place → (after : Groups) → after.places ≡ kept.places
-      → Joins shape row kept.rows.items place after.rows.items → AreGroups key_order shape (found ++ row ∷ []) after
-  joined place known after same joins =
-      let key : ShownRow = its_key shape found row in
-      let there : slice_get (keys_of shape found) place ≡ Some key =
-      subst (Placed (keys_of shape found) key) known (are.places key) in
-      let front : List ShownRow = take place (keys_of shape found) in
-      let back : List ShownRow = drop (suc place) (keys_of shape found) in
-      let split : keys_of shape found ≡ front ++ key ∷ back = cut_at (keys_of shape found) place key there in
-      let within : place < length (keys_of shape found) = slice_get_within (keys_of shape found) place key there in
-      record {
-        rows = joins (map (row_of shape found) front) (map (row_of shape found) back) key (members found key shape.keys) (are.rows ∙ grouped-before shape found row front back split)
-            (omega (arith, length-map front (row_of shape found), length-take-le place (keys_of shape found)))
-            ∙ grouped-joined shape found row front back split;
-        places = subst (λ (keys : List ShownRow). HasPlaces key_order keys after) (sym (keys-same shape found row front back split))
-            (λ other. subst (Placed (keys_of shape found) other)
-            (ap (λ (places : tree.BTreeMap (List CellKey) ℕ). tree.get key_order places (row_key other)) (sym same)) (are.places other));
-      }
+module _ {M K : Type 0} (row_of : M → ShownRow) (keys : Place) (kept_of : ShownRow → List M → K) (found : List M) (member : M) (kept : List K) (places : tree.BTreeMap (List CellKey) ℕ)
+    (are : AreKept key_order row_of keys kept_of found kept places) where
+  abbrev key : ShownRow
+  key = take keys (row_of member)
 
-  pub joined-if : {T E : Type 0} (outcome : Result T E) (place : ℕ) → tree.get key_order kept.places (row_key (its_key shape found row)) ≡ Some place
-      → (after : Groups) → after.places ≡ kept.places
-      → ((front back : List ShownRow) (key : ShownRow) (rows : List ShownRow) → kept.rows.items ≡ front ++ map (group_cell key rows) shape.outs ∷ back → place ≡ length front
-      → OnOk outcome (after.rows.items ≡ front ++ map (group_cell key (rows ++ row ∷ [])) shape.outs ∷ back))
-      → OnOk outcome (AreGroups key_order shape (found ++ row ∷ []) after)
-  joined-if (Ok value) place known after same joins = joined place known after same joins
-  joined-if (Err fault) place known after same joins = tt
+  abbrev before : List ShownRow
+  before = keys_of row_of keys found
 
-  -- a row of a group that is new
-  pub begun : tree.get key_order kept.places (row_key (its_key shape found row)) ≡ None → (after : Groups) (place : ℕ) → place ≡ length kept.rows.items
-      → after.rows.items ≡ kept.rows.items ++ map (group_cell (its_key shape found row) (row ∷ [])) shape.outs ∷ []
-      → ((key : List CellKey) → tree.get key_order after.places key ≡ cond (is_eq (key_order (row_key (its_key shape found row)) key)) (Some place) (tree.get key_order kept.places key))
-      → AreGroups key_order shape (found ++ row ∷ []) after
-  begun missing after place last pushed inserted = record {
-    rows = pushed ∙ ap (λ (rows : List ShownRow). rows ++ map (group_cell key (row ∷ [])) shape.outs ∷ []) are.rows ∙ sym (grouped-new shape found row none);
-    places = subst (λ (keys : List ShownRow). HasPlaces key_order keys after) (sym (keys-new shape found row none)) (λ other.
+  -- a member of a group that is there
+  module _ (place : ℕ) (known : tree.get key_order places (row_key key) ≡ Some place) where
+    joined : (after : List K)
+        → ((front back : List K) (key : ShownRow) (members : List M) → kept ≡ front ++ kept_of key members ∷ back → place ≡ length front → after ≡ front ++ kept_of key (members ++ member ∷ []) ∷ back)
+        → AreKept key_order row_of keys kept_of (found ++ member ∷ []) after places
+    joined after joins =
+        let there : slice_get before place ≡ Some key = subst (Placed before key) known (are.placed key) in
+        let front : List ShownRow = take place before in
+        let back : List ShownRow = drop (suc place) before in
+        let split : before ≡ front ++ key ∷ back = cut_at before place key there in
+        let within : place < length before = slice_get_within before place key there in
+        record {
+          each = joins (map (kept_at row_of keys kept_of found) front) (map (kept_at row_of keys kept_of found) back) key (members_of row_of keys found key)
+              (are.each ∙ kept-before row_of keys kept_of found member front back split)
+              (omega (arith, length-map front (kept_at row_of keys kept_of found), length-take-le place before))
+              ∙ kept-joined row_of keys kept_of found member front back split;
+          placed = subst (λ (all : List ShownRow). HasPlaces key_order all places) (sym (keys-same row_of keys kept_of found member front back split)) are.placed;
+        }
+
+    pub joined-if : {T E : Type 0} (outcome : Result T E) (after : List K)
+        → ((front back : List K) (key : ShownRow) (members : List M) → kept ≡ front ++ kept_of key members ∷ back → place ≡ length front
+        → OnOk outcome (after ≡ front ++ kept_of key (members ++ member ∷ []) ∷ back))
+        → OnOk outcome (AreKept key_order row_of keys kept_of (found ++ member ∷ []) after places)
+    joined-if (Ok value) after joins = joined after joins
+    joined-if (Err fault) after joins = tt
+
+  -- a member of a group that is new
+  pub begun : tree.get key_order places (row_key key) ≡ None → (after : List K) (later : tree.BTreeMap (List CellKey) ℕ) (place : ℕ) → place ≡ length kept
+      → after ≡ kept ++ kept_of key (member ∷ []) ∷ []
+      → ((other : List CellKey) → tree.get key_order later other ≡ cond (is_eq (key_order (row_key key) other)) (Some place) (tree.get key_order places other))
+      → AreKept key_order row_of keys kept_of (found ++ member ∷ []) after later
+  begun missing after later place last pushed inserted = record {
+    each = pushed ∙ ap (λ (all : List K). all ++ kept_of key (member ∷ []) ∷ []) are.each ∙ sym (kept-new row_of keys kept_of found member none);
+    placed = subst (λ (all : List ShownRow). HasPlaces key_order all later) (sym (keys-new row_of keys kept_of found member none)) (λ other.
         subst (Placed (before ++ key ∷ []) other)
-        (sym (inserted (row_key other) ∙ ap (λ (same : Bool). cond same (Some place) (tree.get key_order kept.places (row_key other))) (key_same _ agrees key other)))
-        (placed other (same_row key other) refl (tree.get key_order kept.places (row_key other)) (are.places other)));
+        (sym (inserted (row_key other) ∙ ap (λ (same : Bool). cond same (Some place) (tree.get key_order places (row_key other))) (key_same _ agrees key other)))
+        (at_place other (same_row key other) refl (tree.get key_order places (row_key other)) (are.placed other)));
   }
     where
-      key : ShownRow
-      key = its_key shape found row
-
-      before : List ShownRow
-      before = keys_of shape found
-
       none : stands_in key before ≡ false
-      none = subst (Placed before key) missing (are.places key)
+      none = subst (Placed before key) missing (are.placed key)
 
       at_end : place ≡ length before
-      at_end = last ∙ ap length are.rows ∙ length-map before (row_of shape found)
+      at_end = last ∙ ap length are.each ∙ length-map before (kept_at row_of keys kept_of found)
 
-      placed : (other : ShownRow) (same : Bool) → same_row key other ≡ same → (at : Option ℕ) → Placed before other at → Placed (before ++ key ∷ []) other (cond same (Some place) at)
-      placed other true e at was = ap (slice_get (before ++ key ∷ [])) at_end ∙ get-last before key ∙ ap Some (same_row-exact key other e)
-      placed other false e None was = stands-push other key before ∙ or_from (stands_in other before) (same_row key other) was e
-      placed other false e (Some at) was = get-before before (key ∷ []) at other was
+      at_place : (other : ShownRow) (same : Bool) → same_row key other ≡ same → (at : Option ℕ) → Placed before other at → Placed (before ++ key ∷ []) other (cond same (Some place) at)
+      at_place other true e at was = ap (slice_get (before ++ key ∷ [])) at_end ∙ get-last before key ∙ ap Some (same_row-exact key other e)
+      at_place other false e None was = stands-push other key before ∙ or_from (stands_in other before) (same_row key other) was e
+      at_place other false e (Some at) was = get-before before (key ∷ []) at other was
 
 -- with more rows there are no fewer groups
 pub not_fewer : (shape : Shape) (found rows : List ShownRow) → rows ≡ grouped shape found → (later : List ShownRow) → length rows ≤ length (grouped shape (found ++ later))
 not_fewer shape found rows are later =
     let keys : List ShownRow = map (take shape.keys) found in
+    let row : List ShownRow → ShownRow → ShownRow = kept_at (λ row. row) shape.keys (λ key members. map (group_cell key members) shape.outs) in
     let whole = different-append (map (take shape.keys) later) keys in
-    let before : length rows ≡ length (different keys) = ap length are ∙ length-map (different keys) (row_of shape found) in
+    let before : length rows ≡ length (different keys) = ap length are ∙ length-map (different keys) (row found) in
     let after : length (grouped shape (found ++ later)) ≡ length (different keys ++ whole.0) =
-    length-map (keys_of shape (found ++ later)) (row_of shape (found ++ later))
+    length-map (different (map (take shape.keys) (found ++ later))) (row (found ++ later))
     ∙ ap (λ (all : List ShownRow). length (different all)) (map-append (take shape.keys) found later)
     ∙ ap length whole.1 in
     omega (arith, before, after, length-append (different keys) whole.0)

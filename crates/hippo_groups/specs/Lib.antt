@@ -1,2 +1,3 @@
 pub mod GroupCells
+pub mod GroupMarks
 pub mod KeptGroups

@@ -20,7 +20,7 @@ fn value_in(cell: &Cell) -> Option<&Value>
 }
 
 // The value at a place of a row; none, for null, where the cell is denied or no cell stands there.
-fn value_at(row: &CellRow, place: usize) -> Option<&Value>
+pub(crate) fn value_at(row: &CellRow, place: usize) -> Option<&Value>
     ensures { or_null (option_copied result) ≡ value_in (slice_index_or row.now place (Denied 0)) }
 {
     match row.as_slice().get(place) {
@@ -30,7 +30,7 @@ fn value_at(row: &CellRow, place: usize) -> Option<&Value>
 }
 
 // Whether a value takes the place of the least so far, where null yields to each other value.
-fn is_lesser(value: &Value, least: &Value) -> bool
+pub(crate) fn is_lesser(value: &Value, least: &Value) -> bool
     ensures { lesser least.now value.now ≡ (if result then value.now else least.now) }
 {
     match (value, least) {
@@ -41,7 +41,7 @@ fn is_lesser(value: &Value, least: &Value) -> bool
 }
 
 // Whether a value takes the place of the greatest so far.
-fn is_greater(value: &Value, greatest: &Value) -> bool
+pub(crate) fn is_greater(value: &Value, greatest: &Value) -> bool
     ensures { greater greatest.now value.now ≡ (if result then value.now else greatest.now) }
 {
     greatest < value

@@ -25,7 +25,7 @@ struct Groups {
 }
 
 // The first cells of a row, so many; all, where it has fewer.
-fn front(row: &CellRow, keys: usize) -> &[Cell]
+pub(crate) fn front(row: &CellRow, keys: usize) -> &[Cell]
     ensures { result.now ≡ take keys row.now }
 {
     let cells = row.as_slice();

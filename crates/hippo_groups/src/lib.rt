@@ -2,7 +2,11 @@
 #![tactic(auto)]
 
 mod best_values;
+mod changing;
+mod group_marks;
 mod group_rows;
 mod grouping;
+mod marking;
 
+pub use changing::first_changing;
 pub use grouping::grouped;

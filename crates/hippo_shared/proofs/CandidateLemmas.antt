@@ -140,11 +140,11 @@ module _ (query audit : List Name) (query_sets audit_sets : List KeyedRows) (lon
       (subst (λ (l : List Place). AgreeAt query_places l places) (same-exact (places_at (chosen query_sets places)) given equal) (own places within)))
 
   -- what is told of each combination of the product
-  abbrev Told : Combination → Type 0
+  abbrev pub Told : Combination → Type 0
   Told rows = (in_range common_sets (places_at rows) ≡ true)
       × ((given : List Place) → in_range common_sets given ≡ true → has_tuple query query_sets (shared_at given) rows ≡ same_places (places_at rows) given)
 
-  all_told : AllByRecursion Told (product (rows_of query_sets))
+  pub all_told : AllByRecursion Told (product (rows_of query_sets))
   all_told = each_chosen query_sets Told (λ places within. (own-within places within, has-own places within))
 
   tests_same : (test : Combination → Bool) (given : List Place) → in_range common_sets given ≡ true → (combinations : List Combination) → AllByRecursion Told combinations

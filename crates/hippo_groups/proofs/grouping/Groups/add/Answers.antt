@@ -10,7 +10,6 @@ use Rattle.hippo_model.specs.Forms.{group_cell}
 use Rattle.hippo_distinct.specs.declared.keys.CellKey.{CellKey}
 use Rattle.hippo_distinct.specs.RowKeys.{row_key}
 use Rattle.hippo_distinct.proofs.CellOrder.{key_order}
-use Rattle.hippo_groups.specs.declared.grouping.Groups.{Groups}
 use Rattle.hippo_groups.proofs.KeptLemmas.{joined-if, begun}
 use Rattle.hippo_groups.proofs.grouping.Groups.add.Goals as goal
 
@@ -18,8 +17,8 @@ pub returns-in-Some : goal.returns-in-Some
 returns-in-Some c found are =
     let is = c.in_ok-key.ensures ∙ ap row_key c.front-cells.ensures in
     let known = ap (tree.get key_order c.args.self.now.places) (sym is) ∙ sym c.place.ensures ∙ c.in-Some.is in
-    let after : Groups = record { rows = with_items c.args.self.now.rows c.join_at.new.rows; places = c.args.self.now.places } in
-    joined-if c.args.shape.now found c.args.self.now c.args.row.now are c.join_at.result c.in-Some.place known after refl
+    joined-if (λ row. row) c.args.shape.now.keys (λ key members. map (group_cell key members) c.args.shape.now.outs) found c.args.row.now c.args.self.now.rows.items c.args.self.now.places are
+    c.in-Some.place known c.join_at.result (with_items c.args.self.now.rows c.join_at.new.rows).items
     (λ front back key rows before at. on_ok_weaker c.join_at.result (λ is. with_items_is c.args.self.now.rows c.join_at.new.rows (omega (arith, c.join_at.auto.rows, c.deref_mut.ensures.len)) ∙ is)
     (c.join_at.ensures front back key rows (c.deref_mut.ensures.value ∙ before) at))
 
@@ -28,7 +27,8 @@ returns c found are =
     let is = c.in_ok-key.ensures ∙ ap row_key c.front-cells.ensures in
     let missing = ap (tree.get key_order c.args.self.now.places) (sym is) ∙ sym c.place.ensures ∙ c.in_default.is in
     let first = c.in_ok-first.ensures ∙ ap (λ (key : ShownRow). map (group_cell key (c.args.row.now ∷ [])) c.args.shape.now.outs) c.front-cells.ensures in
-    begun c.args.shape.now found c.args.self.now c.args.row.now are missing (record { rows = c.push.new.self; places = c.insert.new.self }) c.len.result
+    begun (λ row. row) c.args.shape.now.keys (λ key members. map (group_cell key members) c.args.shape.now.outs) found c.args.row.now c.args.self.now.rows.items c.args.self.now.places are
+    missing c.push.new.self.items c.insert.new.self c.len.result
     (omega (arith, c.args.self.now.rows.ok.0))
     (c.in_ok-push.ensures.items ∙ ap (λ (new : ShownRow). c.args.self.now.rows.items ++ new ∷ []) first)
     (λ (key : List CellKey). c.in_ok-insert.ensures.updates.0 key

@@ -1,0 +1,125 @@
+//! The marks of a query's groups, as a walk over all combinations of rows finds them.
+ghost use Rattle.std.specs.Prelude.{◌≡◌, [], ◌∷◌, ◌++◌, List, IfOk, OnOk};
+ghost use Rattle.std.specs.BTreeMap.{get};
+ghost use Rattle.std.specs.List.{list_any};
+ghost use Rattle.hippo_model.specs.declared.query.Shape as shapes;
+ghost use Rattle.hippo_model.specs.Answers.{product};
+ghost use Rattle.hippo_model.specs.Terms.{Place};
+ghost use Rattle.hippo_eval.specs.Walks.{rows_of};
+ghost use Rattle.hippo_join.specs.Finding.{has_places};
+ghost use Rattle.hippo_groups.specs.GroupMarks.{PlacedRow, placed_rows, changes_without};
+ghost use Rattle.hippo_groups.specs.KeptGroups.{AreMarked};
+
+use crate::group_marks::{GroupMarks, candidates, join_at, marks_of_first};
+use crate::grouping::front;
+use hippo_distinct::{CellKey, RowKey, row_key};
+use hippo_eval::{Onward, Visitor, passes, project, walk};
+use hippo_model::{CellRow, ChoiceView, Combo, Masked, Places, Sets, Shape};
+use hippo_shared::row_places;
+use hippo_values::{Memory, Sequence};
+use std::alloc::Global;
+use std::collections::{BTreeMap, BTreeSet};
+
+// The marks of the groups in the order of their first members, and the place of each group by its key.
+#[derive(Drop)]
+pub(crate) struct MarkedGroups {
+    pub marks: Vec<GroupMarks>,
+    pub places: BTreeMap<RowKey, usize>,
+}
+
+impl MarkedGroups {
+    fn new(alloc: Global) -> MarkedGroups
+        ensures { (shape : shapes.Shape) → AreMarked ⟦<Sequence<CellKey> as Ord>⟧.cmp shape [] result }
+    {
+        MarkedGroups {
+            marks: Vec::new(alloc),
+            places: BTreeMap::new(alloc),
+        }
+    }
+
+    // Where the group with this key stands, if there is one.
+    fn place(&self, key: &RowKey) -> Option<usize>
+        ensures { result ≡ get ⟦<Sequence<CellKey> as Ord>⟧.cmp self.now.places key.now }
+    {
+        self.places.get(key).copied()
+    }
+
+    // Takes in a row and the places of its combination, in its own group or as the first of a new one.
+    fn add(&mut self, alloc: Global, shape: &Shape, row: &CellRow, places: &Places) -> Result<(), Memory>
+        ensures { (found : List PlacedRow) → AreMarked ⟦<Sequence<CellKey> as Ord>⟧.cmp shape.now found self.old
+            → OnOk result (AreMarked ⟦<Sequence<CellKey> as Ord>⟧.cmp shape.now
+            (found ++ record { row = row.now; places = places.now } ∷ []) self.new) }
+    {
+        let key = row_key(alloc, front(row, shape.keys))?;
+        if let Some(place) = self.place(&key) {
+            return join_at(alloc, &shape.outs, &mut self.marks, place, row, places);
+        }
+        let first = marks_of_first(alloc, &shape.outs, row, places)?;
+        self.places.insert(key, self.marks.len())?;
+        self.marks.push(first)?;
+        Ok(())
+    }
+
+    // The places of the tuples without which some group changes.
+    pub(crate) fn candidates(self, alloc: Global) -> Result<BTreeSet<Places>, Memory>
+        ensures { IfOk result (λ candidates. (places : List Place)
+            → has_places places candidates.keys ≡ list_any (changes_without places) self.marks.items) }
+    {
+        let MarkedGroups { marks, .. } = self;
+        candidates(alloc, marks)
+    }
+}
+
+// Marks the groups of a query that a shape asks for, by the places of the rows of some tables.
+#[derive(Drop)]
+struct Marker<'a, C> {
+    query: &'a Masked,
+    shape: &'a Shape,
+    sets: &'a Sets<'a>,
+    tables: &'a [usize],
+    choices: &'a C,
+}
+
+impl<'a, C: ChoiceView> Visitor for Marker<'a, C> {
+    ghost use Rattle.hippo_groups.specs.GroupMarks.{placed_rows};
+    ghost use Rattle.hippo_groups.specs.KeptGroups.{AreMarked};
+
+    type State = MarkedGroups;
+
+    ghost Keeps = { λ marker combinations groups. AreMarked ⟦<Sequence<CellKey> as Ord>⟧.cmp marker.shape.now
+        (placed_rows (C.choices marker.choices.now) marker.query.now marker.sets.now marker.tables.now combinations)
+        groups };
+
+    fn visit(&self, alloc: Global, groups: &mut MarkedGroups, combo: &Combo<'_>) -> Result<Onward, Memory> {
+        if passes(self.query, combo, self.choices) {
+            let row = project(alloc, self.query, combo, self.choices)?;
+            let places = row_places(alloc, self.sets, self.tables, combo)?;
+            groups.add(alloc, self.shape, &row, &places)?;
+        }
+        Ok(Onward::More)
+    }
+}
+
+// The marks of a query's groups, by the places of the rows of some of its tables.
+pub(crate) fn marked_groups<C: ChoiceView>(
+    alloc: Global,
+    query: &Masked,
+    shape: &Shape,
+    sets: &Sets<'_>,
+    tables: &[usize],
+    choices: &C,
+) -> Result<MarkedGroups, Memory>
+    ensures { IfOk result (λ groups. AreMarked ⟦<Sequence<CellKey> as Ord>⟧.cmp shape.now
+        (placed_rows (C.choices choices.now) query.now sets.now tables.now (product (rows_of sets.now))) groups) }
+{
+    let marker = Marker {
+        query,
+        shape,
+        sets,
+        tables,
+        choices,
+    };
+    let mut groups = MarkedGroups::new(alloc);
+    walk(alloc, sets, &marker, &mut groups)?;
+    Ok(groups)
+}
