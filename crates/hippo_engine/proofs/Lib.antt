@@ -13,3 +13,4 @@ mod AskingLemmas
 mod QuestionLemmas
 mod LookingLemmas
 mod ExplainingLemmas
+mod AuditingLemmas

@@ -201,7 +201,6 @@ judged_statement history world number statement text = judged_change history wor
 
 -- what is carried out so far
 abbrev pub is_statement_built : Stmt → Bool
-is_statement_built (stmt.Audit audit) = false
 is_statement_built (stmt.BeginAudit audit) = false
 is_statement_built (stmt.Watch audit) = false
 is_statement_built statement = true

@@ -7,5 +7,6 @@ pub mod Carrying
 pub mod Changing
 pub mod Asking
 pub mod Explaining
+pub mod Auditing
 pub mod Runs
 pub mod EffectLaws

@@ -133,7 +133,8 @@ impl Engine {
                 )
             }
             Stmt::Explain(number) => self.explain(alloc, keeper, session, number, steps),
-            Stmt::Audit(_) | Stmt::BeginAudit(_) | Stmt::Watch(_) => {
+            Stmt::Audit(written) => self.audit(alloc, keeper, session, written, steps),
+            Stmt::BeginAudit(_) | Stmt::Watch(_) => {
                 self.refuse_unbuilt(session, statement);
                 Ok(())
             }

@@ -2,6 +2,7 @@
 #![tactic(auto)]
 
 mod asking;
+mod auditing;
 mod changes;
 mod engine;
 mod explaining;

@@ -1,0 +1,223 @@
+-- From what an audit expression means, and from the job that looks over all that was asked, to what DURING does.
+use Rattle.std.proofs.Common.{◌≡◌, ◌≢◌, ◌∙◌, ◌⊎◌, ◌≤◌, ◌+◌, ℕ, ℤ, refl, sym, ap, subst, inl, inr, arith, Bool, true, false, List, [], ◌++◌, map, length, Option, Some, None, Result, Ok, Err, append-nil}
+use Rattle.std.specs.Prelude.{min, bytes_eq, OnOk, IfOk}
+use Rattle.std.specs.List.{IsDistinct}
+use Rattle.std.proofs.lemmas.Bool.{false≢true}
+use Rattle.hippo_values.specs.Texts.{Txt}
+use Rattle.hippo_values.specs.declared.moments.Moment.{Moment}
+use Rattle.hippo_model.specs.declared.audit.Audit.{Audit}
+use Rattle.hippo_model.specs.declared.audit.Flag.{Flag}
+use Rattle.hippo_model.specs.declared.name_fault.NameFault.{NameFault}
+use Rattle.hippo_model.specs.declared.statement.RawAudit.{RawAudit}
+use Rattle.hippo_model.specs.declared.statement.Stmt.TheVariants as stmt
+use Rattle.hippo_model.specs.Audits.{flags_between}
+use Rattle.hippo_model.specs.StoredForms.{stored}
+use Rattle.hippo_model.specs.Terms.{History}
+use Rattle.hippo_model.specs.Validity.{is_valid}
+use Rattle.hippo_model.specs.Versions.{versions}
+use Rattle.hippo_keeper.specs.Answering.{has_failed}
+use Rattle.hippo_keeper.specs.Keeping.{KeeperState}
+use Rattle.hippo_catalog.specs.AuditExpressions.{IsMomentIn, IsPeriodOf, audit_refused, audit_of}
+use Rattle.hippo_catalog.specs.Catalogs.{KnownNames, known_at}
+use Rattle.hippo_typing.specs.Meanings.{meaning}
+use Rattle.hippo_commands.specs.Commands.{Command, state}
+use Rattle.hippo_commands.specs.Moments.{moment_in, period_in}
+use Rattle.hippo_commands.proofs.MomentLemmas.{moments_are_read}
+use Rattle.hippo_backlog.specs.Calls as reads
+use Rattle.hippo_backlog.specs.declared.faults.ReadFault.{ReadFault}
+use Rattle.hippo_backlog.specs.declared.faults.ReadFault.TheVariants.{Keeper, Damaged, Memory}
+use Rattle.hippo_backlog.proofs.CallLemmas.{IsAfterCall-as}
+use Rattle.hippo_audit_job.specs.declared.jobs.Job.{Job}
+use Rattle.hippo_audit_job.specs.declared.past.Past.{Past}
+use Rattle.hippo_audit_job.specs.Examining.{IsPastOf, IsAuditOf, IsNew}
+use Rattle.hippo_audit_job.specs.Jobs.{new_job, JobFits, LooksOver, HasStepped}
+use Rattle.hippo_audit_job.proofs.AuditLemmas.{unrefused_is_audit}
+use Rattle.hippo_audit_job.proofs.JobLemmas.{JobFits-new, taken_within}
+use Rattle.hippo_combine.specs.declared.combine.Combine.{Combine}
+use Rattle.hippo_combine.specs.Combining.{combine_terms}
+use Rattle.hippo_combine.specs.Held.{all_taken}
+use Rattle.hippo_replay.specs.declared.state.State.{State}
+use Rattle.hippo_replay.specs.Standing.{StandsFor}
+use Rattle.hippo_report.specs.declared.format.Format.{Format}
+use Rattle.hippo_report.specs.declared.refusal.Refusal.{Refusal}
+use Rattle.hippo_report.specs.declared.refusal.Refusal.TheVariants as refusals
+use Rattle.hippo_report.specs.Flags.{flag_line}
+use Rattle.hippo_report.specs.Refusals.{refusal_line}
+use Rattle.hippo_world.specs.Worlds.{World}
+use Rattle.hippo_world.specs.Holding.{world_of}
+use Rattle.hippo_engine.specs.declared.engine.Engine.{Engine}
+use Rattle.hippo_engine.specs.declared.faults.EngineFault.{EngineFault}
+use Rattle.hippo_engine.specs.declared.faults.EngineFault.TheVariants as engine
+use Rattle.hippo_engine.specs.Auditing.{HasFlags, FindsFlags, ended, told_flags, TellsFlags}
+use Rattle.hippo_engine.specs.Carrying.{JobsFit, WatchesFit, AtWork, as_call, is_carried, Carries}
+use Rattle.hippo_engine.specs.Changing.{IsRefused}
+use Rattle.hippo_engine.specs.Checks.{Checked, Finds, ◌>>=◌, by_console, meant}
+use Rattle.hippo_engine.specs.Deeds.{Deed}
+use Rattle.hippo_engine.specs.Deeds as deeds
+use Rattle.hippo_engine.specs.Effects.{Effect, only_reply, carried_out, effect_of, audited, listed, IsEffect}
+use Rattle.hippo_engine.specs.Judging.{audit_in, judged}
+use Rattle.hippo_engine.specs.Ledgers.{taken_of, at_once}
+use Rattle.hippo_engine.proofs.LookingLemmas.{Carries-looked}
+use Rattle.hippo_engine.proofs.ShortLemmas.{short, done_for}
+
+-- the moment that is found in a text is the one that it writes
+moment_is : (text : Txt) → IsMomentIn text (moment_in text)
+moment_is text = by (moment_in text) refl
+  where
+    missing : (second : ℤ) → ◌≡◌ {A = Option ℤ} None (Some second) → ⊥
+    missing second e = cc
+
+    by : (found : Option ℤ) → moment_in text ≡ found → IsMomentIn text found
+    by None is = λ second writes. missing second (sym is ∙ (moments_are_read text second).1 writes)
+    by (Some second) is = (moments_are_read text second).0 is
+
+-- the period of an audit is that of its texts
+pub period_is : (written : RawAudit) → IsPeriodOf written (period_in written)
+period_is written = record { from = moment_is written.from; to = moment_is written.to }
+
+-- an audit expression of which nothing is refused means an audit of each history that the state stands for
+pub audit_stands : (held : State) (written : RawAudit) (audit : Audit) (history : History) → StandsFor held history
+    → (audit_refused held.catalog.names (period_in written) written ≡ []) × (audit ≡ audit_of held.catalog.names (period_in written) written) → IsAuditOf history audit
+audit_stands held written audit history stands unrefused =
+    let period = period_in written in
+    let none : audit_refused (known_at history) period written ≡ [] = subst (λ (known : KnownNames). audit_refused known period written ≡ []) stands.names unrefused.0 in
+    let is : audit ≡ audit_of (known_at history) period written = subst (λ (known : KnownNames). audit ≡ audit_of known period written) stands.names unrefused.1 in
+    let valid : is_valid meaning (history ++ []) ≡ true = ap (is_valid meaning) (append-nil history) ∙ stands.valid in
+    subst (IsAuditOf history) (sym is)
+    (subst (λ (h : History). IsAuditOf h (audit_of (known_at history) period written)) (append-nil history) (unrefused_is_audit history [] period written valid none))
+
+-- what a job found, where it looked over all
+abbrev pub found_by : Result (Unit {0}) ReadFault → Job Combine → Result (List Flag) ReadFault
+found_by (Ok all) job = Ok job.waiting
+found_by (Err fault) job = Err fault
+
+same_call : (result : Result (Unit {0}) ReadFault) (job : Job Combine) → has_failed (reads.as_call result) ≡ has_failed (reads.as_call (found_by result job))
+same_call (Ok all) job = refl
+same_call (Err Keeper) job = refl
+same_call (Err (Damaged number)) job = refl
+same_call (Err Memory) job = refl
+
+min_same : (count : ℕ) → min (0 + count) count ≡ count
+min_same count = grind arith
+
+-- a job that looked over all has the flags of the history
+pub finds_flags : (audit : Audit) (held : State) (past : Past) (combine : Combine) (result : Result (Unit {0}) ReadFault) (job : Job Combine) (before after : KeeperState) (steps steps' : ℕ)
+    → IsNew combine_terms combine → ((history : History) → StandsFor held history → IsPastOf past history)
+    → HasStepped combine_terms held.count past result (new_job audit held.count combine) job before after steps steps'
+    → FindsFlags audit held (found_by result job) before after steps steps'
+finds_flags audit held past combine result job before after steps steps' new is_past stepped = record {
+  call = IsAfterCall-as true false (reads.as_call result) (reads.as_call (found_by result job)) before after (same_call result job) stepped.looks.moves.is_after;
+  stays = stepped.looks.moves.stays;
+  told = λ tells history forms stands audit_is.
+      let begun : JobFits combine_terms (new_job audit held.count combine) history =
+      subst (λ (count : ℕ). JobFits combine_terms (new_job audit count combine) history) (sym stands.count) (JobFits-new combine_terms history audit combine stands.valid audit_is new) in
+      let over : LooksOver combine_terms history result (new_job audit held.count combine) job = stepped.looks.told tells history forms (is_past history stands) begun in
+      record {
+        flags_are = by result history stands over stepped.place_is;
+        few =
+            let none : all_taken combine.tables.items ≡ 0 = new.none_handed (all_taken combine.tables.items) refl in
+            let most : all_taken job.examiner.tables.items ≤ versions history = taken_within combine_terms job history (all_taken job.examiner.tables.items) over.fits_still refl in
+            omega (arith, none, most, stepped.looks.moves.ledger);
+        undamaged = undamaged result over.undamaged;
+      };
+}
+  where
+    by : (answer : Result (Unit {0}) ReadFault) (history : History) → StandsFor held history → LooksOver combine_terms history answer (new_job audit held.count combine) job
+        → OnOk answer (job.place ≡ min (0 + held.count) held.count) → IfOk (found_by answer job) (λ flags. flags ≡ flags_between meaning history audit 0 (length history))
+    by (Ok all) history stands over place =
+        over.flags ∙ ap (λ (upto : ℕ). flags_between meaning history audit 0 upto) (place ∙ min_same held.count ∙ stands.count)
+    by (Err fault) history stands over place = tt
+
+    undamaged : (answer : Result (Unit {0}) ReadFault) → ((number : ℕ) → answer ≢ Err (Damaged number)) → (number : ℕ) → found_by answer job ≢ Err (Damaged number)
+    undamaged (Ok all) fine number e = absurd cc
+    undamaged (Err fault) fine number e = fine number (ap (λ (r : Result (List Flag) ReadFault). fault_of r) e)
+      where
+        fault_of : Result (List Flag) ReadFault → Result (Unit {0}) ReadFault
+        fault_of (Ok flags) = Ok tt
+        fault_of (Err other) = Err other
+
+-- how the line ends is how its keeper's calls did
+ended_same : (found : Result (List Flag) ReadFault) → has_failed (reads.as_call found) ≡ has_failed (as_call (ended found))
+ended_same (Ok flags) = refl
+ended_same (Err Keeper) = refl
+ended_same (Err (Damaged number)) = refl
+ended_same (Err Memory) = refl
+
+module _ (history : History) (world : World) (text : Txt) (written : RawAudit) (audit : Audit) (is : audit_in history 0 written ≡ Ok audit) where
+  abbrev command : Command
+  command = state 0 (stmt.Audit written) text
+
+  judged_is : judged history world command ≡ Ok (deeds.audit audit)
+  judged_is = ap (λ (checked : Checked Audit). checked >>= λ made. Ok (deeds.audit made)) is
+
+  done_so : effect_of history world command ≡ audited history world audit
+  done_so = done_for history world command (deeds.audit audit) judged_is
+
+  short_of_memory : IsEffect history world command (only_reply world (refusal_line (Some 0) refusals.Memory))
+  short_of_memory = short history world command refl
+
+  -- what was found has its effect
+  effect_found : (found : Result (List Flag) ReadFault) (reply : Txt) → IfOk found (λ flags. flags ≡ flags_between meaning history audit 0 (length history))
+      → is_carried (ended found) ≡ true → reply ≡ told_flags world.format found → IsEffect history world command (only_reply world reply)
+  effect_found (Ok flags) reply flags_are fine said =
+      inl (ap (only_reply world) (said ∙ ap (listed 0 (flag_line world.format)) flags_are) ∙ sym done_so)
+  effect_found (Err Keeper) reply flags_are fine said = absurd (false≢true fine)
+  effect_found (Err (Damaged number)) reply flags_are fine said = absurd (false≢true fine)
+  effect_found (Err Memory) reply flags_are fine said = subst (λ (r : Txt). IsEffect history world command (only_reply world r)) (sym said) short_of_memory
+
+  adds_none : (effect_of history world command).added ≡ []
+  adds_none = ap (λ (e : Effect). e.added) done_so
+
+  unrefused : (refusal : Refusal) → judged history world command ≡ Err refusal → ⊥
+  unrefused refusal refuses = let both : ◌≡◌ {A = Checked Deed} (Ok (deeds.audit audit)) (Err refusal) = sym judged_is ∙ refuses in absurd cc
+
+undamaged_end : (found : Result (List Flag) ReadFault) (number : ℕ) → ((other : ℕ) → found ≢ Err (Damaged other)) → ended found ≢ Err (engine.Damaged number)
+undamaged_end (Ok flags) number fine e = absurd cc
+undamaged_end (Err Keeper) number fine e = absurd cc
+undamaged_end (Err (Damaged other)) number fine e = fine other refl
+undamaged_end (Err Memory) number fine e = absurd cc
+
+carried_said : (found : Result (List Flag) ReadFault) (said : Type 0) → is_carried (ended found) ≡ true → OnOk (ended found) said → said
+carried_said (Ok flags) said fine is = is
+carried_said (Err Keeper) said fine is = absurd (false≢true fine)
+carried_said (Err (Damaged number)) said fine is = absurd (false≢true fine)
+carried_said (Err Memory) said fine is = is
+
+abbrev IsSaid : Format → Result (List Flag) ReadFault → Txt → Type 0
+IsSaid format found reply = (reply ≡ told_flags format found) ⊎ (reply ≡ refusal_line (Some 0) refusals.Memory)
+
+-- DURING at the console
+pub Carries-audited : (text : Txt) (written : RawAudit) (audit : Audit) (session : ℕ) (result : Result (Unit {0}) EngineFault) (old new : Engine) (before after : KeeperState) (steps steps' : ℕ)
+    → session ≡ 0 → AtWork old before → ((history : History) → StandsFor old.state history → audit_in history session written ≡ Ok audit)
+    → ((history : History) → StandsFor old.state history → IsAuditOf history audit)
+    → new.state ≡ old.state → new.world ≡ old.world → TellsFlags old.world.format audit old.state result new.reply before after steps steps'
+    → Carries (state session (stmt.Audit written) text) result old new before after steps steps'
+Carries-audited text written audit session result old new before after steps steps' console at_work means audit_is same_state same_world tells =
+    subst (λ (s : ℕ). Carries (state s (stmt.Audit written) text) result old new before after steps steps') (sym console)
+    (subst (λ (r : Result (Unit {0}) EngineFault). Carries (state 0 (stmt.Audit written) text) r old new before after steps steps') (sym tells.ended_so)
+    (Carries-looked (state 0 (stmt.Audit written) text) (ended tells.found) old new before after steps steps' refl at_work same_state
+    (IsAfterCall-as true false (reads.as_call tells.found) (as_call (ended tells.found)) before after (ended_same tells.found) tells.finds.call)
+    tells.finds.stays
+    (λ told history holds.
+    let world : World = world_of old.world in
+    let is : audit_in history 0 written ≡ Ok audit = subst (λ (s : ℕ). audit_in history s written ≡ Ok audit) console (means history holds.stands) in
+    let done = tells.finds.told told history holds.forms holds.stands (audit_is history holds.stands) in
+    record {
+      effect = λ fine.
+          subst (λ (w : World). IsEffect history world (state 0 (stmt.Audit written) text) (only_reply w new.reply)) (ap world_of (sym same_world))
+          (either history is done.flags_are fine (carried_said tells.found (IsSaid old.world.format tells.found new.reply) fine
+          (subst (λ (r : Result (Unit {0}) EngineFault). OnOk r (IsSaid old.world.format tells.found new.reply)) tells.ended_so tells.said)));
+      jobs = subst (JobsFit history) (sym same_world) holds.jobs;
+      watches = subst (WatchesFit history) (sym same_world) holds.watches;
+      counts = at_once refl done.few (ap taken_of same_world);
+      refused = λ refusal refuses others. absurd (unrefused history world text written audit is refusal refuses);
+      adds = adds_none history world text written audit is;
+      undamaged = λ number e. undamaged_end tells.found number done.undamaged e;
+    })))
+  where
+    either : (history : History) → audit_in history 0 written ≡ Ok audit → IfOk tells.found (λ flags. flags ≡ flags_between meaning history audit 0 (length history))
+        → is_carried (ended tells.found) ≡ true → (new.reply ≡ told_flags old.world.format tells.found) ⊎ (new.reply ≡ refusal_line (Some 0) refusals.Memory)
+        → IsEffect history (world_of old.world) (state 0 (stmt.Audit written) text) (only_reply (world_of old.world) new.reply)
+    either history is flags fine (inl said) = effect_found history (world_of old.world) text written audit is tells.found new.reply flags fine said
+    either history is flags fine (inr said) =
+        subst (λ (r : Txt). IsEffect history (world_of old.world) (state 0 (stmt.Audit written) text) (only_reply (world_of old.world) r)) (sym said) (short_of_memory history (world_of old.world) text written audit is)

@@ -1,0 +1,213 @@
+//! DURING: an audit of all that was asked so far.
+ghost use Rattle.std.specs.Prelude.{◌≡◌, ◌≢◌, ◌⊎◌, ◌++◌, [], true, flat_map, bytes_eq, Some, IfOk, OnOk, Err as Bad};
+ghost use Rattle.std.specs.List.{IsDistinct};
+ghost use Rattle.std.specs.Result.{result_map_both};
+ghost use Rattle.hippo_values.specs.Texts.{Txt as Text};
+ghost use Rattle.hippo_model.specs.declared.statement.Stmt.TheVariants as stmt;
+ghost use Rattle.hippo_model.specs.Terms.{History};
+ghost use Rattle.hippo_keeper.specs.Keeping.{IsReady};
+ghost use Rattle.hippo_audit_job.specs.Examining.{IsAuditOf};
+ghost use Rattle.hippo_replay.specs.Standing.{StandsFor, IsSound};
+ghost use Rattle.hippo_report.specs.declared.refusal.Refusal.TheVariants as refusals;
+ghost use Rattle.hippo_report.specs.Flags.{flag_line};
+ghost use Rattle.hippo_report.specs.Refusals.{refusal_line};
+ghost use Rattle.hippo_commands.specs.Commands.{state as command};
+ghost use Rattle.hippo_engine.specs.declared.faults.EngineFault.TheVariants.{Write as WriteFailed};
+ghost use Rattle.hippo_engine.specs.Auditing.{FindsFlags, ended, told_flags, TellsFlags};
+ghost use Rattle.hippo_engine.specs.Carrying.{AtWork, Carries};
+ghost use Rattle.hippo_catalog.specs.AuditExpressions.{audit_refused, audit_of};
+ghost use Rattle.hippo_commands.specs.Moments.{period_in};
+ghost use Rattle.hippo_engine.specs.Checks.{Finds, meant};
+ghost use Rattle.hippo_engine.specs.Effects.{listed};
+ghost use Rattle.hippo_engine.specs.Judging.{audit_in};
+
+use crate::changes::check_console;
+use crate::engine::{Engine, Reply};
+use crate::faults::EngineFault;
+use crate::refusals::name_refusal;
+use crate::replies::refuse_for_memory;
+use hippo_audit_job::{Job, Past};
+use hippo_backlog::ReadFault;
+use hippo_catalog::Catalog;
+use hippo_combine::Combine;
+use hippo_keeper::{Keeper, Steps};
+use hippo_model::{Audit, Flag, RawAudit};
+use hippo_replay::State;
+use hippo_report::{Format, Refusal, flag_line, number_line};
+use hippo_typing::resolve_audit;
+use hippo_values::Memory;
+use std::alloc::Global;
+use std::sync::ledger::Ledger;
+
+// What an audit expression means, by names, types and period.
+fn meaning(alloc: Global, catalog: &Catalog, written: &RawAudit) -> Result<Audit, Refusal>
+    ensures found { let period = period_in written.now in Finds (λ audit. audit)
+        (meant (audit_refused catalog.now.names period written.now)
+        (audit_of catalog.now.names period written.now)) result }
+    ensures unrefused { let period = period_in written.now in IfOk result (λ audit.
+        (audit_refused catalog.now.names period written.now ≡ [])
+        × (audit ≡ audit_of catalog.now.names period written.now)) }
+{
+    match resolve_audit(alloc, catalog, written) {
+        Ok(audit) => Ok(audit),
+        Err(fault) => Err(name_refusal(fault)),
+    }
+}
+
+/// The audit that an audit expression of the console means, or why it is refused.
+pub(crate) fn audit_in(
+    alloc: Global,
+    state: &State,
+    session: u8,
+    written: &RawAudit,
+) -> Result<Audit, Refusal>
+    requires sound { IsSound state.now }
+    ensures found { (history : History) → StandsFor state.now history
+        → Finds (λ audit. audit) (audit_in history session written.now) result }
+    ensures console { OnOk result (session ≡ 0) }
+    ensures audit { IfOk result (λ audit. (history : History) → StandsFor state.now history
+        → IsAuditOf history audit) }
+    ensures differ { IfOk result (λ audit. IsDistinct bytes_eq audit.tables) }
+{
+    check_console(session)?;
+    meaning(alloc, &state.catalog, written)
+}
+
+// A job that has looked at all that was asked so far.
+fn looked_over<P: Keeper, L: Ledger>(
+    alloc: Global,
+    keeper: &mut P,
+    state: &State,
+    audit: Audit,
+    steps: &mut Steps<L>,
+) -> Result<Job<Combine>, ReadFault>
+    requires ready { IsReady true (P.state keeper.old) }
+    requires differ { IsDistinct bytes_eq audit.tables }
+    ensures finds { FindsFlags audit state.now (result_map_both (λ job. job.waiting) (λ fault. fault) result)
+        (P.state keeper.old) (P.state keeper.new) steps.old steps.new }
+{
+    let past = Past {
+        catalog: &state.catalog,
+        book: &state.book,
+        count: state.count,
+    };
+    let mut job = Job::begin(alloc, audit, state.count, Combine::new(alloc));
+    match job.step(keeper, alloc, state.count, &past, steps) {
+        Ok(()) => Ok(job),
+        Err(fault) => {
+            drop(job);
+            Err(fault)
+        }
+    }
+}
+
+fn append_flags(
+    alloc: Global,
+    format: Format,
+    flags: &[Flag],
+    reply: &mut Reply,
+) -> Result<(), Memory>
+    ensures { OnOk result (reply.new ≡ reply.old ++ flat_map (flag_line format) flags.now) }
+{
+    for flag in flags {
+        flag_line(alloc, format, flag, reply)?;
+    }
+    Ok(())
+}
+
+// Makes the reply that lists flags.
+fn print_flags(
+    alloc: Global,
+    format: Format,
+    flags: &[Flag],
+    reply: &mut Reply,
+) -> Result<(), Memory>
+    ensures { OnOk result (reply.new ≡ listed 0 (flag_line format) flags.now) }
+{
+    reply.clear();
+    append_flags(alloc, format, flags, reply)?;
+    number_line(0, "end", flags.len() as u64, reply)
+}
+
+// Tells the flags that were found, or that memory was short.
+fn say_flags(
+    alloc: Global,
+    format: Format,
+    found: Result<Job<Combine>, ReadFault>,
+    reply: &mut Reply,
+) -> Result<(), EngineFault>
+    ensures ended { result ≡ ended found }
+    ensures said { OnOk result ((reply.new
+        ≡ told_flags format (result_map_both (λ job. job.waiting) (λ fault. fault) found))
+        ⊎ (reply.new ≡ refusal_line (Some 0) refusals.Memory)) }
+{
+    match found {
+        Ok(job) => {
+            if print_flags(alloc, format, job.waiting().as_slice(), reply).is_err() {
+                refuse_for_memory(Some(0), reply);
+            }
+            drop(job);
+            Ok(())
+        }
+        Err(ReadFault::Memory) => {
+            refuse_for_memory(Some(0), reply);
+            Ok(())
+        }
+        Err(ReadFault::Keeper) => Err(EngineFault::Keeper),
+        Err(ReadFault::Damaged(number)) => Err(EngineFault::Damaged(number)),
+    }
+}
+
+// Finds the flags of an audit, and tells them.
+fn tell_flags<P: Keeper, L: Ledger>(
+    alloc: Global,
+    keeper: &mut P,
+    state: &State,
+    format: Format,
+    audit: Audit,
+    reply: &mut Reply,
+    steps: &mut Steps<L>,
+) -> Result<(), EngineFault>
+    requires ready { IsReady true (P.state keeper.old) }
+    requires differ { IsDistinct bytes_eq audit.tables }
+    ensures tells { TellsFlags format audit state.now result reply.new
+        (P.state keeper.old) (P.state keeper.new) steps.old steps.new }
+{
+    let found = looked_over(alloc, keeper, state, audit, steps);
+    say_flags(alloc, format, found, reply)
+}
+
+impl Engine {
+    /// Lists the questions of all that was asked so far that an audit flags. Answers `Keeper` only where the keeper
+    /// failed, `Damaged` only where it does not tell what it keeps.
+    pub(crate) fn audit<P: Keeper, L: Ledger>(
+        &mut self,
+        alloc: Global,
+        keeper: &mut P,
+        session: u8,
+        written: &RawAudit,
+        steps: &mut Steps<L>,
+    ) -> Result<(), EngineFault>
+        requires at_work { AtWork self.old (P.state keeper.old) }
+        ensures carries { (text : Text) → Carries (command session (stmt.Audit written.now) text) result
+            self.old self.new (P.state keeper.old) (P.state keeper.new) steps.old steps.new }
+        ensures unwritten { result ≢ Bad WriteFailed }
+    {
+        match audit_in(alloc, &self.state, session, written) {
+            Ok(audit) => tell_flags(
+                alloc,
+                keeper,
+                &self.state,
+                self.world.format,
+                audit,
+                &mut self.reply,
+                steps,
+            ),
+            Err(refusal) => {
+                self.refuse_command(session, &refusal);
+                drop(refusal);
+                Ok(())
+            }
+        }
+    }
+}
