@@ -13,6 +13,7 @@ import sys
 sys.path.insert(0, os.path.join(os.path.dirname(os.path.abspath(__file__)), "..", "readers"))
 from second_reader import (BadSyntax, Fault, KEYWORDS, UNSUPPORTED, Reader, Rec, Tup, Unit,  # noqa: E402
                            check_words, cut, days_before, leap, read_day, DAYS_IN)
+from second_records import field_value, records, written  # noqa: E402
 
 SHORT_WORDS = ("login", "logout", "fetch", "close", "step", "drop", "unwatch", "load")
 NUMBER = re.compile(r"(0|[1-9][0-9]*)\Z")
@@ -331,20 +332,20 @@ class Engine:
         past.entries = self.entries[:number - 1]
         return past
 
-    def audit(self, number, written):
+    def audit(self, number, expression):
         """What an audit asks for, once its names are found; raises the first refusal."""
         if number != 0:
             raise Refused("24 ConsoleOnly", None)
-        names, condition = field(written, "tables"), field(written, "cond")
+        names, condition = field(expression, "tables"), field(expression, "cond")
         for name in names:
             if self.table(name) is None:
                 raise Refused("30 UnknownTable", name)
-        for pair in field(written, "exempt"):
+        for pair in field(expression, "exempt"):
             self.known_pair(pair)
         repeated(names)
         tables = [self.table(name) for name in names]
         find = finder(tables)
-        columns = [find(column) for column in field(written, "columns")]
+        columns = [find(column) for column in field(expression, "columns")]
         compared = operands(condition)
         for group in compared:
             for operand in group:
@@ -352,17 +353,17 @@ class Engine:
                     find(operand.args[0])
         check_kinds(tables, find, compared)
         check_texts(compared)
-        for most, count in ((4, len(names)), (128, len(columns)), (64, len(field(written, "exempt")))):
+        for most, count in ((4, len(names)), (128, len(columns)), (64, len(field(expression, "exempt")))):
             if count > most:
                 raise Refused("50 TooManyParts", most)
-        begin, end = (read_moment(field(written, word).encode()) for word in ("from", "to"))
+        begin, end = (read_moment(field(expression, word).encode()) for word in ("from", "to"))
         if begin is None or end is None:
             raise Refused("18 BadMoment", None)
         if end < begin:
             raise Refused("56 PeriodBack", None)
-        exempt = [(field(pair, "purpose"), field(pair, "recipient")) for pair in field(written, "exempt")]
+        exempt = [(field(pair, "purpose"), field(pair, "recipient")) for pair in field(expression, "exempt")]
         return {"names": names, "tables": tables, "columns": columns, "find": find, "condition": condition,
-                "begin": begin, "end": end, "exempt": exempt, "seen": field(written, "shown")}
+                "begin": begin, "end": end, "exempt": exempt, "seen": field(expression, "shown")}
 
     def shared(self, audit, number):
         """The first virtual tuple that serves, of an entry and an audit; or None."""
@@ -413,7 +414,7 @@ class Engine:
             return json.dumps({"moment": moment_text(moment), "pair": [act[2], act[3]], "query": number, "shared": keys,
                                "user": act[1]}, separators=(",", ":"), ensure_ascii=False)
         parts = [str(number), moment_text(moment), act[1], act[2], act[3], tuple_text(shared)]
-        return record_text(parts) if self.format == "csv" else " ".join(parts)
+        return written(parts) if self.format == "csv" else " ".join(parts)
 
     def alarms(self, number):
         """What the watches say of an entry."""
@@ -439,8 +440,8 @@ class Engine:
             raise Refused("51 TooManyRows", None)
         return lines + ["0 end %d" % len(lines)]
 
-    def begin(self, number, written):
-        audit = self.audit(number, written)
+    def begin(self, number, expression):
+        audit = self.audit(number, expression)
         free = next((j for j in range(1, 9) if j not in self.jobs), None)
         if free is None:
             raise Refused("54 JobLimit", None)
@@ -460,8 +461,8 @@ class Engine:
             return found + ["0 part %d" % upto]
         return found + ["0 end %d" % len(self.flags(held["audit"], 0, upto))]
 
-    def watch(self, number, written):
-        audit = self.audit(number, written)
+    def watch(self, number, expression):
+        audit = self.audit(number, expression)
         free = next((w for w in range(1, 9) if w not in self.watches), None)
         if free is None:
             raise Refused("63 WatchLimit", None)
@@ -483,12 +484,15 @@ class Engine:
         table = self.table(name)
         if table is None:
             raise Refused("30 UnknownTable", name)
-        fields = record_fields(text)
-        if fields is None:
+        found = records(text)
+        if len(found) != 1:
             raise Refused("61 BadRecord", None)
-        if len(fields) != len(table[2]):
+        if len(found[0]) != len(table[2]):
             raise Refused("42 WrongCount", len(table[2]))
-        row = [field_value(written, kind, column) for written, (column, kind, _) in zip(fields, table[2])]
+        row = [field_value(kind, inside, read_day) for inside, (_, kind, _) in zip(found[0], table[2])]
+        for value, (column, _, _) in zip(row, table[2]):
+            if isinstance(value, list):
+                raise Refused("62 BadField", column)
         self.entries.append((self.clock, self.inserted(table, row)))
         return ["0 ok %d" % len(self.entries)]
 
@@ -755,7 +759,7 @@ class Engine:
             session["cursors"][free] = {"rows": rows, "given": 0}
             return ["%d cursor %d" % (number, free)]
         if kind == "Extract":
-            return ["%d csv %s" % (number, record_text([in_field(cell) for cell in row])) for row in rows] + ["%d end %d" % (number, len(rows))]
+            return ["%d csv %s" % (number, written([in_field(cell) for cell in row])) for row in rows] + ["%d end %d" % (number, len(rows))]
         return row_lines(number, rows) + ["%d end %d" % (number, len(rows))]
 
     def at(self, word):
@@ -886,56 +890,8 @@ def tuple_text(shared):
     return " ".join("%s(%s)" % (table, ", ".join(printed(value) for value in key)) for table, key in shared)
 
 
-# ---------------------------------------------------------------- records of CSV
-
-
 def in_field(cell):
     return "" if cell is None else cell[1] if isinstance(cell, tuple) and cell[0] == "Text" else printed(cell)
-
-
-def record_text(fields):
-    if fields == [""]:
-        return '""'
-    return ",".join('"%s"' % f.replace('"', '""') if any(c in f for c in ',"\r\n') else f for f in fields)
-
-
-def record_fields(text):
-    """The fields of the one record that a text is, or None."""
-    records, fields, now, state = [], [], "", "record"
-    for c in text[1:] if text.startswith("\ufeff") else text:
-        if state == "record" and c == "\r":
-            continue
-        if state in ("record", "field") and c == '"':
-            state = "quoted"
-        elif state == "quoted" and c != '"':
-            now += c
-        elif state == "quoted":
-            state = "quote"
-        elif state == "quote" and c == '"':
-            now, state = now + c, "quoted"
-        elif c == ",":
-            fields, now, state = fields + [now], "", "field"
-        elif c == "\r":
-            records, fields, now, state = records + [fields + [now]], [], "", "record"
-        else:
-            now, state = now + c, "text"
-    if state != "record":
-        records.append(fields + [now])
-    return records[0] if len(records) == 1 else None
-
-
-def field_value(text, kind, column):
-    if text == "":
-        return None
-    if kind == "Text":
-        return ("Text", text)
-    if kind == "Date":
-        day = read_day(text.encode())
-        if day is not None:
-            return ("Date", day)
-    elif re.match(r"-?[0-9]+\Z", text, re.ASCII) and -2 ** 63 <= int(text) < 2 ** 63:
-        return ("Integer", int(text))
-    raise Refused("62 BadField", column)
 
 
 def repeated(names):
