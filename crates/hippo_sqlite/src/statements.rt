@@ -1,5 +1,9 @@
 //! What the keeper asks of `sqlite`, one statement a function, over any store.
-ghost use Rattle.std.specs.Prelude.{◌^◌, ◌<◌};
+ghost use Rattle.std.specs.Prelude.{[], ◌^◌, ◌<◌, IfOk, IfErr};
+ghost use Rattle.sqlite.specs.State.{HasCleanDisk, Survives, Executes, CommitsBy, Shown, FailsToQuery, CommitsShowing};
+ghost use Rattle.sqlite.specs.Held.{state};
+ghost use Rattle.hippo_sqlite.specs.Queries.{create_text, insert_text, text_of, params_of};
+ghost use Rattle.hippo_sqlite.specs.Tables.{row_of, values_of};
 
 use hippo_model::StoredEntry;
 use hippo_values::{Moment, Name};
@@ -16,7 +20,12 @@ pub(crate) enum Question<'a> {
 }
 
 /// Makes the table of the history where there is none.
-pub(crate) fn create_history<S: Alter>(connection: &mut Connection<S>) -> Result<usize, Error> {
+pub(crate) fn create_history<S: Alter>(connection: &mut Connection<S>) -> Result<usize, Error>
+    ensures runs { HasCleanDisk (state S.Store connection.new)
+        → Executes create_text [] (state S.Store connection.old) (state S.Store connection.new) result }
+    ensures survives { Survives (state S.Store connection.old) (state S.Store connection.new)
+        (CommitsBy create_text [] (state S.Store connection.old)) }
+{
     connection.execute(
         "CREATE TABLE IF NOT EXISTS history (seq INTEGER PRIMARY KEY, moment INTEGER NOT NULL, kind INTEGER NOT NULL, tbl TEXT NOT NULL, body BLOB NOT NULL) STRICT",
         &[],
@@ -29,6 +38,11 @@ pub(crate) fn insert<S: Alter>(
     entry: &StoredEntry,
 ) -> Result<usize, Error>
     requires { entry.now.seq < 2 ^ 63 }
+    ensures runs { HasCleanDisk (state S.Store connection.new)
+        → Executes insert_text (values_of (row_of entry.now)) (state S.Store connection.old) (state S.Store connection.new) result }
+    ensures survives { Survives (state S.Store connection.old) (state S.Store connection.new)
+        (CommitsBy insert_text (values_of (row_of entry.now)) (state S.Store connection.old)) }
+    ensures kind { entry.now.kind < 256 }
 {
     connection.execute(
         "INSERT INTO history (seq, moment, kind, tbl, body) VALUES (?1, ?2, ?3, ?4, ?5)",
@@ -45,12 +59,21 @@ pub(crate) fn insert<S: Alter>(
 // The first rows above a number.
 fn select_all<S: Alter>(
     connection: &mut Connection<S>,
-    after: i64,
-    max: i64,
-) -> Result<Vec<Row>, Error> {
+    after: u64,
+    max: u64,
+) -> Result<Vec<Row>, Error>
+    requires above { after < 2 ^ 63 }
+    requires limit { max < 2 ^ 63 }
+    ensures ok { HasCleanDisk (state S.Store connection.new) → IfOk result (λ rows. Shown (text_of Question.All) (params_of Question.All after max)
+        (state S.Store connection.old) (state S.Store connection.new) rows.items) }
+    ensures err { HasCleanDisk (state S.Store connection.new) → IfErr result (FailsToQuery (text_of Question.All) (params_of Question.All after max)
+        (state S.Store connection.old) (state S.Store connection.new)) }
+    ensures survives { Survives (state S.Store connection.old) (state S.Store connection.new)
+        (CommitsShowing (text_of Question.All) (params_of Question.All after max) (state S.Store connection.old)) }
+{
     connection.query_all(
         "SELECT seq, moment, kind, tbl, body FROM history WHERE seq > ?1 ORDER BY seq LIMIT ?2",
-        params![after, max],
+        params![after as i64, max as i64],
     )
 }
 
@@ -58,12 +81,21 @@ fn select_all<S: Alter>(
 fn select_backlog<S: Alter>(
     connection: &mut Connection<S>,
     table: &Name,
-    after: i64,
-    max: i64,
-) -> Result<Vec<Row>, Error> {
+    after: u64,
+    max: u64,
+) -> Result<Vec<Row>, Error>
+    requires above { after < 2 ^ 63 }
+    requires limit { max < 2 ^ 63 }
+    ensures ok { HasCleanDisk (state S.Store connection.new) → IfOk result (λ rows. Shown (text_of (Question.VersionsOf table.entry)) (params_of (Question.VersionsOf table.entry) after max)
+        (state S.Store connection.old) (state S.Store connection.new) rows.items) }
+    ensures err { HasCleanDisk (state S.Store connection.new) → IfErr result (FailsToQuery (text_of (Question.VersionsOf table.entry)) (params_of (Question.VersionsOf table.entry) after max)
+        (state S.Store connection.old) (state S.Store connection.new)) }
+    ensures survives { Survives (state S.Store connection.old) (state S.Store connection.new)
+        (CommitsShowing (text_of (Question.VersionsOf table.entry)) (params_of (Question.VersionsOf table.entry) after max) (state S.Store connection.old)) }
+{
     connection.query_all(
         "SELECT seq, moment, kind, tbl, body FROM history WHERE tbl = ?1 AND kind >= 2 AND kind <= 4 AND seq > ?2 ORDER BY seq LIMIT ?3",
-        params![table.as_str(), after, max],
+        params![table.as_str(), after as i64, max as i64],
     )
 }
 
@@ -72,12 +104,21 @@ fn select_asked<S: Alter>(
     connection: &mut Connection<S>,
     from: Moment,
     to: Moment,
-    after: i64,
-    max: i64,
-) -> Result<Vec<Row>, Error> {
+    after: u64,
+    max: u64,
+) -> Result<Vec<Row>, Error>
+    requires above { after < 2 ^ 63 }
+    requires limit { max < 2 ^ 63 }
+    ensures ok { HasCleanDisk (state S.Store connection.new) → IfOk result (λ rows. Shown (text_of (Question.AskedIn from to)) (params_of (Question.AskedIn from to) after max)
+        (state S.Store connection.old) (state S.Store connection.new) rows.items) }
+    ensures err { HasCleanDisk (state S.Store connection.new) → IfErr result (FailsToQuery (text_of (Question.AskedIn from to)) (params_of (Question.AskedIn from to) after max)
+        (state S.Store connection.old) (state S.Store connection.new)) }
+    ensures survives { Survives (state S.Store connection.old) (state S.Store connection.new)
+        (CommitsShowing (text_of (Question.AskedIn from to)) (params_of (Question.AskedIn from to) after max) (state S.Store connection.old)) }
+{
     connection.query_all(
         "SELECT seq, moment, kind, tbl, body FROM history WHERE kind = 13 AND moment >= ?1 AND moment <= ?2 AND seq > ?3 ORDER BY seq LIMIT ?4",
-        params![from.seconds(), to.seconds(), after, max],
+        params![from.seconds(), to.seconds(), after as i64, max as i64],
     )
 }
 
@@ -85,9 +126,18 @@ fn select_asked<S: Alter>(
 pub(crate) fn select<S: Alter>(
     connection: &mut Connection<S>,
     question: &Question<'_>,
-    after: i64,
-    max: i64,
-) -> Result<Vec<Row>, Error> {
+    after: u64,
+    max: u64,
+) -> Result<Vec<Row>, Error>
+    requires above { after < 2 ^ 63 }
+    requires limit { max < 2 ^ 63 }
+    ensures ok { HasCleanDisk (state S.Store connection.new) → IfOk result (λ rows. Shown (text_of question.now) (params_of question.now after max)
+        (state S.Store connection.old) (state S.Store connection.new) rows.items) }
+    ensures err { HasCleanDisk (state S.Store connection.new) → IfErr result (FailsToQuery (text_of question.now) (params_of question.now after max)
+        (state S.Store connection.old) (state S.Store connection.new)) }
+    ensures survives { Survives (state S.Store connection.old) (state S.Store connection.new)
+        (CommitsShowing (text_of question.now) (params_of question.now after max) (state S.Store connection.old)) }
+{
     match question {
         Question::All => select_all(connection, after, max),
         Question::VersionsOf(table) => select_backlog(connection, table, after, max),
