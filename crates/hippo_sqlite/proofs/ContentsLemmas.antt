@@ -1,5 +1,5 @@
 -- What the statements do to what a connection tells.
-use Rattle.std.proofs.Common.{◌≡◌, ◌⊎◌, inl, inr, ℕ, ◌<◌, ◌≤◌, ◌^◌, pos, List, [], ◌∷◌, ◌++◌, map, Bool, true, false, cond, Option, Some, None, Ok, Err, Result, IsTrue, refl, sym, ap, subst, ◌∙◌, arith}
+use Rattle.std.proofs.Common.{◌≡◌, ◌⊎◌, inl, inr, ℕ, ◌<◌, ◌≤◌, ◌^◌, pos, List, [], ◌∷◌, ◌++◌, map, Bool, true, false, cond, Option, Some, None, Ok, Err, Result, IfOk, IsTrue, refl, sym, ap, subst, ◌∙◌, arith}
 use mathlib.Core.Logic.{∥∥₁_map}
 use Rattle.sqlite_value.specs.Order.{Row}
 use Rattle.sqlite_trees.specs.declared.store.Store as store
@@ -208,6 +208,10 @@ module _ {S : Type 0} (g : store.Ghosts S)
         only = λ t. only_kept t.1 (made t.0 t.2).0;
         empty = λ t none. (made t.0 t.2).1 ∙ ap (λ schema. entries_of schema (state g opened).committed.trees) (ap (λ (db : Database). db.schema) (sym (opens (falls t.0)).0.clean) ∙ none);
       }
+
+pub ok_weaker : {A E : Type 0} (result : Result A E) (P Q : A → Type 0) → ((value : A) → P value → Q value) → IfOk result P → IfOk result Q
+ok_weaker (Ok value) P Q weaker it = weaker value it
+ok_weaker (Err e) P Q weaker it = tt
 
 -- ---- the same for what last told
 

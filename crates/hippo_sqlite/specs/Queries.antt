@@ -1,5 +1,5 @@
 -- The statements of the keeper, and what its reads ask for.
-use Rattle.std.specs.Prelude.{ℕ, pos, List, [], ◌∷◌, codes, Bool}
+use Rattle.std.specs.Prelude.{ℕ, ℤ, pos, List, [], ◌∷◌, codes, Bool}
 use Rattle.sqlite_value.specs.declared.value.Value.TheVariants.{Int, Text}
 use Rattle.sqlite_value.specs.Order.{Row}
 use Rattle.hippo_model.specs.declared.stored.StoredEntry.{StoredEntry}
@@ -28,11 +28,17 @@ text_of All = all_text
 text_of (VersionsOf table) = backlog_text
 text_of (AskedIn from to) = asked_text
 
--- its parameters, for so many rows above a number
+-- the parameters of a read of versions, and of questions, for so many rows above a number
+abbrev pub versions_params : List ℕ → ℕ → ℕ → Row
+versions_params table after max = Text table ∷ Int (pos after) ∷ Int (pos max) ∷ []
+
+abbrev pub asked_params : ℤ → ℤ → ℕ → ℕ → Row
+asked_params from to after max = Int from ∷ Int to ∷ Int (pos after) ∷ Int (pos max) ∷ []
+
 abbrev pub params_of : Question → ℕ → ℕ → Row
 params_of All after max = Int (pos after) ∷ Int (pos max) ∷ []
-params_of (VersionsOf table) after max = Text table.now ∷ Int (pos after) ∷ Int (pos max) ∷ []
-params_of (AskedIn from to) after max = Int from ∷ Int to ∷ Int (pos after) ∷ Int (pos max) ∷ []
+params_of (VersionsOf table) after max = versions_params table.now after max
+params_of (AskedIn from to) after max = asked_params from to after max
 
 -- which entries it asks for
 abbrev pub test_of : Question → StoredEntry → Bool

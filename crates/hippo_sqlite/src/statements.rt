@@ -2,7 +2,7 @@
 ghost use Rattle.std.specs.Prelude.{[], ◌^◌, ◌<◌, IfOk, IfErr};
 ghost use Rattle.sqlite.specs.State.{HasCleanDisk, Survives, Executes, CommitsBy, Shown, FailsToQuery, CommitsShowing};
 ghost use Rattle.sqlite.specs.Held.{state};
-ghost use Rattle.hippo_sqlite.specs.Queries.{create_text, insert_text, text_of, params_of};
+ghost use Rattle.hippo_sqlite.specs.Queries.{create_text, insert_text, backlog_text, asked_text, versions_params, asked_params, text_of, params_of};
 ghost use Rattle.hippo_sqlite.specs.Tables.{row_of, values_of};
 
 use hippo_model::StoredEntry;
@@ -80,45 +80,45 @@ fn select_all<S: Alter>(
 // The first versions of a table's rows above a number.
 fn select_backlog<S: Alter>(
     connection: &mut Connection<S>,
-    table: &Name,
+    table: &str,
     after: u64,
     max: u64,
 ) -> Result<Vec<Row>, Error>
     requires above { after < 2 ^ 63 }
     requires limit { max < 2 ^ 63 }
-    ensures ok { HasCleanDisk (state S.Store connection.new) → IfOk result (λ rows. Shown (text_of (Question.VersionsOf table.entry)) (params_of (Question.VersionsOf table.entry) after max)
+    ensures ok { HasCleanDisk (state S.Store connection.new) → IfOk result (λ rows. Shown backlog_text (versions_params table.now after max)
         (state S.Store connection.old) (state S.Store connection.new) rows.items) }
-    ensures err { HasCleanDisk (state S.Store connection.new) → IfErr result (FailsToQuery (text_of (Question.VersionsOf table.entry)) (params_of (Question.VersionsOf table.entry) after max)
+    ensures err { HasCleanDisk (state S.Store connection.new) → IfErr result (FailsToQuery backlog_text (versions_params table.now after max)
         (state S.Store connection.old) (state S.Store connection.new)) }
     ensures survives { Survives (state S.Store connection.old) (state S.Store connection.new)
-        (CommitsShowing (text_of (Question.VersionsOf table.entry)) (params_of (Question.VersionsOf table.entry) after max) (state S.Store connection.old)) }
+        (CommitsShowing backlog_text (versions_params table.now after max) (state S.Store connection.old)) }
 {
     connection.query_all(
         "SELECT seq, moment, kind, tbl, body FROM history WHERE tbl = ?1 AND kind >= 2 AND kind <= 4 AND seq > ?2 ORDER BY seq LIMIT ?3",
-        params![table.as_str(), after as i64, max as i64],
+        params![table, after as i64, max as i64],
     )
 }
 
 // The first questions of a period above a number.
 fn select_asked<S: Alter>(
     connection: &mut Connection<S>,
-    from: Moment,
-    to: Moment,
+    from: &i64,
+    to: &i64,
     after: u64,
     max: u64,
 ) -> Result<Vec<Row>, Error>
     requires above { after < 2 ^ 63 }
     requires limit { max < 2 ^ 63 }
-    ensures ok { HasCleanDisk (state S.Store connection.new) → IfOk result (λ rows. Shown (text_of (Question.AskedIn from to)) (params_of (Question.AskedIn from to) after max)
+    ensures ok { HasCleanDisk (state S.Store connection.new) → IfOk result (λ rows. Shown asked_text (asked_params from.now to.now after max)
         (state S.Store connection.old) (state S.Store connection.new) rows.items) }
-    ensures err { HasCleanDisk (state S.Store connection.new) → IfErr result (FailsToQuery (text_of (Question.AskedIn from to)) (params_of (Question.AskedIn from to) after max)
+    ensures err { HasCleanDisk (state S.Store connection.new) → IfErr result (FailsToQuery asked_text (asked_params from.now to.now after max)
         (state S.Store connection.old) (state S.Store connection.new)) }
     ensures survives { Survives (state S.Store connection.old) (state S.Store connection.new)
-        (CommitsShowing (text_of (Question.AskedIn from to)) (params_of (Question.AskedIn from to) after max) (state S.Store connection.old)) }
+        (CommitsShowing asked_text (asked_params from.now to.now after max) (state S.Store connection.old)) }
 {
     connection.query_all(
         "SELECT seq, moment, kind, tbl, body FROM history WHERE kind = 13 AND moment >= ?1 AND moment <= ?2 AND seq > ?3 ORDER BY seq LIMIT ?4",
-        params![from.seconds(), to.seconds(), after as i64, max as i64],
+        params![from, to, after as i64, max as i64],
     )
 }
 
@@ -140,7 +140,9 @@ pub(crate) fn select<S: Alter>(
 {
     match question {
         Question::All => select_all(connection, after, max),
-        Question::VersionsOf(table) => select_backlog(connection, table, after, max),
-        Question::AskedIn(from, to) => select_asked(connection, *from, *to, after, max),
+        Question::VersionsOf(table) => select_backlog(connection, table.as_str(), after, max),
+        Question::AskedIn(from, to) => {
+            select_asked(connection, &from.seconds(), &to.seconds(), after, max)
+        }
     }
 }
