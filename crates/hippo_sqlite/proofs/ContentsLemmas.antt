@@ -49,7 +49,6 @@ module _ {S : Type 0} (g : store.Ghosts S)
     (stays : (s : S) → IsTrue (g.view s).is_open → g.recovers s (g.view s).committed)
     (something : (s : S) → IsClean (g.view s) → ∥ ((trees : Trees) × g.recovers s trees) ∥₁)
     (old new opened : Held S) where
-
   abbrev before : State
   before = state g old
 
@@ -94,7 +93,6 @@ module _ {S : Type 0} (g : store.Ghosts S)
 
   module _ (entry : StoredEntry) (rests : RestsIf before) (next : was.tells → IsNext entry before.committed)
       (survives : Survives before after (CommitsBy insert_text (values_of (row_of entry)) before)) where
-
     early : HasCleanDisk after → HasCleanDisk before
     early clean = let falls = survives.clean in omega (arith, clean)
 
@@ -102,7 +100,7 @@ module _ {S : Type 0} (g : store.Ghosts S)
     appends_well ran =
         let was_open = λ (clean : HasCleanDisk after). executes_open insert_text (values_of (row_of entry)) before after (Ok (ran clean).0) (ran clean).1 in
         let made = λ (clean : HasCleanDisk after) (is_open : IsTrue after.is_open) (well : StartsWell (state g opened).now).
-            appends before after (ran clean).0 entry (rests (early clean) (was_open clean is_open) well) (next (early clean, was_open clean is_open, well)) (ran clean).1 in
+        appends before after (ran clean).0 entry (rests (early clean) (was_open clean is_open) well) (next (early clean, was_open clean is_open, well)) (ran clean).1 in
         record {
           on = record { told = λ t. (early t.0, was_open t.0 t.1, t.2); rests = λ _. (refl, λ clean is_open well. (made clean is_open well).0) };
           longer = λ t. (made t.0 t.1 t.2).1;
@@ -129,7 +127,7 @@ module _ {S : Type 0} (g : store.Ghosts S)
     appends_nothing ran =
         let was_open = λ (clean : HasCleanDisk after). left_open before after (ran clean) in
         let made = λ (clean : HasCleanDisk after) (is_open : IsTrue after.is_open) (well : StartsWell (state g opened).now).
-            left_rests before after (rests (early clean) (was_open clean is_open) well) (ran clean) is_open in
+        left_rests before after (rests (early clean) (was_open clean is_open) well) (ran clean) is_open in
         record {
           on = record { told = λ t. (early t.0, was_open t.0 t.1, t.2); rests = λ _. (refl, λ clean is_open well. (made clean is_open well).0) };
           longer = tt;
@@ -149,7 +147,6 @@ module _ {S : Type 0} (g : store.Ghosts S)
 
   module _ (text : List ℕ) (params : Row) (rests : RestsIf before) (plain : IsPlain (understood history_schema text))
       (survives : Survives before after (CommitsShowing text params before)) (looked : HasCleanDisk after → HasLooked text params before after) where
-
     looks_early : HasCleanDisk after → HasCleanDisk before
     looks_early clean = let falls = survives.clean in omega (arith, clean)
 
@@ -172,7 +169,7 @@ module _ {S : Type 0} (g : store.Ghosts S)
     looks_on result other =
         let it = λ (clean : HasCleanDisk after) (is_open : IsTrue after.is_open) (well : StartsWell (state g opened).now). rests (looks_early clean) (look_open clean is_open) well in
         let made = λ (clean : HasCleanDisk after) (is_open : IsTrue after.is_open) (well : StartsWell (state g opened).now).
-            left_rests before after (it clean is_open well) (look_left clean (it clean is_open well)) is_open in
+        left_rests before after (it clean is_open well) (look_left clean (it clean is_open well)) is_open in
         record {
           on = record { told = λ t. (looks_early t.0, look_open t.0 t.1, t.2); rests = λ _. (refl, λ clean is_open well. (made clean is_open well).0) };
           same = λ t. same_committed (look_open t.0 t.1) t.1 (made t.0 t.1 t.2).0 (made t.0 t.1 t.2).1;
@@ -198,8 +195,8 @@ module _ {S : Type 0} (g : store.Ghosts S)
   is_linked survives opens ran =
       let falls = λ (clean : HasCleanDisk after). (let low = survives.clean in let early : HasCleanDisk (state g opened) = omega (arith, clean) in early) in
       let made = λ (clean : HasCleanDisk after) (well : StartsWell (state g opened).now).
-          let o = opens (falls clean) in
-          prepares (state g opened) after (ran clean).0 well o.0.clean o.0.autocommit (o.1 o.0.is_open).1 (ran clean).1 in
+      let o = opens (falls clean) in
+      prepares (state g opened) after (ran clean).0 well o.0.clean o.0.autocommit (o.1 o.0.is_open).1 (ran clean).1 in
       record {
         rests = (refl, λ clean is_open well. (made clean well).0);
         clean = λ t. falls t.0;
@@ -220,7 +217,6 @@ module _ {S : Type 0} (g : store.Ghosts S)
     (stays : (s : S) → IsTrue (g.view s).is_open → g.recovers s (g.view s).committed)
     (something : (s : S) → IsClean (g.view s) → ∥ ((trees : Trees) × g.recovers s trees) ∥₁)
     (old new opened told_before told : Held S) (rests : (contents g old told_before opened).rests) where
-
   pub append_linked : (entry : StoredEntry) (result : Result (Unit {0}) KeeperFault)
       → ((contents g old told_before opened).tells → entry.seq ≡ next_number (contents g old told_before opened).kept) → entry.seq < 2 ^ 63 → entry.kind < 256
       → HasExecuted insert_text (values_of (row_of entry)) result (state g old) (state g new) → told ≡ cond (has_failed result) told_before new

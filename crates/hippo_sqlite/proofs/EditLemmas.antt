@@ -68,10 +68,10 @@ inserts limit mode old after text tally rows new has are low does =
     let trees : done.0.trees ≡ written.0 = ap (λ (it : Written). it.trees) (same_value counted.2) ∙ same_value counted.1 in
     let put = (one_step history_schema _ db written.0 (edit_of db history_table [] Chosen 0 source.0) refl written.1).rows in
     let edit : edited db (edit_of db history_table [] Chosen 0 source.0) ≡ map stored_row (rows ++ new ∷ []) =
-        ap (λ all. edited db (edit_of db history_table [] Chosen 0 all)) source.1.1
-        ∙ ap (λ row. put_all (db 0) (with_rowid Chosen (db 0) row ∷ [])) (cast_stored new)
-        ∙ ap (λ there. put_row (stored_row new) there) are
-        ∙ put_last new rows low in
+    ap (λ all. edited db (edit_of db history_table [] Chosen 0 all)) source.1.1
+    ∙ ap (λ row. put_all (db 0) (with_rowid Chosen (db 0) row ∷ [])) (cast_stored new)
+    ∙ ap (λ there. put_row (stored_row new) there) are
+    ∙ put_last new rows low in
     (ap (λ (d : Database). d.schema) now, ap (λ (d : Database). d.trees 0) now ∙ ap (λ (t : Trees). t 0) trees ∙ put ∙ edit)
 
 -- what CREATE TABLE makes of an empty store

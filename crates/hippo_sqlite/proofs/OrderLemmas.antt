@@ -153,9 +153,9 @@ handed test after max pass rows agrees =
     let all = map entry rows in
     let above = λ (kept : StoredEntry). nat_lt after kept.seq in
     let one : filter test (filter above (filter (λ kept. nat_lt 0 kept.seq) all)) ≡ filter (λ kept. above kept && test kept) all =
-        ap (filter test) (filter-filter above (λ kept. nat_lt 0 kept.seq) (above_zero after) all) ∙ filter_both above test all in
+    ap (filter test) (filter-filter above (λ kept. nat_lt 0 kept.seq) (above_zero after) all) ∙ filter_both above test all in
     let two : filter (λ kept. above kept && test kept) all ≡ map entry (filter pass rows) =
-        filter-map (λ kept. above kept && test kept) entry rows ∙ ap (map entry) (same_filter rows) in
+    filter-map (λ kept. above kept && test kept) entry rows ∙ ap (map entry) (same_filter rows) in
     sym (ap (take max) (ap (λ list. filter test (filter above (filter (λ kept. nat_lt 0 kept.seq) list))) (map-map entry_in stored_row rows) ∙ one ∙ two) ∙ take-map entry max (filter pass rows))
   where
     same_filter : (list : List HistoryRow) → filter (λ row. nat_lt after (entry_in (stored_row row)).seq && test (entry_in (stored_row row))) list ≡ filter pass list

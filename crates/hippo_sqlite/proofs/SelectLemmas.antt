@@ -43,11 +43,11 @@ pub shows : (terms : List Term) (limit : Term) (params : Row) (trees : Trees) (m
 shows terms limit params trees max test rows found are rise tests many a =
     let q = query terms limit in
     let staged : a.staged ≡ map (env_of params) (filter test rows) =
-        a.grouped ∙ ap (λ there. flat_map (λ r. cond (list_all (holds (params ∷ r ∷ [])) terms) ((params ∷ r ∷ []) ∷ []) []) there) are ∙ matched terms params test rows tests in
+    a.grouped ∙ ap (λ there. flat_map (λ r. cond (list_all (holds (params ∷ r ∷ [])) terms) ((params ∷ r ∷ []) ∷ []) []) there) are ∙ matched terms params test rows tests in
     let kept : a.kept ≡ map out (filter test rows) = a.distinct ∙ ap (map (output q)) staged ∙ map-map (output q) (env_of params) (filter test rows) in
     let strict = ascending-map (λ x y. output_cmp q x y ≡ Less) out (filter test rows)
-        (ascending_weaker _ _ (above terms limit) (filter test rows) (ascending-filter _ test rows rise)) in
+    (ascending_weaker _ _ (above terms limit) (filter test rows) (ascending-filter _ test rows rise)) in
     let ordered = sorted_unique (output_cmp q) (output_cmp_total q) (map out (filter test rows)) a.ordered strict (subst (λ k. IsPermutation k a.ordered) kept a.same) a.sorted in
     let shown : map (λ (o : Output). o.1) a.ordered ≡ map shown_row (filter test rows) =
-        ap (map (λ (o : Output). o.1)) ordered ∙ map-map (λ (o : Output). o.1) out (filter test rows) in
+    ap (map (λ (o : Output). o.1)) ordered ∙ map-map (λ (o : Output). o.1) out (filter test rows) in
     a.shown ∙ ap (λ list. page q params list) shown ∙ rw many refl

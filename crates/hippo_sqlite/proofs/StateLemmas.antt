@@ -76,16 +76,16 @@ pub executes_left : (sql : List ℕ) (params : Row) (old new : State) (e : Error
 unfolding ExecutesIn
 executes_left sql params old new e (inl h) = not_run_left old new sql params e h
 executes_left sql params old new e (inr h) = elim (cases_Bool (shows_rows false h.0)) [
-    | inl shows ↦ inl (rw shows at h.2).1
-    | inr runs ↦ command_left old new sql h.0 (timed params h.0.formats h.1.now) e (rw runs at h.2)
-  ]
+  | inl shows ↦ inl (rw shows at h.2).1
+  | inr runs ↦ command_left old new sql h.0 (timed params h.0.formats h.1.now) e (rw runs at h.2)
+]
 
 pub executes_open : (sql : List ℕ) (params : Row) (old new : State) (outcome : Result ℕ Error) → Executes sql params old new outcome → IsTrue new.is_open → IsTrue old.is_open
 unfolding ExecutesIn
 executes_open sql params old new (Ok count) h is = elim (cases_Bool (shows_rows false h.0)) [
-    | inl shows ↦ absurd (let e = (rw shows at h.2).0 in cc)
-    | inr runs ↦ runs_open old new h.0.returning h.0.command _ _ count (rw runs at h.2) is
-  ]
+  | inl shows ↦ absurd (let e = (rw shows at h.2).0 in cc)
+  | inr runs ↦ runs_open old new h.0.returning h.0.command _ _ count (rw runs at h.2) is
+]
 executes_open sql params old new (Err e) h is = left_open old new (executes_left sql params old new e h) is
 
 shows_open : (old new : State) (sql : List ℕ) (c : Compiled) (params : Row) (rows : List Row) (returning : Option Returning) → ShowsRows old new sql c params rows returning → IsTrue new.is_open → IsTrue old.is_open
@@ -194,8 +194,7 @@ appends old new count entry rests next ran =
     let w = runs_as insert_text (values_of (row_of entry)) old new history_schema schema insert_command insert_is insert_plain count ran in
     let does = subst (λ db. Does old.step_limit (mode_of old) (values_of (row_of entry)) db (statement_of insert_text (understood history_schema insert_text)) None insert_command (Ok (w.tally, new.now))) rests.settled w.changed in
     let more = does_more old.step_limit (mode_of old) (statement_of insert_text (understood history_schema insert_text)) w.tally old.committed new.now entry rests.history next does in
-    let committed : new.committed ≡ new.now = w.shown.committed_is ∙ ap (λ busy. cond busy old.committed new.now) rests.autocommit in
-    (
+    let committed : new.committed ≡ new.now = w.shown.committed_is ∙ ap (λ busy. cond busy old.committed new.now) rests.autocommit in (
       record { autocommit = w.shown.mode ∙ rests.autocommit; settled = sym committed; sound = subst IsDatabase (sym committed) w.sound; history = subst HasHistory (sym committed) more.0 },
       ap (λ (db : Database). entries_of db.schema db.trees) committed ∙ more.1,
     )
@@ -229,15 +228,13 @@ prepares old new count (inl none) clean autocommit sound ran =
     let made = creates old.step_limit (mode_of old) [] old.now new.now w.tally none does in
     let committed : new.committed ≡ new.now = w.shown.committed_is ∙ ap (λ busy. cond busy old.committed new.now) autocommit in
     let history : HasHistory new.now = record { schema = made.0; rows = []; are = made.1; order = record { rise = tt; low = tt } } in
-    let before : entries_of old.committed.schema old.committed.trees ≡ [] = ap (λ (db : Database). entries_of db.schema db.trees) (sym clean) ∙ ap (λ schema. entries_of schema old.now.trees) none ∙ no_entries old.now.trees in
-    (
+    let before : entries_of old.committed.schema old.committed.trees ≡ [] = ap (λ (db : Database). entries_of db.schema db.trees) (sym clean) ∙ ap (λ schema. entries_of schema old.now.trees) none ∙ no_entries old.now.trees in (
       record { autocommit = w.shown.mode ∙ autocommit; settled = sym committed; sound = subst IsDatabase (sym committed) w.sound; history = subst HasHistory (sym committed) history },
       ap (λ (db : Database). entries_of db.schema db.trees) committed ∙ kept_is new.now history ∙ sym before,
     )
 prepares old new count (inr has) clean autocommit sound ran =
     let same = runs_as create_text [] old new history_schema has.schema Nothing made_is made_plain count ran in
-    let rests : Rests old = record { autocommit = autocommit; settled = clean; sound = sound; history = subst HasHistory clean has } in
-    (
+    let rests : Rests old = record { autocommit = autocommit; settled = clean; sound = sound; history = subst HasHistory clean has } in (
       rests_with old new rests (same.0.0.mode ∙ autocommit) (same.0.0.now_is ∙ clean) same.0.0.committed_is,
       ap (λ (db : Database). entries_of db.schema db.trees) same.0.0.committed_is,
     )

@@ -28,7 +28,6 @@ pub made_is : command_of (understood history_schema create_text) ≡ Nothing
 unfolding understood everything
 made_is = refl
 
-
 abbrev pub given : List Term
 given = col 0 0 ∷ lit Null ∷ col 0 1 ∷ col 0 2 ∷ col 0 3 ∷ col 0 4 ∷ []
 
