@@ -17,7 +17,9 @@ use Rattle.hippo_sqlite.specs.Tables.{HistoryRow, stored_row, entries_in, AreInO
 
 -- the entries in a database: those of its table `history`, or none where it has no such table
 abbrev pub entries_of : Schema → Trees → Store
-entries_of schema trees = option_map_or (λ table. entries_in (trees table.tree)) (find (λ table. same_name table.name (codes "history")) schema.tables) []
+entries_of schema trees =
+    option_map_or (λ table. entries_in (trees table.tree))
+    (find (λ table. same_name table.name (codes "history")) schema.tables) []
 
 -- the trees are those of a database with these entries
 abbrev pub IsKeptIn : Trees → Store → Type 0
@@ -54,7 +56,8 @@ contents g now told opened = record {
   tells = HasCleanDisk (state g now) × IsTrue (state g told).is_open × StartsWell (state g opened).now;
   kept = entries_of (state g told).committed.schema (state g told).committed.trees;
   survives = λ entries. (trees : Trees) × (state g now).may_leave trees × IsKeptIn trees entries;
-  rests = (told ≡ now) × (HasCleanDisk (state g now) → IsTrue (state g now).is_open → StartsWell (state g opened).now → Rests (state g now));
+  rests = (told ≡ now) × (HasCleanDisk (state g now) → IsTrue (state g now).is_open → StartsWell (state g opened).now
+      → Rests (state g now));
 }
 
 -- where there is no connection, nothing is kept
@@ -77,13 +80,16 @@ pub record GoesOn {A : Type 0} (result : Result A KeeperFault) (old new : Conten
   pub told : new.tells → old.tells
   pub rests : has_failed result ≡ false → new.rests
 
--- an append puts one entry behind what is kept; where it fails a stop may leave it or not, and where memory is short it does nothing
-pub record AppendsTo {A : Type 0} (entry : StoredEntry) (result : Result A KeeperFault) (old new : Contents) : Type 0 where
+-- an append puts one entry behind what is kept; where it fails, a stop may leave it or not, and where memory is short
+-- it does nothing
+pub record AppendsTo {A : Type 0} (entry : StoredEntry) (result : Result A KeeperFault)
+    (old new : Contents) : Type 0 where
   pub on : GoesOn result old new
   pub longer : OnOk result (new.tells → new.kept ≡ old.kept ++ entry ∷ [])
   pub only : OnOk result (new.tells → OnlyKept new)
   pub kept : has_failed result ≡ true → new.kept ≡ old.kept
-  pub stop : has_failed result ≡ true → new.tells → (entries : Store) → new.survives entries → old.survives entries ⊎ (entries ≡ old.kept ++ entry ∷ [])
+  pub stop : has_failed result ≡ true → new.tells → (entries : Store) → new.survives entries
+      → old.survives entries ⊎ (entries ≡ old.kept ++ entry ∷ [])
   pub memory : wants_memory result ≡ true → new.tells → IsSame old new
 
 -- a read changes nothing that is kept

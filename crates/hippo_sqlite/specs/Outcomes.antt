@@ -14,13 +14,16 @@ answered (Ok count) = Ok tt
 answered (Err e) = Err (fault_named e)
 
 -- a statement was run, and its outcome is answered so
-pub record HasExecuted (text : List ℕ) (params : Row) (result : Result (Unit {0}) KeeperFault) (old new : State) : Type 0 where
-  pub ran : HasCleanDisk new → (outcome : Result ℕ Error) × Executes text params old new outcome × (result ≡ answered outcome)
+pub record HasExecuted (text : List ℕ) (params : Row) (result : Result (Unit {0}) KeeperFault)
+    (old new : State) : Type 0 where
+  pub ran : HasCleanDisk new
+      → (outcome : Result ℕ Error) × Executes text params old new outcome × (result ≡ answered outcome)
   pub survives : Survives old new (CommitsBy text params old)
 
 -- a query showed rows, or failed
 abbrev pub HasLooked : List ℕ → Row → State → State → Type 0
-HasLooked text params old new = ((rows : List Row) × Shown text params old new rows) ⊎ ((e : Error) × FailsToQuery text params old new e)
+HasLooked text params old new =
+    ((rows : List Row) × Shown text params old new rows) ⊎ ((e : Error) × FailsToQuery text params old new e)
 
 -- a connection that was opened so has the table of the history, and keeps what was found
 pub record IsLinked (opened : State) (it : Contents) : Type 0 where

@@ -51,7 +51,8 @@ seen standing used finds contents = record {
   survives = contents.survives;
   finds = finds;
   faults = standing.faults;
-  sound = (standing.started ≡ false → standing.closed ≡ false → standing.spent ≡ false → (used ≡ false) × contents.tells)
+  sound = (standing.started ≡ false → standing.closed ≡ false → standing.spent ≡ false
+      → (used ≡ false) × contents.tells)
       × (standing.spent ≡ false → contents.rests);
 }
 

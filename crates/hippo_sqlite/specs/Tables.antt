@@ -21,15 +21,17 @@ use Rattle.sqlite_schema.specs.declared.schema.Kind.{Kind}
 use Rattle.sqlite_schema.specs.declared.schema.Kind.TheVariants.{Integer, Text, Blob}
 
 abbrev pub needed : List ℕ → Kind → Column
-needed name kind = record { name = name; kind = kind; is_strict = true; not_null = true; default = Null; collation = Binary }
+needed name kind =
+    record { name = name; kind = kind; is_strict = true; not_null = true; default = Null; collation = Binary }
 
 -- the table that the keeper makes in a store with no other
 abbrev pub history_table : Table
 history_table = record {
   name = codes "history";
   tree = 0;
-  columns = record { name = codes "seq"; kind = Integer; is_strict = true; not_null = false; default = Null; collation = Binary }
-      ∷ needed (codes "moment") Integer ∷ needed (codes "kind") Integer ∷ needed (codes "tbl") Text ∷ needed (codes "body") Blob ∷ [];
+  columns = record (needed (codes "seq") Integer) { not_null = false }
+      ∷ needed (codes "moment") Integer ∷ needed (codes "kind") Integer ∷ needed (codes "tbl") Text
+      ∷ needed (codes "body") Blob ∷ [];
   key = Some 0;
   primary = 0 ∷ [];
   uniques = [];
@@ -69,7 +71,13 @@ stored_row row = Int row.number ∷ Null ∷ Int row.moment ∷ Int row.kind ∷
 
 -- the row of an entry
 abbrev pub row_of : StoredEntry → HistoryRow
-row_of entry = record { number = pos entry.seq; moment = entry.moment; kind = pos entry.kind; table = entry.table; body = entry.body }
+row_of entry = record {
+  number = pos entry.seq;
+  moment = entry.moment;
+  kind = pos entry.kind;
+  table = entry.table;
+  body = entry.body;
+}
 
 -- a kind is from 0 to 255, and any other number is read as 0
 abbrev pub kind_in : Value → ℕ

@@ -100,7 +100,8 @@ fn kind_of(kind: i64) -> u8
 // The entry of a row with a number; none where the row has another shape.
 fn entry_of(alloc: Global, number: u64, row: &Row) -> Result<Option<StoredEntry>, RowFault>
     ensures numbered { IfOk result (λ found. IfSome found (λ entry. entry.seq ≡ number)) }
-    ensures told { IfOk result (λ found. (written : HistoryRow) → row.now ≡ shown_row written → number ≡ number_in (Int written.number)
+    ensures told { IfOk result (λ found. (written : HistoryRow) → row.now ≡ shown_row written
+        → number ≡ number_in (Int written.number)
         → found ≡ Some (entry_in (stored_row written))) }
 {
     let (Some(moment), Some(kind)) = (integer_at(row, 1), integer_at(row, 2)) else {
@@ -131,7 +132,8 @@ pub(crate) fn entries_of(
 ) -> Result<StoredList, RowFault>
     ensures few { IfOk result (λ list. length list ≤ max) }
     ensures order { IfOk result (RisesAbove after) }
-    ensures told { IfOk result (λ list. (written : List HistoryRow) → rows.now ≡ map shown_row written → AreAbove (pos after) written
+    ensures told { IfOk result (λ list. (written : List HistoryRow) → rows.now ≡ map shown_row written
+        → AreAbove (pos after) written
         → length written ≤ max → list ≡ map (λ row. entry_in (stored_row row)) written) }
 {
     let mut list = StoredList::new(alloc);

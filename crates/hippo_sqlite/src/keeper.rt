@@ -46,7 +46,8 @@ impl<O: Opener> SqliteKeeper<O> {
         requires { O.used self.old.opener ≡ false }
         ensures standing { self.new.standing ≡ self.old.standing }
         ensures link { self.new.link ≡ self.old.link }
-        ensures started { IfOk result (λ link. IsStarted (finds_by (O.finds self.old.opener) name.now) (link_contents O.Base.Store link)) }
+        ensures started { IfOk result (λ link. IsStarted (finds_by (O.finds self.old.opener) name.now)
+            (link_contents O.Base.Store link)) }
     {
         if name.is_empty() {
             return Link::in_memory(alloc);
@@ -59,7 +60,8 @@ impl<O: Opener> SqliteKeeper<O> {
     fn join(&mut self, alloc: Global, name: &str) -> Result<(), KeeperFault>
         requires { O.used self.old.opener ≡ false }
         ensures standing { self.new.standing ≡ self.old.standing }
-        ensures started { OnOk result (IsStarted (finds_by (O.finds self.old.opener) name.now) (link_contents O.Base.Store self.new.link)) }
+        ensures started { OnOk result (IsStarted (finds_by (O.finds self.old.opener) name.now)
+            (link_contents O.Base.Store self.new.link)) }
         ensures kept { OnErr result (self.new.link ≡ self.old.link) }
     {
         self.link = self.connect(alloc, name)?;
@@ -78,7 +80,8 @@ impl<O: Opener> SqliteKeeper<O> {
         requires rests { (link_contents O.Base.Store self.old.link).rests }
         ensures few { IfOk result (λ list. length list ≤ max) }
         ensures order { IfOk result (RisesAbove after) }
-        ensures looks { LooksAt result (link_contents O.Base.Store self.old.link) (link_contents O.Base.Store self.new.link) }
+        ensures looks { LooksAt result (link_contents O.Base.Store self.old.link)
+            (link_contents O.Base.Store self.new.link) }
         ensures told { IfOk result (λ list. (link_contents O.Base.Store self.new.link).tells
             → list ≡ handed_over (test_of question.now) after max (link_contents O.Base.Store self.old.link).kept) }
         ensures counted { self.new.standing ≡ after_answer result self.old.standing }
@@ -91,7 +94,8 @@ impl<O: Opener> SqliteKeeper<O> {
 }
 
 impl<O: Opener> Keeper for SqliteKeeper<O> {
-    ghost state = { λ keeper. seen keeper.standing (O.used keeper.opener) (finds_by (O.finds keeper.opener)) (link_contents O.Base.Store keeper.link) };
+    ghost state = { λ keeper. seen keeper.standing (O.used keeper.opener) (finds_by (O.finds keeper.opener))
+        (link_contents O.Base.Store keeper.link) };
 
     fn start(&mut self, alloc: Global, name: &str) -> Result<(), KeeperFault> {
         let answer = self.join(alloc, name);

@@ -88,7 +88,8 @@ fn find<S: Alter>(
 impl<S: Alter + Drop> Linked<S> {
     /// The store of a new connection, where the table of the history is made if there is none.
     fn new(mut connection: Connection<S>) -> Result<Linked<S>, KeeperFault>
-        requires { HasCleanDisk (state S.Store connection) → Opens (state S.Store connection) × IsLive (state S.Store connection) }
+        requires { HasCleanDisk (state S.Store connection)
+            → Opens (state S.Store connection) × IsLive (state S.Store connection) }
         ensures { IfOk result (λ it. IsLinked (state S.Store connection) (linked_contents S.Store it)) }
     {
         let opened = Snapshot::of(&connection);
@@ -105,7 +106,8 @@ impl<S: Alter + Drop> Linked<S> {
     // Notes how the connection is, unless the call failed.
     fn note<T>(&mut self, answer: &Result<T, KeeperFault>)
         ensures connection { self.new.connection ≡ self.old.connection }
-        ensures told { self.new.told.value ≡ if has_failed answer.now then self.old.told.value else self.old.connection }
+        ensures told { self.new.told.value
+            ≡ if has_failed answer.now then self.old.told.value else self.old.connection }
         ensures opened { self.new.opened ≡ self.old.opened }
     {
         if let Err(KeeperFault::Failed) = answer {
@@ -118,7 +120,8 @@ impl<S: Alter + Drop> Linked<S> {
     fn append(&mut self, entry: &StoredEntry) -> Result<(), KeeperFault>
         requires number { entry.now.seq < 2 ^ 63 }
         requires rests { (linked_contents S.Store self.old).rests }
-        requires next { (linked_contents S.Store self.old).tells → entry.now.seq ≡ next_number (linked_contents S.Store self.old).kept }
+        requires next { (linked_contents S.Store self.old).tells
+            → entry.now.seq ≡ next_number (linked_contents S.Store self.old).kept }
         ensures { AppendsTo entry.now result (linked_contents S.Store self.old) (linked_contents S.Store self.new) }
     {
         let answer = keep(&mut self.connection, entry);
@@ -167,7 +170,8 @@ impl<S: Alter + Drop> Link<S> {
 
     /// The store of a connection, where the table of the history is made if there is none.
     pub(crate) fn opened(connection: Connection<S>) -> Result<Link<S>, KeeperFault>
-        requires { HasCleanDisk (state S.Store connection) → Opens (state S.Store connection) × IsLive (state S.Store connection) }
+        requires { HasCleanDisk (state S.Store connection)
+            → Opens (state S.Store connection) × IsLive (state S.Store connection) }
         ensures { IfOk result (λ link. IsLinked (state S.Store connection) (link_contents S.Store link)) }
     {
         match Linked::new(connection) {
@@ -180,7 +184,8 @@ impl<S: Alter + Drop> Link<S> {
     pub(crate) fn append(&mut self, entry: &StoredEntry) -> Result<(), KeeperFault>
         requires number { entry.now.seq < 2 ^ 63 }
         requires rests { (link_contents S.Store self.old).rests }
-        requires next { (link_contents S.Store self.old).tells → entry.now.seq ≡ next_number (link_contents S.Store self.old).kept }
+        requires next { (link_contents S.Store self.old).tells
+            → entry.now.seq ≡ next_number (link_contents S.Store self.old).kept }
         ensures { AppendsTo entry.now result (link_contents S.Store self.old) (link_contents S.Store self.new) }
     {
         match self {

@@ -39,7 +39,8 @@ pub(crate) fn insert<S: Alter>(
 ) -> Result<usize, Error>
     requires { entry.now.seq < 2 ^ 63 }
     ensures runs { HasCleanDisk (state S.Store connection.new)
-        → Executes insert_text (values_of (row_of entry.now)) (state S.Store connection.old) (state S.Store connection.new) result }
+        → Executes insert_text (values_of (row_of entry.now))
+        (state S.Store connection.old) (state S.Store connection.new) result }
     ensures survives { Survives (state S.Store connection.old) (state S.Store connection.new)
         (CommitsBy insert_text (values_of (row_of entry.now)) (state S.Store connection.old)) }
     ensures kind { entry.now.kind < 256 }
@@ -64,9 +65,11 @@ fn select_all<S: Alter>(
 ) -> Result<Vec<Row>, Error>
     requires above { after < 2 ^ 63 }
     requires limit { max < 2 ^ 63 }
-    ensures ok { HasCleanDisk (state S.Store connection.new) → IfOk result (λ rows. Shown (text_of Question.All) (params_of Question.All after max)
+    ensures ok { HasCleanDisk (state S.Store connection.new)
+        → IfOk result (λ rows. Shown (text_of Question.All) (params_of Question.All after max)
         (state S.Store connection.old) (state S.Store connection.new) rows.items) }
-    ensures err { HasCleanDisk (state S.Store connection.new) → IfErr result (FailsToQuery (text_of Question.All) (params_of Question.All after max)
+    ensures err { HasCleanDisk (state S.Store connection.new)
+        → IfErr result (FailsToQuery (text_of Question.All) (params_of Question.All after max)
         (state S.Store connection.old) (state S.Store connection.new)) }
     ensures survives { Survives (state S.Store connection.old) (state S.Store connection.new)
         (CommitsShowing (text_of Question.All) (params_of Question.All after max) (state S.Store connection.old)) }
@@ -86,9 +89,11 @@ fn select_backlog<S: Alter>(
 ) -> Result<Vec<Row>, Error>
     requires above { after < 2 ^ 63 }
     requires limit { max < 2 ^ 63 }
-    ensures ok { HasCleanDisk (state S.Store connection.new) → IfOk result (λ rows. Shown backlog_text (versions_params table.now after max)
+    ensures ok { HasCleanDisk (state S.Store connection.new)
+        → IfOk result (λ rows. Shown backlog_text (versions_params table.now after max)
         (state S.Store connection.old) (state S.Store connection.new) rows.items) }
-    ensures err { HasCleanDisk (state S.Store connection.new) → IfErr result (FailsToQuery backlog_text (versions_params table.now after max)
+    ensures err { HasCleanDisk (state S.Store connection.new)
+        → IfErr result (FailsToQuery backlog_text (versions_params table.now after max)
         (state S.Store connection.old) (state S.Store connection.new)) }
     ensures survives { Survives (state S.Store connection.old) (state S.Store connection.new)
         (CommitsShowing backlog_text (versions_params table.now after max) (state S.Store connection.old)) }
@@ -109,9 +114,11 @@ fn select_asked<S: Alter>(
 ) -> Result<Vec<Row>, Error>
     requires above { after < 2 ^ 63 }
     requires limit { max < 2 ^ 63 }
-    ensures ok { HasCleanDisk (state S.Store connection.new) → IfOk result (λ rows. Shown asked_text (asked_params from.now to.now after max)
+    ensures ok { HasCleanDisk (state S.Store connection.new)
+        → IfOk result (λ rows. Shown asked_text (asked_params from.now to.now after max)
         (state S.Store connection.old) (state S.Store connection.new) rows.items) }
-    ensures err { HasCleanDisk (state S.Store connection.new) → IfErr result (FailsToQuery asked_text (asked_params from.now to.now after max)
+    ensures err { HasCleanDisk (state S.Store connection.new)
+        → IfErr result (FailsToQuery asked_text (asked_params from.now to.now after max)
         (state S.Store connection.old) (state S.Store connection.new)) }
     ensures survives { Survives (state S.Store connection.old) (state S.Store connection.new)
         (CommitsShowing asked_text (asked_params from.now to.now after max) (state S.Store connection.old)) }
@@ -131,9 +138,11 @@ pub(crate) fn select<S: Alter>(
 ) -> Result<Vec<Row>, Error>
     requires above { after < 2 ^ 63 }
     requires limit { max < 2 ^ 63 }
-    ensures ok { HasCleanDisk (state S.Store connection.new) → IfOk result (λ rows. Shown (text_of question.now) (params_of question.now after max)
+    ensures ok { HasCleanDisk (state S.Store connection.new)
+        → IfOk result (λ rows. Shown (text_of question.now) (params_of question.now after max)
         (state S.Store connection.old) (state S.Store connection.new) rows.items) }
-    ensures err { HasCleanDisk (state S.Store connection.new) → IfErr result (FailsToQuery (text_of question.now) (params_of question.now after max)
+    ensures err { HasCleanDisk (state S.Store connection.new)
+        → IfErr result (FailsToQuery (text_of question.now) (params_of question.now after max)
         (state S.Store connection.old) (state S.Store connection.new)) }
     ensures survives { Survives (state S.Store connection.old) (state S.Store connection.new)
         (CommitsShowing (text_of question.now) (params_of question.now after max) (state S.Store connection.old)) }
