@@ -109,8 +109,18 @@ fn join_best(
 {
     match out {
         Out::Column(_) => Ok(()),
-        Out::Min(place) => lower(alloc, best, value_at(row, place).unwrap_or(&Value::Null), places),
-        Out::Max(place) => raise(alloc, best, value_at(row, place).unwrap_or(&Value::Null), places),
+        Out::Min(place) => lower(
+            alloc,
+            best,
+            value_at(row, place).unwrap_or(&Value::Null),
+            places,
+        ),
+        Out::Max(place) => raise(
+            alloc,
+            best,
+            value_at(row, place).unwrap_or(&Value::Null),
+            places,
+        ),
     }
 }
 
