@@ -9,15 +9,19 @@ use Rattle.hippo_model.specs.declared.audit.Flag.{Flag}
 use Rattle.hippo_model.specs.Terms.{History}
 use Rattle.hippo_model.specs.StoredForms.{stored}
 use Rattle.hippo_model.specs.Audits.{flag_of, flags_between}
-use Rattle.hippo_keeper.specs.Keeping.{KeeperState, IsReady}
+use Rattle.hippo_keeper.specs.Keeping.{Store, KeeperState, IsReady, last_number}
+use Rattle.hippo_keeper.proofs.RisingLemmas.{RisesAbove-lower}
 use Rattle.hippo_typing.specs.Meanings.{meaning}
 use Rattle.hippo_backlog.specs.declared.faults.ReadFault.{ReadFault}
 use Rattle.hippo_backlog.specs.declared.faults.ReadFault.TheVariants.{Keeper, Damaged}
 use Rattle.hippo_backlog.specs.Calls.{as_call}
+use Rattle.hippo_backlog.specs.ReadingAhead.{ReadAhead}
+use Rattle.hippo_backlog.proofs.NumberLemmas.{last-higher}
 use Rattle.hippo_backlog.proofs.CallLemmas.{KeepsSame-here, KeepsSame-then, IsAfterCall-none, IsAfterCall-then, as_call-unfailed}
 use Rattle.hippo_audit_job.specs.declared.jobs.Job.{Job}
 use Rattle.hippo_audit_job.specs.declared.past.Past.{Past}
 use Rattle.hippo_audit_job.specs.Examining.{IsPastOf, Examination}
+use Rattle.hippo_audit_job.specs.Looking.{ReadsAhead}
 use Rattle.hippo_audit_job.specs.Jobs.{IsSound, JobFits, LooksOn}
 use Rattle.hippo_audit_job.proofs.CountLemmas.{RisesWith-none, RisesWith-then}
 
@@ -99,4 +103,46 @@ module _ {X : Type 0} (terms : Examination X) (upto : ℕ) (past : Past) where
                   ∙ ap (λ (l : List Flag). old.waiting ++ l) (sym (flags_parted history old.audit old.place mid.place new.place forward further));
               undamaged = more.undamaged;
             };
+      }
+
+  -- at the same numbers, where questions of the period are read ahead
+  pub LooksOn-read : {A : Type 0} (job : Job X) (result : Result A ReadFault) (questions : ReadAhead) (before after : KeeperState) (steps : ℕ) → IsSound terms job → job.place ≤ upto → job.questions.waiting ≡ []
+      → ReadsAhead job.audit job.length result job.questions questions before after → LooksOn terms upto past result job (record job { questions = questions }) before after steps steps
+  LooksOn-read job result questions before after steps sound within used reads =
+      let here : job.place ≤ job.questions.reached = subst (λ (s : Store). last_number job.place s ≤ job.questions.reached) used sound.read in
+      let last = last-higher job.place job.questions.reached questions.waiting here in
+      let read = reads.last in
+      record {
+        moves = record {
+          is_after = reads.is_after;
+          stays = reads.stays;
+          is_sound = sound.examiner_is;
+          limit = sound.asked;
+          ledger = RisesWith-none (terms.handed job.examiner) steps;
+        };
+        is_sound = record {
+          tables = sound.tables;
+          within = sound.within;
+          counted = sound.counted;
+          read = omega (arith, last, read);
+          ahead = RisesAbove-lower job.place job.questions.reached questions.waiting here reads.order;
+          examiner_is = sound.examiner_is;
+          asked = sound.asked;
+        };
+        same_audit = refl;
+        same_length = refl;
+        forward = omega arith;
+        limit = within;
+        told = λ tells history kept stands fits. record {
+          fits_still = record {
+            begun = fits.begun;
+            audit_is = fits.audit_is;
+            flags = fits.flags;
+            split = reads.told tells history (record { forms = kept; valid = stands.valid }) fits.begun job.place fits.split;
+            examiner_fits = fits.examiner_fits;
+            once = fits.once;
+          };
+          flags = sym (append-nil job.waiting) ∙ ap (λ (l : List Flag). job.waiting ++ l) (sym (flags_none history job.audit job.place));
+          undamaged = reads.undamaged;
+        };
       }

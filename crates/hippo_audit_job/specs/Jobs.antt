@@ -97,6 +97,11 @@ pub record LooksOn {A X : Type 0} (terms : Examination X) (upto : ℕ) (past : P
   pub told : after.tells → (history : History) → map stored history ≡ before.kept → IsPastOf past history
       → JobFits terms old history → LooksOver terms history result old new
 
+-- nothing more was read, and no step ended
+pub record IsAsFar {X : Type 0} (old new : Job X) : Type 0 where
+  pub reached_is : new.questions.reached ≡ old.questions.reached
+  pub unbroken_is : new.unbroken ≡ old.unbroken
+
 -- a step: where it answers Ok, the job has looked at just as many numbers as it was told, or at all that were left
 pub record HasStepped {X : Type 0} (terms : Examination X) (count : ℕ) (past : Past)
     (result : Result (Unit {0}) ReadFault) (old new : Job X) (before after : KeeperState)

@@ -113,7 +113,7 @@ impl<X> Job<X> {
 }
 
 impl<X> Job<X> {
-    ghost use Rattle.hippo_audit_job.specs.Jobs.{with_flag, IsSound, LooksOn, HasStepped};
+    ghost use Rattle.hippo_audit_job.specs.Jobs.{with_flag, IsSound, IsAsFar, LooksOn, HasStepped};
     ghost use Rattle.hippo_backlog.specs.ReadingAhead.{BeginsAbove};
 
     // A flag waits behind the others, and the first question is used.
@@ -150,7 +150,7 @@ impl<X> Job<X> {
             (P.state keeper.old) (P.state keeper.new) steps.old steps.new }
         ensures past { result ≡ Ok false → BeginsAbove upto self.new.questions.waiting }
         ensures fewer { result ≡ Ok true → length self.new.questions.waiting < length self.old.questions.waiting }
-        ensures unbroken { self.new.unbroken ≡ self.old.unbroken }
+        ensures others { IsAsFar self.old self.new }
     {
         let Some(kept) = self.questions.first() else {
             return Ok(false);
@@ -187,7 +187,7 @@ impl<X> Job<X> {
         ensures looks { LooksOn X.terms upto past.now result self.old self.new
             (P.state keeper.old) (P.state keeper.new) steps.old steps.new }
         ensures past { OnOk result (BeginsAbove upto self.new.questions.waiting) }
-        ensures unbroken { self.new.unbroken ≡ self.old.unbroken }
+        ensures others { IsAsFar self.old self.new }
     {
         loop {
             match self.look_at_first(keeper, alloc, upto, past, steps) {

@@ -1,11 +1,11 @@
 -- Tables that are brought forward, call by call.
 use Rattle.std.proofs.Common.{◌≡◌, ◌≢◌, ◌∙◌, sym, ap, refl, subst, arith, ℕ, ◌+◌, ◌<◌, ◌≤◌, Bool, true, false, cond, not, List, [], ◌∷◌, ◌++◌, map, length, Option, None, Some, option_map, Result, Ok, Err}
 use Rattle.std.specs.Prelude.{slice_get, slice_set, slice_index_or, bytes_eq, is_some, OnOk, nat_eq}
-use Rattle.std.specs.List.{AllByRecursion, IsDistinct, position_or_len, sum_by}
+use Rattle.std.specs.List.{IsDistinct, position_or_len}
 use Rattle.std.proofs.lemmas.List.{map-append}
-use Rattle.std.proofs.lemmas.List.Folds.{find_at, position_or_len_push, position_or_len-set}
+use Rattle.std.proofs.lemmas.List.Folds.{find_at, position_or_len_push}
 use Rattle.std.proofs.lemmas.List.Sums.{passes_at_first, sum_by_push, prefix_len-le-length}
-use Rattle.std.proofs.lemmas.Option.{none-some, same_Some, slice_get-get_or, slice_get_past, get_or_from_slice_get}
+use Rattle.std.proofs.lemmas.Option.{slice_get-get_or, slice_get_past, get_or_from_slice_get}
 use Rattle.std.proofs.lemmas.Slice.Eq.{bytes_eq-Decides}
 use Rattle.hippo_values.specs.declared.names.Name.{Name}
 use Rattle.hippo_model.specs.declared.schema.Schema.{Schema}
@@ -15,7 +15,7 @@ use Rattle.hippo_model.specs.Stores.{IsStoreOf}
 use Rattle.hippo_model.specs.StoredForms.{stored}
 use Rattle.hippo_keeper.specs.Answering.{has_failed}
 use Rattle.hippo_keeper.specs.Keeping.{KeeperState, IsReady}
-use Rattle.hippo_catalog.specs.Catalogs.{KnownNames, known_at, table_of}
+use Rattle.hippo_catalog.specs.Catalogs.{KnownNames, table_of}
 use Rattle.hippo_typing.specs.Meanings.{meaning}
 use Rattle.hippo_typing.proofs.CatalogTheorem.{valid_names}
 use Rattle.hippo_rewrite.proofs.FittingRows.{schema_named}
@@ -27,8 +27,8 @@ use Rattle.hippo_intervals.specs.Living.{HeldLives, no_lives, taken_by, LivesFit
 use Rattle.hippo_intervals.proofs.LivesLemmas.{LivesFit-first}
 use Rattle.hippo_audit_job.specs.declared.past.Past.{Past}
 use Rattle.hippo_audit_job.specs.Examining.{IsPastOf}
-use Rattle.hippo_combine.specs.Held.{lives_of, place_held, AreHeldAt, AreUpTo, all_taken, TablesFit}
-use Rattle.hippo_combine.specs.Bringing.{with_table, IsPlaceOf, AreKnown, Brings}
+use Rattle.hippo_combine.specs.Held.{lives_of, place_held, AreHeldAt, all_taken, TablesFit}
+use Rattle.hippo_combine.specs.Bringing.{with_table, IsPlaceOf, Brings}
 use Rattle.hippo_combine.proofs.HeldLemmas.{all-set, all-push, all-at, sum-set, name_of, names-set, others-differ, apart-push, lives_of-set, held-set, held-push}
 
 -- ---- the place of a table
@@ -59,11 +59,13 @@ module _ (schema : Schema) where
       let missing = find_at (has_name schema.name) tables ∙ ap (slice_get tables) (sym is) ∙ slice_get_past tables place (omega (arith, end)) in
       let at_end : first_place tables ≡ length tables = sym is ∙ end in
       let named : bytes_eq schema.name schema.name ≡ true = (bytes_eq-Decides schema.name schema.name).1 refl in
-      let longer = length-one_more tables in
-      (ap (λ (there : Bool). cond there tables (tables ++ no_lives schema ∷ [])) (ap is_some missing), record {
-        first = end ∙ sym (position_or_len_push (has_name schema.name) tables (no_lives schema) ∙ pushed (first_place tables) (length tables) at_end (bytes_eq schema.name schema.name) named);
-        within = omega (arith, end, longer);
-      })
+      let longer = length-one_more tables in (
+        ap (λ (there : Bool). cond there tables (tables ++ no_lives schema ∷ [])) (ap is_some missing),
+        record {
+          first = end ∙ sym (position_or_len_push (has_name schema.name) tables (no_lives schema) ∙ pushed (first_place tables) (length tables) at_end (bytes_eq schema.name schema.name) named);
+          within = omega (arith, end, longer);
+        },
+      )
     where
       pushed : (first count : ℕ) → first ≡ count → (test : Bool) → test ≡ true → cond (nat_eq first count) (count + cond test 0 1) first ≡ count
       pushed first count is test passes = rw passes (elim (nat_eq first count) as (λ same. cond same (count + 0) first ≡ count) [

@@ -1,5 +1,5 @@
 -- From tables that are brought forward, and what is shared over them, to what examining a question does.
-use Rattle.std.proofs.Common.{◌≡◌, ◌≢◌, ◌⊎◌, inl, inr, ◌∙◌, sym, ap, refl, subst, arith, ℕ, ◌+◌, ◌<◌, ◌≤◌, le_refl, Bool, true, false, ◌&&◌, List, [], ◌∷◌, map, filter_map, length, take, Option, None, Some, option_map, Result, Ok, Err}
+use Rattle.std.proofs.Common.{◌≡◌, ◌≢◌, ◌⊎◌, inl, inr, ◌∙◌, sym, ap, refl, subst, arith, ℕ, ◌+◌, ◌<◌, ◌≤◌, true, false, ◌&&◌, List, [], map, filter_map, length, take, Option, None, Some, option_map, Result, Ok, Err}
 use Rattle.std.specs.Prelude.{◌-◌, ℤ, IfOk, IfErr, is_some, bytes_eq}
 use Rattle.std.specs.List.{AllByRecursion, IsDistinct}
 use Rattle.std.proofs.lemmas.Bool.{and_parts}
@@ -14,7 +14,7 @@ use Rattle.hippo_model.specs.declared.policy.TableRules.{TableRules}
 use Rattle.hippo_model.specs.declared.query.Query.{Query}
 use Rattle.hippo_model.specs.declared.schema.Schema.{Schema}
 use Rattle.hippo_model.specs.Columns.{names_all}
-use Rattle.hippo_model.specs.Histories.{before_entry, schema_at}
+use Rattle.hippo_model.specs.Histories.{schema_at}
 use Rattle.hippo_model.specs.Masking.{Choices}
 use Rattle.hippo_model.specs.Rules.{choice_at}
 use Rattle.hippo_model.specs.RowSets.{KeyedRows}
@@ -22,7 +22,6 @@ use Rattle.hippo_model.specs.StoredForms.{stored}
 use Rattle.hippo_model.specs.Terms.{History}
 use Rattle.hippo_model.specs.Validity.{is_valid}
 use Rattle.hippo_model.specs.Verdicts.{Context}
-use Rattle.hippo_model.specs.Versions.{versions}
 use Rattle.hippo_laws.specs.Audits.{StandsIn}
 use Rattle.hippo_laws.proofs.ValidFronts.{entry_has_its_number}
 use Rattle.hippo_keeper.specs.Answering.{has_failed}
@@ -41,10 +40,10 @@ use Rattle.hippo_backlog.proofs.CallLemmas.{err_of, same_Err, as_call-fault, Kee
 use Rattle.hippo_intervals.specs.Living.{HeldLives}
 use Rattle.hippo_audit_job.specs.declared.past.Past.{Past}
 use Rattle.hippo_audit_job.specs.Examining.{IsPastOf, IsAuditOf, first_serving, FindsServing, IsNew, Examines}
-use Rattle.hippo_examining.specs.Examining.{AreThoseOf}
+use Rattle.hippo_examining.specs.Examining.{AreOfHistory}
 use Rattle.hippo_combine.specs.declared.combine.Combine.{Combine}
 use Rattle.hippo_combine.specs.Held.{schema_held, rows_held, have_rows, AreHeldAt, AreUpTo, all_taken, unread, TablesFit}
-use Rattle.hippo_combine.specs.Bringing.{AreKnown, IsNumberBefore, Brings}
+use Rattle.hippo_combine.specs.Bringing.{AreKnown, Brings}
 use Rattle.hippo_combine.specs.Sharing.{HoldsBoth}
 use Rattle.hippo_combine.specs.Combining.{IsSound, combine_terms}
 use Rattle.hippo_combine.proofs.HeldLemmas.{all-from}
@@ -76,7 +75,7 @@ module _ (book : PolicyBook) (tables : List HeldLives) (number : ℕ) (query : Q
     (rows : (have_rows tables audit.tables && have_rows tables query.tables) ≡ true) (schemas : List Schema) (schemas_is : schemas ≡ filter_map (schema_held tables) query.tables) where
   pub those_of : (history : History) → HoldsBoth book tables number history query audit → (context : Context) (rules : List TableRules) (choices : Choices) → rules ≡ rules_at (take number history) context schemas
       → ((subject : ℤ) (item : Name) → choices subject item ≡ choice_at (take number history) subject item)
-      → AreThoseOf meaning (take number history) context query audit rules query_sets audit_sets choices
+      → AreOfHistory meaning (take number history) context query audit rules query_sets audit_sets choices
   those_of history holds context rules choices rules_are choices_are =
       let both = and_parts (have_rows tables audit.tables) (have_rows tables query.tables) rows_there in
       let of_query = stand_so tables number history holds.valid holds.fits query.tables holds.query_held both.1 in
@@ -219,7 +218,7 @@ module _ (past : Past) (audit : Audit) (entry : Entry) (query : Query) (old new 
     finds_by : (tables : List HeldLives) → tables ≡ new.tables.items → names_all query audit ≡ true → (AreKnown past.catalog.now.names audit.tables → AreHeldAt number audit.tables new.tables.items) → (AreKnown past.catalog.now.names query.tables → AreHeldAt number query.tables new.tables.items)
         → (result : Result (Option (List SharedRow)) ReadFault)
         → IfOk result (λ shared. (history : History) → HoldsBoth past.book.now tables number history query audit → (user purpose recipient : Name) (text : Txt) → entry.act ≡ Asked user purpose recipient text
-            → (let context : Context = record { purpose = purpose; recipient = recipient; moment = entry.moment } in shared ≡ first_serving (take number history) context query audit))
+        → (let context : Context = record { purpose = purpose; recipient = recipient; moment = entry.moment } in shared ≡ first_serving (take number history) context query audit))
         → (history : History) → IsPastOf past history → IsAuditOf history audit → TablesFit new.tables.items history → FindsServing history audit entry query result
     finds_by tables same names audit_held query_held (Err fault) shares history its audit_is fits = λ user purpose recipient text is means. tt
     finds_by tables same names audit_held query_held (Ok shared) shares history its audit_is fits = λ user purpose recipient text is means.
@@ -242,13 +241,12 @@ module _ (past : Past) (audit : Audit) (entry : Entry) (query : Query) (old new 
         } in
         shares history (subst (λ (t : List HeldLives). HoldsBoth past.book.now t number history query audit) (sym same) holds) user purpose recipient text is ∙ ap (λ n. first_serving (take n history) context query audit) place
 
-
     -- what is shared over the rows that are held, is found
     pub examines_shared : (value : B) → one ≡ Ok value → (tables : List HeldLives) → tables ≡ new.tables.items → names_all query audit ≡ true
         → (AreKnown past.catalog.now.names audit.tables → AreHeldAt number audit.tables new.tables.items) → (AreKnown past.catalog.now.names query.tables → AreHeldAt number query.tables new.tables.items)
         → (result : Result (Option (List SharedRow)) ReadFault) → IfErr result (λ fault. fault ≡ Memory)
         → IfOk result (λ shared. (history : History) → HoldsBoth past.book.now tables number history query audit → (user purpose recipient : Name) (text : Txt) → entry.act ≡ Asked user purpose recipient text
-            → (let context : Context = record { purpose = purpose; recipient = recipient; moment = entry.moment } in shared ≡ first_serving (take number history) context query audit))
+        → (let context : Context = record { purpose = purpose; recipient = recipient; moment = entry.moment } in shared ≡ first_serving (take number history) context query audit))
         → Examines combine_terms past audit entry query result old new before after s0 s1
     examines_shared value is tables same names audit_held query_held result memory shares =
         examines result (only_memory result memory ∙ sym (unfailed one value is)) (λ place e. absurd (undamaged result memory place e))

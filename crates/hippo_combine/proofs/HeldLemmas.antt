@@ -1,11 +1,10 @@
 -- What is held of tables, with that of one table changed, and with one table more.
-use Rattle.std.proofs.Common.{◌≡◌, ◌∙◌, sym, ap, refl, subst, arith, ℕ, zero, suc, ◌+◌, ◌<◌, ◌≤◌, Bool, true, false, cond, List, [], ◌∷◌, ◌++◌, map, length, Option, None, Some, option_map}
-use Rattle.std.specs.Prelude.{⊤, slice_get, slice_set, bytes_eq}
-use Rattle.std.specs.List.{AllByRecursion, IsDistinct, find, position_or_len, sum_by}
+use Rattle.std.proofs.Common.{◌≡◌, ◌∙◌, sym, ap, refl, subst, arith, ℕ, zero, suc, ◌+◌, ◌<◌, Bool, true, false, cond, List, [], ◌∷◌, ◌++◌, map, length, Option, None, Some, option_map}
+use Rattle.std.specs.Prelude.{slice_get, slice_set, bytes_eq}
+use Rattle.std.specs.List.{AllByRecursion, IsDistinct, position_or_len, sum_by}
 use Rattle.std.specs.Option.{option_or}
-use Rattle.std.proofs.lemmas.Bool.{false≢true}
 use Rattle.std.proofs.lemmas.List.Folds.{find-append, find-set}
-use Rattle.std.proofs.lemmas.List.Sums.{sum_by-cons, sum_by_push}
+use Rattle.std.proofs.lemmas.List.Sums.{sum_by-cons}
 use Rattle.std.proofs.lemmas.Option.{none-some, same_Some}
 use Rattle.hippo_values.specs.declared.names.Name.{Name}
 use Rattle.hippo_model.specs.declared.schema.Schema.{Schema}
@@ -95,12 +94,12 @@ module _ (number : ℕ) (table : Name) (old new : HeldLives) (same : new.schema 
       let one : first ≡ old = same_Some first old at in
       let name : bytes_eq new.schema.name table ≡ bytes_eq first.schema.name table = ap (λ (schema : Schema). bytes_eq schema.name table) same ∙ sym (ap (has_name table) one) in
       let by : (is : Bool) → option_map (λ (lives : HeldLives). lives.versions.place) (cond is (Some first) (lives_of rest table)) ≡ Some number
-          → option_map (λ (lives : HeldLives). lives.versions.place) (cond is (Some new) (lives_of rest table)) ≡ Some number
-          = λ is. elim is as (λ is. option_map (λ (lives : HeldLives). lives.versions.place) (cond is (Some first) (lives_of rest table)) ≡ Some number
-          → option_map (λ (lives : HeldLives). lives.versions.place) (cond is (Some new) (lives_of rest table)) ≡ Some number) [
-            | true ↦ λ e. ap Some (stays (sym (ap (λ (lives : HeldLives). lives.versions.place) one) ∙ same_Some first.versions.place number e))
-            | false ↦ λ e. e
-          ] in
+      → option_map (λ (lives : HeldLives). lives.versions.place) (cond is (Some new) (lives_of rest table)) ≡ Some number
+      = λ is. elim is as (λ is. option_map (λ (lives : HeldLives). lives.versions.place) (cond is (Some first) (lives_of rest table)) ≡ Some number
+      → option_map (λ (lives : HeldLives). lives.versions.place) (cond is (Some new) (lives_of rest table)) ≡ Some number) [
+        | true ↦ λ e. ap Some (stays (sym (ap (λ (lives : HeldLives). lives.versions.place) one) ∙ same_Some first.versions.place number e))
+        | false ↦ λ e. e
+      ] in
       ap (λ (is : Bool). option_map (λ (lives : HeldLives). lives.versions.place) (cond is (Some new) (lives_of rest table))) name ∙ by (has_name table first) held
   place-set (first ∷ rest) (suc place) at held =
       let later = place-set rest place at in

@@ -1,12 +1,12 @@
 -- Tables of a valid history, and of its first entries.
-use Rattle.std.proofs.Common.{◌≡◌, ◌≢◌, ◌∙◌, sym, ap, refl, subst, arith, ℕ, zero, suc, ◌<◌, Bool, true, false, cond, ◌&&◌, ◌||◌, List, [], ◌∷◌, ◌++◌, map, length, take, drop, Option, None, Some, get_or}
+use Rattle.std.proofs.Common.{◌≡◌, ◌≢◌, ◌∙◌, sym, ap, refl, subst, arith, ℕ, zero, suc, ◌<◌, Bool, true, false, ◌&&◌, ◌||◌, List, [], ◌∷◌, ◌++◌, map, length, take, drop, Option, None, Some}
 use Rattle.std.specs.Prelude.{IfSome, is_none, is_some, flat_map, nat_lt, slice_index_or, bytes_eq}
 use Rattle.std.specs.Bool.{then_some}
 use Rattle.std.specs.List.{AllByRecursion, list_any, list_all}
 use Rattle.std.specs.Option.{option_or, option_map_or}
 use Rattle.std.proofs.lemmas.Bool.{and_parts, false≢true}
 use Rattle.std.proofs.lemmas.List.{take-append-drop}
-use Rattle.std.proofs.lemmas.Option.{none-some, same_Some}
+use Rattle.std.proofs.lemmas.Option.{none-some}
 use Rattle.std.proofs.lemmas.Slice.Eq.{bytes_eq-Decides}
 use Rattle.hippo_values.specs.Names.{begins_with_letter}
 use Rattle.hippo_values.specs.Texts.{Txt}
@@ -23,12 +23,12 @@ use Rattle.hippo_model.specs.declared.schema.Schema.{Schema}
 use Rattle.hippo_model.specs.declared.statement.RawSelect.{RawSelect}
 use Rattle.hippo_model.specs.Columns.{named_column, named, same_column, names_all}
 use Rattle.hippo_model.specs.Histories.{created, schema_at}
-use Rattle.hippo_model.specs.Keepable.{act_is_keepable, is_keepable}
+use Rattle.hippo_model.specs.Keepable.{act_is_keepable}
 use Rattle.hippo_model.specs.Rows.{table_rows}
 use Rattle.hippo_model.specs.RowSets.{KeyedRows, kept_at}
 use Rattle.hippo_model.specs.StoredForms.{table_changed}
 use Rattle.hippo_model.specs.Terms.{History, Place}
-use Rattle.hippo_model.specs.Validity.{is_acceptable, may_follow, is_valid, table_passes}
+use Rattle.hippo_model.specs.Validity.{is_acceptable, is_valid, table_passes}
 use Rattle.hippo_model.specs.Versions.{is_version}
 use Rattle.hippo_model.proofs.LastWords.{last_word-append}
 use Rattle.hippo_laws.proofs.ValidFronts.{front_is_valid, holds_of_each_valid}
@@ -147,9 +147,9 @@ pub all_named : (history : History) → is_valid meaning history ≡ true → sc
 all_named history valid =
     holds_of_each_valid meaning (λ h. schema_at h [] ≡ None)
     (λ h entry good so_far may.
-        let keepable = (and_parts _ _ (and_parts _ _ (and_parts _ _ may).0).0).0 in
-        last_word-append (λ (e : Entry). created [] e.act) h entry
-        ∙ ap (λ word. option_or word (schema_at h [])) (nameless entry.act (and_parts _ _ keepable).1) ∙ so_far)
+    let keepable = (and_parts _ _ (and_parts _ _ (and_parts _ _ may).0).0).0 in
+    last_word-append (λ (e : Entry). created [] e.act) h entry
+    ∙ ap (λ word. option_or word (schema_at h [])) (nameless entry.act (and_parts _ _ keepable).1) ∙ so_far)
     refl history valid
 
 or_parts : (first second : Bool) → (first || second) ≡ true → (first ≡ false → second ≡ true)

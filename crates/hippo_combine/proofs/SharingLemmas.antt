@@ -1,7 +1,7 @@
 -- What is held of tables at a place, as the sets and schemas of the history there; and where nothing is shared.
-use Rattle.std.proofs.Common.{◌≡◌, ◌⊎◌, inl, inr, ◌∙◌, sym, ap, refl, subst, arith, ℕ, zero, suc, ◌<◌, Bool, true, false, cond, not, ◌&&◌, List, [], ◌∷◌, ◌++◌, map, filter, filter_map, length, take, Option, None, Some, option_map, get_or}
-use Rattle.std.specs.Prelude.{is_some, find, flat_map, nat_lt, bytes_eq}
-use Rattle.std.specs.List.{All, AllByRecursion, cons_option, list_any, list_all}
+use Rattle.std.proofs.Common.{◌≡◌, ◌⊎◌, inl, inr, ◌∙◌, sym, ap, refl, subst, arith, ℕ, zero, suc, ◌<◌, Bool, true, false, cond, ◌&&◌, List, [], ◌∷◌, ◌++◌, map, filter_map, length, take, Option, None, Some, option_map, get_or}
+use Rattle.std.specs.Prelude.{find, flat_map, nat_lt, bytes_eq}
+use Rattle.std.specs.List.{AllByRecursion, cons_option, list_any}
 use Rattle.std.specs.Option.{option_map_or}
 use Rattle.std.proofs.lemmas.Bool.{and_parts, false≢true}
 use Rattle.std.proofs.lemmas.Bool.Decides.{nat_tests}
@@ -20,15 +20,12 @@ use Rattle.hippo_model.specs.Answers.{product, answer_of, query_answer, audit_an
 use Rattle.hippo_model.specs.Audits.{needs, query_needs, audit_needs, has_tuple, serves}
 use Rattle.hippo_model.specs.Forms.{formed}
 use Rattle.hippo_model.specs.Histories.{schema_at}
-use Rattle.hippo_model.specs.Rows.{table_rows}
 use Rattle.hippo_model.specs.RowSets.{KeyedRows, kept_at}
 use Rattle.hippo_model.specs.Terms.{History, ShownRow}
 use Rattle.hippo_model.specs.Validity.{is_valid}
 use Rattle.hippo_model.specs.Verdicts.{Context}
-use Rattle.hippo_model.specs.Views.{view, view_at, unmasked_at}
+use Rattle.hippo_model.specs.Views.{view_at, unmasked_at}
 use Rattle.hippo_typing.specs.Meanings.{meaning}
-use Rattle.hippo_rewrite.specs.RewritingLaws.{HasTables}
-use Rattle.hippo_rewrite.proofs.FittingRows.{schema_named}
 use Rattle.hippo_shared.specs.Sharing.{common_tables, place_in, rows_named, HaveSameRows}
 use Rattle.hippo_shared.specs.HistoryLaws.{sets_at}
 use Rattle.hippo_shared.proofs.CommonLemmas.{place-found, common-in-query, common-in-audit}
@@ -36,7 +33,6 @@ use Rattle.hippo_intervals.specs.Living.{HeldLives, LivesFit}
 use Rattle.hippo_intervals.proofs.LivesLemmas.{AreThoseOf-fits}
 use Rattle.hippo_audit_job.specs.Examining.{first_serving}
 use Rattle.hippo_combine.specs.Held.{lives_of, schema_held, rows_held, place_held, has_some, have_rows, AreHeldAt, TablesFit}
-use Rattle.hippo_combine.specs.Sharing.{HoldsBoth}
 use Rattle.hippo_combine.proofs.PastLemmas.{front_valid, lasting, no_rows_yet}
 
 abbrev no_set : KeyedRows

@@ -1,5 +1,5 @@
 -- What is taken and what is not read yet are all versions of a history.
-use Rattle.std.proofs.Common.{◌≡◌, ◌∙◌, sym, ap, refl, subst, arith, ℕ, zero, suc, ◌+◌, ◌≤◌, Bool, true, false, cond, not, ◌&&◌, ◌||◌, List, [], ◌∷◌, ◌++◌, map, filter, length, take, zero-add}
+use Rattle.std.proofs.Common.{◌≡◌, ◌∙◌, sym, ap, refl, arith, ℕ, zero, suc, ◌+◌, ◌≤◌, Bool, true, false, cond, not, ◌&&◌, ◌||◌, List, [], ◌∷◌, map, filter, length, take, zero-add}
 use Rattle.std.specs.Prelude.{count_by, nat_le, bytes_eq}
 use Rattle.std.specs.List.{AllByRecursion, IsDistinct}
 use Rattle.std.proofs.lemmas.Bool.{and_parts, false≢true}
@@ -11,7 +11,7 @@ use Rattle.hippo_model.specs.Terms.{History, Meaning}
 use Rattle.hippo_model.specs.StoredForms.{table_changed}
 use Rattle.hippo_model.specs.Validity.{is_valid}
 use Rattle.hippo_model.specs.Versions.{is_version, versions}
-use Rattle.hippo_backlog.specs.Backlogs.{is_version_of, versions_of}
+use Rattle.hippo_backlog.specs.Backlogs.{is_version_of}
 use Rattle.hippo_backlog.proofs.NumberLemmas.{IsNumbered, valid-IsNumbered}
 use Rattle.hippo_intervals.specs.Living.{HeldLives, taken_by, LivesFit}
 use Rattle.hippo_intervals.proofs.LivesLemmas.{AreThoseOf-fits}
@@ -123,9 +123,9 @@ module _ (meaning : Meaning) (history : History) (valid : is_valid meaning histo
   by_tables (lives ∷ rest) apart fits =
       let mine : Entry → Bool = is_reached_by lives in
       let each : (entry : Entry) → one_if (is_version entry.act && not (mine entry || is_reached rest entry)) + one_if (mine entry) ≡ one_if (is_version entry.act && not (is_reached rest entry)) = λ entry.
-          split (is_version entry.act) (mine entry) (is_reached rest entry)
-          (λ is. (and_parts (is_version entry.act) (bytes_eq (table_changed entry.act) lives.schema.name) (and_parts (is_version_of lives.schema.name entry) (nat_le entry.seq lives.versions.ahead.reached) is).0).0)
-          (λ is. not_theirs lives.schema.name entry rest apart.0 (and_parts (is_version_of lives.schema.name entry) (nat_le entry.seq lives.versions.ahead.reached) is).0) in
+      split (is_version entry.act) (mine entry) (is_reached rest entry)
+      (λ is. (and_parts (is_version entry.act) (bytes_eq (table_changed entry.act) lives.schema.name) (and_parts (is_version_of lives.schema.name entry) (nat_le entry.seq lives.versions.ahead.reached) is).0).0)
+      (λ is. not_theirs lives.schema.name entry rest apart.0 (and_parts (is_version_of lives.schema.name entry) (nat_le entry.seq lives.versions.ahead.reached) is).0) in
       let both = count_both (λ entry. is_version entry.act && not (mine entry || is_reached rest entry)) mine (λ entry. is_version entry.act && not (is_reached rest entry)) each history in
       let own = reached_by meaning history lives valid fits.0 in
       let others = by_tables rest apart.1 fits.1 in

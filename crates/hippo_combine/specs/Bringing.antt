@@ -26,7 +26,8 @@ pub record IsPlaceOf (table : Name) (place : ℕ) (tables : List HeldLives) : Ty
 
 -- each of these tables is known under its own name
 abbrev pub AreKnown : KnownNames → List Name → Type 0
-AreKnown known names = AllByRecursion (λ table. option_map (λ schema. schema.name) (table_of known table) ≡ Some table) names
+AreKnown known names =
+    AllByRecursion (λ table. option_map (λ schema. schema.name) (table_of known table) ≡ Some table) names
 
 -- the number of the entry before this one, which is among the first so many; none where it is not
 abbrev pub IsNumberBefore : ℕ → ℕ → Option ℕ → Type 0

@@ -1,5 +1,5 @@
 -- The rows of some tables that are held, each brought forward over the same history.
-use Rattle.std.specs.Prelude.{◌≡◌, ℕ, ◌≤◌, Bool, false, not, ◌&&◌, List, [], map, filter_map, find, count_by, length, nat_lt, nat_le, Option, Some, option_map, bytes_eq}
+use Rattle.std.specs.Prelude.{◌≡◌, ℕ, ◌≤◌, Bool, false, not, ◌&&◌, List, map, find, count_by, length, nat_lt, nat_le, Option, Some, option_map, bytes_eq}
 use Rattle.std.specs.List.{AllByRecursion, IsDistinct, list_any, list_all, sum_by}
 use Rattle.std.specs.Option.{option_map_or}
 use Rattle.hippo_values.specs.declared.names.Name.{Name}
@@ -9,7 +9,7 @@ use Rattle.hippo_model.specs.Terms.{History}
 use Rattle.hippo_model.specs.RowSets.{KeyedRows}
 use Rattle.hippo_model.specs.Versions.{is_version}
 use Rattle.hippo_backlog.specs.Backlogs.{is_version_of}
-use Rattle.hippo_intervals.specs.Living.{HeldLives, no_lives, taken_by, LivesFit}
+use Rattle.hippo_intervals.specs.Living.{HeldLives, taken_by, LivesFit}
 
 -- what is held of a table: its schema, its rows, and after how many entries they are so
 abbrev pub lives_of : List HeldLives → Name → Option HeldLives

@@ -123,6 +123,22 @@ pub(crate) fn bring_both<P: Keeper, L: Ledger>(
     ensures query { OnOk result (AreKnown past.now.catalog.now.names query.now.tables
         → AreHeldAt number query.now.tables tables.new.items) }
 {
-    bring_all(tables, keeper, alloc, past, audit.tables.as_slice(), number, steps)?;
-    bring_all(tables, keeper, alloc, past, query.tables.as_slice(), number, steps)
+    bring_all(
+        tables,
+        keeper,
+        alloc,
+        past,
+        audit.tables.as_slice(),
+        number,
+        steps,
+    )?;
+    bring_all(
+        tables,
+        keeper,
+        alloc,
+        past,
+        query.tables.as_slice(),
+        number,
+        steps,
+    )
 }

@@ -66,8 +66,25 @@ impl<P: Keeper> Examiner<P> for Combine {
         let Some(number) = number_before(entry.seq, past.count) else {
             return Ok(None);
         };
-        bring_both(&mut self.tables, keeper, alloc, past, query, audit, number, steps)?;
-        shared_with(alloc, self.tables.as_slice(), past.book, number, entry, query, audit)
+        bring_both(
+            &mut self.tables,
+            keeper,
+            alloc,
+            past,
+            query,
+            audit,
+            number,
+            steps,
+        )?;
+        shared_with(
+            alloc,
+            self.tables.as_slice(),
+            past.book,
+            number,
+            entry,
+            query,
+            audit,
+        )
     }
 
     fn taken(&self) -> Option<u64> {

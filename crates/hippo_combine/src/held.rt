@@ -48,11 +48,7 @@ pub(crate) fn have_rows(tables: &[Lives], names: &[Name]) -> bool
 }
 
 /// Copies of the schemas of tables, of those that are held.
-pub(crate) fn schemas_of(
-    alloc: Global,
-    tables: &[Lives],
-    names: &[Name],
-) -> Result<Schemas, Memory>
+pub(crate) fn schemas_of(alloc: Global, tables: &[Lives], names: &[Name]) -> Result<Schemas, Memory>
     ensures { IfOk result (λ schemas. schemas ≡ filter_map (schema_held tables.now) names.now) }
 {
     let mut schemas = Sequence::new(alloc);

@@ -52,7 +52,15 @@ fn shared_by_rows(
     let query_sets = sets_of(alloc, tables, names)?;
     let audit_sets = sets_of(alloc, tables, audit.tables.as_slice())?;
     let choices = book.choices_at(number);
-    shared_of(alloc, query, audit, &rules, &query_sets, &audit_sets, &choices)
+    shared_of(
+        alloc,
+        query,
+        audit,
+        &rules,
+        &query_sets,
+        &audit_sets,
+        &choices,
+    )
 }
 
 // The first virtual tuple that serves; none where there are no rows of a table.
@@ -102,13 +110,23 @@ pub(crate) fn shared_with(
         shared ≡ first_serving (take number history) context query.now audit.now) }
 {
     let Act::Asked {
-        purpose, recipient, ..
+        purpose,
+        recipient,
+        ..
     } = &entry.act
     else {
         return Ok(None);
     };
     match shared_at(
-        alloc, tables, book, number, entry.moment, purpose, recipient, query, audit,
+        alloc,
+        tables,
+        book,
+        number,
+        entry.moment,
+        purpose,
+        recipient,
+        query,
+        audit,
     ) {
         Ok(shared) => Ok(shared),
         Err(Memory) => Err(ReadFault::Memory),

@@ -3,6 +3,5 @@
 
 pub mod laws;
 mod sharing;
-mod stubs;
 
 pub use sharing::shared_of;

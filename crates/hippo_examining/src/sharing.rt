@@ -7,7 +7,8 @@ ghost use Rattle.hippo_examining.specs.Seen.{column_in, to_be_seen};
 ghost use Rattle.hippo_examining.specs.Examining.{ServesFirst};
 
 use crate::laws::needed_serves_first;
-use crate::stubs::{first_alone, first_changing};
+use hippo_distinct::first_alone;
+use hippo_groups::first_changing;
 use hippo_model::{
     Audit, ChoiceView, Exprs, Form, Masked, Query, Ref, Refs, RulesInForce, Sets, SharedTuple,
 };

@@ -230,7 +230,7 @@ module _ {C : Type 0} (below : Value → Value → Bool) (lower : Value → Valu
             by true e =
                 let under : below (value_of c) (best_of members) ≡ true = ap (λ (value : Value). below value (best_of members)) (sym lower_is) ∙ is.laws.left (best_of members) (value_of c) in
                 let equal : has (best_of members) c ≡ true = ap (λ (value : Value). is_eq (value_cmp value (best_of members)))
-                    (sym (is.laws.exact (best_of members) (value_of c) (below-each (value_of c) members e) under)) ∙ value-itself (best_of members) in
+                (sym (is.laws.exact (best_of members) (value_of c) (below-each (value_of c) members e) under)) ∙ value-itself (best_of members) in
                 absurd cc
 
         pub who-better : who_have_it more ≡ c ∷ []

@@ -57,7 +57,7 @@ module _ (below : Value → Value → Bool) (lower : Value → Value → Value) 
       by : (equal : Bool) → has below lower best is value_of old_value member ≡ equal
           → (is_better : Bool) → lower old_value (value_of member) ≡ cond is_better (value_of member) old_value
           → cond equal (record { value = old_value; mark = mark_of (places_of who ++ member.places ∷ []) })
-              (cond is_better (record { value = value_of member; mark = mark_of (member.places ∷ []) }) (record { value = old_value; mark = mark_of (places_of who) }))
+          (cond is_better (record { value = value_of member; mark = mark_of (member.places ∷ []) }) (record { value = old_value; mark = mark_of (places_of who) }))
           ≡ best_by best place more
       by true e is_better lower_is = λ i. record {
         value = sym (best-equal below lower best is value_of members member e) i;
@@ -87,13 +87,13 @@ module _ (old : Best) (who : List (List Place)) (value : Value) (places : List P
   after-equal is_better mark equal is =
       (λ i. record { value = old.value; mark = is i })
       ∙ sym (ap (λ (test : Bool). cond test (record { value = old.value; mark = mark_of (who ++ places ∷ []) })
-          (cond is_better (record { value = value; mark = mark_of (places ∷ []) }) (record { value = old.value; mark = mark_of who }))) equal)
+      (cond is_better (record { value = value; mark = mark_of (places ∷ []) }) (record { value = old.value; mark = mark_of who }))) equal)
 
   after-other : (is_better : Bool) → is_eq (value_cmp value old.value) ≡ false
       → cond is_better (record { value = value; mark = mark_of (places ∷ []) }) (record { value = old.value; mark = mark_of who }) ≡ best_after old.value who value is_better places
   after-other is_better apart =
       sym (ap (λ (test : Bool). cond test (record { value = old.value; mark = mark_of (who ++ places ∷ []) })
-          (cond is_better (record { value = value; mark = mark_of (places ∷ []) }) (record { value = old.value; mark = mark_of who }))) apart)
+      (cond is_better (record { value = value; mark = mark_of (places ∷ []) }) (record { value = old.value; mark = mark_of who }))) apart)
 
   pub after-better : (is_better : Bool) → is_eq (value_cmp value old.value) ≡ false → is_better ≡ true → record { value = value; mark = mark_of (places ∷ []) } ≡ best_after old.value who value is_better places
   after-better is_better apart better =

@@ -24,7 +24,8 @@ keys_of row_of keys found = different (map (λ member. take keys (row_of member)
 abbrev pub HasPlaces : KeyOrder → List ShownRow → tree.BTreeMap (List CellKey) ℕ → Type 0
 HasPlaces order keys kept =
     (key : ShownRow)
-    → MatchOption (tree.get order kept (row_key key)) (stands_in key keys ≡ false) (λ place. slice_get keys place ≡ Some key)
+    → MatchOption (tree.get order kept (row_key key)) (stands_in key keys ≡ false)
+    (λ place. slice_get keys place ≡ Some key)
 
 -- something is kept of each group's key and members, and the place of each group by its key
 pub record AreKept

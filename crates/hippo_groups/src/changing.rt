@@ -39,13 +39,6 @@ pub fn first_changing<C: ChoiceView>(
     let groups = marked_groups(alloc, query, shape, query_sets, &common.query, choices)?;
     let candidates = groups.candidates(alloc)?;
     first_of(
-        alloc,
-        candidates,
-        query,
-        audit,
-        seen,
-        query_sets,
-        audit_sets,
-        choices,
+        alloc, candidates, query, audit, seen, query_sets, audit_sets, choices,
     )
 }

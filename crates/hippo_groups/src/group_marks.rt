@@ -79,7 +79,8 @@ fn take(
 // Takes the value of one member more into the least.
 fn lower(alloc: Global, best: &mut Best, value: &Value, places: &Places) -> Result<(), Memory>
     ensures { (place : Place) (members : List PlacedRow) (member : PlacedRow)
-        → best.old ≡ best_by least_value place members → value.now ≡ value_at place member.row → places.now ≡ member.places
+        → best.old ≡ best_by least_value place members → value.now ≡ value_at place member.row
+        → places.now ≡ member.places
         → OnOk result (best.new ≡ best_by least_value place (members ++ member ∷ [])) }
 {
     let is_better = is_lesser(value, &best.value);
@@ -89,7 +90,8 @@ fn lower(alloc: Global, best: &mut Best, value: &Value, places: &Places) -> Resu
 // Takes the value of one member more into the greatest.
 fn raise(alloc: Global, best: &mut Best, value: &Value, places: &Places) -> Result<(), Memory>
     ensures { (place : Place) (members : List PlacedRow) (member : PlacedRow)
-        → best.old ≡ best_by greatest_value place members → value.now ≡ value_at place member.row → places.now ≡ member.places
+        → best.old ≡ best_by greatest_value place members → value.now ≡ value_at place member.row
+        → places.now ≡ member.places
         → OnOk result (best.new ≡ best_by greatest_value place (members ++ member ∷ [])) }
 {
     let is_better = is_greater(value, &best.value);
@@ -109,8 +111,18 @@ fn join_best(
 {
     match out {
         Out::Column(_) => Ok(()),
-        Out::Min(place) => lower(alloc, best, value_at(row, place).unwrap_or(&Value::Null), places),
-        Out::Max(place) => raise(alloc, best, value_at(row, place).unwrap_or(&Value::Null), places),
+        Out::Min(place) => lower(
+            alloc,
+            best,
+            value_at(row, place).unwrap_or(&Value::Null),
+            places,
+        ),
+        Out::Max(place) => raise(
+            alloc,
+            best,
+            value_at(row, place).unwrap_or(&Value::Null),
+            places,
+        ),
     }
 }
 

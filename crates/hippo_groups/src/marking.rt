@@ -45,7 +45,13 @@ impl MarkedGroups {
     }
 
     // Takes in a row and the places of its combination, in its own group or as the first of a new one.
-    fn add(&mut self, alloc: Global, shape: &Shape, row: &CellRow, places: &Places) -> Result<(), Memory>
+    fn add(
+        &mut self,
+        alloc: Global,
+        shape: &Shape,
+        row: &CellRow,
+        places: &Places,
+    ) -> Result<(), Memory>
         ensures { (found : List PlacedRow) → AreMarked ⟦<Sequence<CellKey> as Ord>⟧.cmp shape.now found self.old
             → OnOk result (AreMarked ⟦<Sequence<CellKey> as Ord>⟧.cmp shape.now
             (found ++ record { row = row.now; places = places.now } ∷ []) self.new) }
@@ -90,7 +96,12 @@ impl<'a, C: ChoiceView> Visitor for Marker<'a, C> {
         (placed_rows (C.choices marker.choices.now) marker.query.now marker.sets.now marker.tables.now combinations)
         groups };
 
-    fn visit(&self, alloc: Global, groups: &mut MarkedGroups, combo: &Combo<'_>) -> Result<Onward, Memory> {
+    fn visit(
+        &self,
+        alloc: Global,
+        groups: &mut MarkedGroups,
+        combo: &Combo<'_>,
+    ) -> Result<Onward, Memory> {
         if passes(self.query, combo, self.choices) {
             let row = project(alloc, self.query, combo, self.choices)?;
             let places = row_places(alloc, self.sets, self.tables, combo)?;

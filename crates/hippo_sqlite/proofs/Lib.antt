@@ -1,1 +1,10 @@
+mod ContentsLemmas
+mod EditLemmas
+mod KeeperLemmas
 mod ListLemmas
+mod OrderLemmas
+mod ReadLemmas
+mod SelectLemmas
+mod StateLemmas
+mod TestLemmas
+mod TextLemmas

@@ -1,1 +1,7 @@
+pub mod Contents
+pub mod Links
+pub mod Openings
+pub mod Outcomes
+pub mod Queries
 pub mod Standings
+pub mod Tables

@@ -1,8 +1,11 @@
 //! A keeper over a SQLite store.
-ghost use Rattle.std.specs.Prelude.{◌≡◌, ◌+◌, ◌≤◌, length, false, IfOk};
-ghost use Rattle.hippo_keeper.specs.Keeping.{RisesAbove};
-ghost use Rattle.hippo_keeper.specs.Selecting.{versions_read};
-ghost use Rattle.hippo_sqlite.specs.Standings.{new_standing, seen, after_answer};
+ghost use Rattle.std.specs.Prelude.{◌≡◌, ◌↔◌, ℕ, ◌^◌, ◌+◌, ◌<◌, ◌≤◌, List, length, false, IfOk, OnOk, OnErr};
+ghost use Rattle.hippo_keeper.specs.Keeping.{Store, IsReady, RisesAbove};
+ghost use Rattle.hippo_keeper.specs.Selecting.{versions_read, handed_over};
+ghost use Rattle.hippo_sqlite.specs.Contents.{LooksAt};
+ghost use Rattle.hippo_sqlite.specs.Links.{link_contents};
+ghost use Rattle.hippo_sqlite.specs.Queries.{test_of};
+ghost use Rattle.hippo_sqlite.specs.Standings.{new_standing, finds_by, seen, after_answer, IsStarted};
 
 use crate::entries::count_versions;
 use crate::link::Link;
@@ -19,16 +22,17 @@ use std::sync::ledger::Ledger;
 /// Entries stand in the table `history`. Each refusal of `sqlite` but for memory is a counted failure.
 pub struct SqliteKeeper<O: Opener> {
     opener: O,
-    link: Link<O::Store>,
+    link: Link<O::Base>,
     standing: Standing,
 }
 
 impl<O: Opener> SqliteKeeper<O> {
     /// A keeper that is not started.
     pub fn new(opener: O) -> SqliteKeeper<O>
-        requires { O.Opener.used opener ≡ false }
-        ensures opener { result.opener ≡ opener }
-        ensures standing { result.standing ≡ new_standing }
+        requires { O.used opener ≡ false }
+        ensures ready { IsReady false (⟦<SqliteKeeper<O> as Keeper>⟧.state result) }
+        ensures finds { (name : List ℕ) (entries : Store)
+            → (⟦<SqliteKeeper<O> as Keeper>⟧.state result).finds name entries ↔ finds_by (O.finds opener) name entries }
     {
         SqliteKeeper {
             opener,
@@ -38,9 +42,12 @@ impl<O: Opener> SqliteKeeper<O> {
     }
 
     // Connects to the store with a name.
-    fn connect(&mut self, alloc: Global, name: &str) -> Result<Link<O::Store>, KeeperFault>
-        requires { O.Opener.used self.old.opener ≡ false }
-        ensures { self.new.standing ≡ self.old.standing }
+    fn connect(&mut self, alloc: Global, name: &str) -> Result<Link<O::Base>, KeeperFault>
+        requires { O.used self.old.opener ≡ false }
+        ensures standing { self.new.standing ≡ self.old.standing }
+        ensures link { self.new.link ≡ self.old.link }
+        ensures started { IfOk result (λ link. IsStarted (finds_by (O.finds self.old.opener) name.now)
+            (link_contents O.Base.Store link)) }
     {
         if name.is_empty() {
             return Link::in_memory(alloc);
@@ -51,8 +58,11 @@ impl<O: Opener> SqliteKeeper<O> {
 
     // Connects to the store with a name, and keeps the connection.
     fn join(&mut self, alloc: Global, name: &str) -> Result<(), KeeperFault>
-        requires { O.Opener.used self.old.opener ≡ false }
-        ensures { self.new.standing ≡ self.old.standing }
+        requires { O.used self.old.opener ≡ false }
+        ensures standing { self.new.standing ≡ self.old.standing }
+        ensures started { OnOk result (IsStarted (finds_by (O.finds self.old.opener) name.now)
+            (link_contents O.Base.Store self.new.link)) }
+        ensures kept { OnErr result (self.new.link ≡ self.old.link) }
     {
         self.link = self.connect(alloc, name)?;
         Ok(())
@@ -66,9 +76,14 @@ impl<O: Opener> SqliteKeeper<O> {
         after: u64,
         max: u64,
     ) -> Result<StoredList, KeeperFault>
-        requires { max ≤ 1000 }
+        requires limit { max ≤ 1000 }
+        requires rests { (link_contents O.Base.Store self.old.link).rests }
         ensures few { IfOk result (λ list. length list ≤ max) }
         ensures order { IfOk result (RisesAbove after) }
+        ensures looks { LooksAt result (link_contents O.Base.Store self.old.link)
+            (link_contents O.Base.Store self.new.link) }
+        ensures told { IfOk result (λ list. (link_contents O.Base.Store self.new.link).tells
+            → list ≡ handed_over (test_of question.now) after max (link_contents O.Base.Store self.old.link).kept) }
         ensures counted { self.new.standing ≡ after_answer result self.old.standing }
         ensures rises { self.old.standing.faults ≤ self.new.standing.faults }
         ensures opener { self.new.opener ≡ self.old.opener }
@@ -79,7 +94,8 @@ impl<O: Opener> SqliteKeeper<O> {
 }
 
 impl<O: Opener> Keeper for SqliteKeeper<O> {
-    ghost state = { λ keeper. seen keeper.standing (O.Opener.used keeper.opener) };
+    ghost state = { λ keeper. seen keeper.standing (O.used keeper.opener) (finds_by (O.finds keeper.opener))
+        (link_contents O.Base.Store keeper.link) };
 
     fn start(&mut self, alloc: Global, name: &str) -> Result<(), KeeperFault> {
         let answer = self.join(alloc, name);

@@ -1,6 +1,16 @@
 //! A keeper's connection to its store.
-ghost use Rattle.std.specs.Prelude.{◌^◌, ◌<◌, ◌≤◌, length, IfOk};
-ghost use Rattle.hippo_keeper.specs.Keeping.{RisesAbove};
+ghost use Rattle.std.specs.Prelude.{◌≡◌, ℕ, ◌^◌, ◌<◌, ◌≤◌, List, [], map, length, if◌then◌else◌, IfOk};
+ghost use Rattle.sqlite.specs.State.{HasCleanDisk, Survives, CommitsShowing, Opens, IsLive};
+ghost use Rattle.sqlite.specs.Held.{state};
+ghost use Rattle.hippo_keeper.specs.Answering.{has_failed};
+ghost use Rattle.hippo_keeper.specs.Keeping.{RisesAbove, next_number};
+ghost use Rattle.hippo_keeper.specs.Selecting.{handed_over};
+ghost use Rattle.hippo_sqlite.specs.Contents.{AppendsTo, LooksAt};
+ghost use Rattle.hippo_sqlite.specs.Links.{linked_contents, link_contents};
+ghost use Rattle.hippo_sqlite.specs.Outcomes.{HasExecuted, HasLooked, IsLinked};
+ghost use Rattle.hippo_sqlite.specs.Queries.{insert_text, text_of, params_of, test_of};
+ghost use Rattle.hippo_sqlite.specs.Standings.{IsStarted};
+ghost use Rattle.hippo_sqlite.specs.Tables.{HistoryRow, row_of, values_of, stored_row, entries_in, AreInOrder, history_schema};
 
 use crate::entries::entries_of;
 use crate::standing::fault_of;
@@ -9,26 +19,35 @@ use hippo_keeper::KeeperFault;
 use hippo_model::{StoredEntry, StoredList};
 use sqlite::{Alter, Connection, MemStore};
 use std::alloc::Global;
+use std::snapshot::Snapshot;
+
+// No number of an entry is this one or above it.
+const NUMBERS: u64 = 1 << 63;
+
+/// A connection to a store that has the table of the history.
+#[derive(Drop)]
+pub(crate) struct Linked<S: Alter + Drop> {
+    connection: Connection<S>,
+    // As the last call left it that did not fail.
+    told: Snapshot<Connection<S>>,
+    // As it was opened.
+    opened: Snapshot<Connection<S>>,
+}
 
 /// A connection to a store in memory, or to one that an opener found.
 #[derive(Drop)]
 pub(crate) enum Link<S: Alter + Drop> {
     Absent,
-    InMemory(Connection<MemStore>),
-    Opened(Connection<S>),
-}
-
-// Makes the table of the history over a new connection.
-fn prepare<S: Alter>(connection: &mut Connection<S>) -> Result<(), KeeperFault> {
-    match create_history(connection) {
-        Ok(_) => Ok(()),
-        Err(error) => Err(fault_of(error)),
-    }
+    InMemory(Linked<MemStore>),
+    Opened(Linked<S>),
 }
 
 // Keeps one more entry.
 fn keep<S: Alter>(connection: &mut Connection<S>, entry: &StoredEntry) -> Result<(), KeeperFault>
     requires { entry.now.seq < 2 ^ 63 }
+    ensures executed { HasExecuted insert_text (values_of (row_of entry.now)) result
+        (state S.Store connection.old) (state S.Store connection.new) }
+    ensures kind { entry.now.kind < 256 }
 {
     match insert(connection, entry) {
         Ok(_) => Ok(()),
@@ -44,14 +63,20 @@ fn find<S: Alter>(
     after: u64,
     max: u64,
 ) -> Result<StoredList, KeeperFault>
-    requires { max ≤ 1000 }
+    requires above { after < 2 ^ 63 }
+    requires limit { max ≤ 1000 }
     ensures few { IfOk result (λ list. length list ≤ max) }
     ensures order { IfOk result (RisesAbove after) }
+    ensures looked { HasCleanDisk (state S.Store connection.new) → HasLooked (text_of question.now)
+        (params_of question.now after max) (state S.Store connection.old) (state S.Store connection.new) }
+    ensures survives { Survives (state S.Store connection.old) (state S.Store connection.new)
+        (CommitsShowing (text_of question.now) (params_of question.now after max) (state S.Store connection.old)) }
+    ensures told { IfOk result (λ list. HasCleanDisk (state S.Store connection.new) → (rows : List HistoryRow)
+        → (state S.Store connection.old).now.schema ≡ history_schema
+        → (state S.Store connection.old).now.trees 0 ≡ map stored_row rows → AreInOrder rows
+        → list ≡ handed_over (test_of question.now) after max (entries_in (map stored_row rows))) }
 {
-    let Ok(above) = i64::try_from(after) else {
-        return Ok(StoredList::new(alloc));
-    };
-    match select(connection, question, above, max as i64) {
+    match select(connection, question, after, max) {
         Ok(rows) => match entries_of(alloc, rows.as_slice(), after, max) {
             Ok(list) => Ok(list),
             Err(fault) => Err(fault.fault()),
@@ -60,30 +85,113 @@ fn find<S: Alter>(
     }
 }
 
+impl<S: Alter + Drop> Linked<S> {
+    /// The store of a new connection, where the table of the history is made if there is none.
+    fn new(mut connection: Connection<S>) -> Result<Linked<S>, KeeperFault>
+        requires { HasCleanDisk (state S.Store connection)
+            → Opens (state S.Store connection) × IsLive (state S.Store connection) }
+        ensures { IfOk result (λ it. IsLinked (state S.Store connection) (linked_contents S.Store it)) }
+    {
+        let opened = Snapshot::of(&connection);
+        match create_history(&mut connection) {
+            Ok(_) => Ok(Linked {
+                told: Snapshot::of(&connection),
+                connection,
+                opened,
+            }),
+            Err(error) => Err(fault_of(error)),
+        }
+    }
+
+    // Notes how the connection is, unless the call failed.
+    fn note<T>(&mut self, answer: &Result<T, KeeperFault>)
+        ensures connection { self.new.connection ≡ self.old.connection }
+        ensures told { self.new.told.value
+            ≡ if has_failed answer.now then self.old.told.value else self.old.connection }
+        ensures opened { self.new.opened ≡ self.old.opened }
+    {
+        if let Err(KeeperFault::Failed) = answer {
+            return;
+        }
+        self.told = Snapshot::of(&self.connection);
+    }
+
+    /// Keeps one more entry.
+    fn append(&mut self, entry: &StoredEntry) -> Result<(), KeeperFault>
+        requires number { entry.now.seq < 2 ^ 63 }
+        requires rests { (linked_contents S.Store self.old).rests }
+        requires next { (linked_contents S.Store self.old).tells
+            → entry.now.seq ≡ next_number (linked_contents S.Store self.old).kept }
+        ensures { AppendsTo entry.now result (linked_contents S.Store self.old) (linked_contents S.Store self.new) }
+    {
+        let answer = keep(&mut self.connection, entry);
+        self.note(&answer);
+        answer
+    }
+
+    /// The first kept entries above a number that a read asks for.
+    fn read(
+        &mut self,
+        alloc: Global,
+        question: &Question<'_>,
+        after: u64,
+        max: u64,
+    ) -> Result<StoredList, KeeperFault>
+        requires limit { max ≤ 1000 }
+        requires rests { (linked_contents S.Store self.old).rests }
+        ensures few { IfOk result (λ list. length list ≤ max) }
+        ensures order { IfOk result (RisesAbove after) }
+        ensures looks { LooksAt result (linked_contents S.Store self.old) (linked_contents S.Store self.new) }
+        ensures told { IfOk result (λ list. (linked_contents S.Store self.new).tells
+            → list ≡ handed_over (test_of question.now) after max (linked_contents S.Store self.old).kept) }
+    {
+        if after >= NUMBERS {
+            return Ok(StoredList::new(alloc));
+        }
+        let answer = find(&mut self.connection, alloc, question, after, max);
+        self.note(&answer);
+        answer
+    }
+}
+
 impl<S: Alter + Drop> Link<S> {
     /// A new store in memory, with the table of the history.
-    pub(crate) fn in_memory(alloc: Global) -> Result<Link<S>, KeeperFault> {
-        let Ok(mut connection) = Connection::open_in_memory(alloc) else {
+    pub(crate) fn in_memory(alloc: Global) -> Result<Link<S>, KeeperFault>
+        ensures started { IfOk result (λ link. IsStarted (λ entries. entries ≡ []) (link_contents S.Store link)) }
+    {
+        let Ok(connection) = Connection::open_in_memory(alloc) else {
             return Err(KeeperFault::Memory);
         };
-        prepare(&mut connection)?;
-        Ok(Link::InMemory(connection))
+        match Linked::new(connection) {
+            Ok(linked) => Ok(Link::InMemory(linked)),
+            Err(fault) => Err(fault),
+        }
     }
 
     /// The store of a connection, where the table of the history is made if there is none.
-    pub(crate) fn opened(mut connection: Connection<S>) -> Result<Link<S>, KeeperFault> {
-        prepare(&mut connection)?;
-        Ok(Link::Opened(connection))
+    pub(crate) fn opened(connection: Connection<S>) -> Result<Link<S>, KeeperFault>
+        requires { HasCleanDisk (state S.Store connection)
+            → Opens (state S.Store connection) × IsLive (state S.Store connection) }
+        ensures { IfOk result (λ link. IsLinked (state S.Store connection) (link_contents S.Store link)) }
+    {
+        match Linked::new(connection) {
+            Ok(linked) => Ok(Link::Opened(linked)),
+            Err(fault) => Err(fault),
+        }
     }
 
     /// Keeps one more entry.
     pub(crate) fn append(&mut self, entry: &StoredEntry) -> Result<(), KeeperFault>
-        requires { entry.now.seq < 2 ^ 63 }
+        requires number { entry.now.seq < 2 ^ 63 }
+        requires rests { (link_contents S.Store self.old).rests }
+        requires next { (link_contents S.Store self.old).tells
+            → entry.now.seq ≡ next_number (link_contents S.Store self.old).kept }
+        ensures { AppendsTo entry.now result (link_contents S.Store self.old) (link_contents S.Store self.new) }
     {
         match self {
             Link::Absent => Err(KeeperFault::Failed),
-            Link::InMemory(connection) => keep(connection, entry),
-            Link::Opened(connection) => keep(connection, entry),
+            Link::InMemory(linked) => linked.append(entry),
+            Link::Opened(linked) => linked.append(entry),
         }
     }
 
@@ -95,14 +203,18 @@ impl<S: Alter + Drop> Link<S> {
         after: u64,
         max: u64,
     ) -> Result<StoredList, KeeperFault>
-        requires { max ≤ 1000 }
+        requires limit { max ≤ 1000 }
+        requires rests { (link_contents S.Store self.old).rests }
         ensures few { IfOk result (λ list. length list ≤ max) }
         ensures order { IfOk result (RisesAbove after) }
+        ensures looks { LooksAt result (link_contents S.Store self.old) (link_contents S.Store self.new) }
+        ensures told { IfOk result (λ list. (link_contents S.Store self.new).tells
+            → list ≡ handed_over (test_of question.now) after max (link_contents S.Store self.old).kept) }
     {
         match self {
             Link::Absent => Err(KeeperFault::Failed),
-            Link::InMemory(connection) => find(connection, alloc, question, after, max),
-            Link::Opened(connection) => find(connection, alloc, question, after, max),
+            Link::InMemory(linked) => linked.read(alloc, question, after, max),
+            Link::Opened(linked) => linked.read(alloc, question, after, max),
         }
     }
 }

@@ -1,24 +1,37 @@
 //! What connects a keeper to its store.
-ghost use Rattle.std.specs.Prelude.{◌≡◌, ℕ, Bool, true, false, not, is_some, IsTrue};
+ghost use Rattle.std.specs.Prelude.{◌≡◌, ℕ, List, Bool, true, false, not, is_some, IsTrue, IfOk, IfSome};
+ghost use Rattle.sqlite_trees.specs.Tree.{Trees};
+ghost use Rattle.sqlite_wal.specs.Files.{image_at};
+ghost use Rattle.sqlite.specs.State.{HasCleanDisk, Opens, IsLive};
+ghost use Rattle.sqlite.specs.Held.{state};
+ghost use Rattle.sqlite.specs.Files.{image_of};
+ghost use Rattle.hippo_sqlite.specs.Openings.{IsFoundIn};
 
 use crate::standing::fault_of;
 use hippo_keeper::KeeperFault;
-use sqlite::{Alter, Connection, FileFrom, FileStore, Files, Options, Wary};
+use sqlite::{Alter, Connection, FileFrom, FileStore, Files, Options, Start, Wary};
 use sqlite_disk::Disk;
 use std::alloc::Global;
 use std::rt::HostRuntime;
 
 /// What connects a keeper to a store, once.
 pub trait Opener {
-    type Store: Alter + Drop;
+    type Base: Alter + Drop;
 
     // Whether it was asked for a connection.
     ghost used: { Self → Bool };
 
+    // Which trees it may find in the store with a name.
+    ghost finds: { Self → List ℕ → Trees → Type 0 };
+
     /// A connection to the store with a name. Each refusal of `sqlite` but for memory is a failure.
-    fn connect(&mut self, alloc: Global, name: &str) -> Result<Connection<Self::Store>, KeeperFault>
+    fn connect(&mut self, alloc: Global, name: &str) -> Result<Connection<Self::Base>, KeeperFault>
         requires { used self.old ≡ false }
-        ensures { used self.new ≡ true };
+        ensures used { used self.new ≡ true }
+        ensures opens { IfOk result (λ c. HasCleanDisk (state Self.Base.Store c)
+            → Opens (state Self.Base.Store c) × IsLive (state Self.Base.Store c)) }
+        ensures found { IfOk result (λ c. HasCleanDisk (state Self.Base.Store c)
+            → finds self.old name.now (state Self.Base.Store c).committed.trees) };
 }
 
 /// Opens the file with a name, or makes it.
@@ -41,9 +54,11 @@ impl FileOpener {
 }
 
 impl Opener for FileOpener {
-    type Store = FileStore<FileFrom<Wary>>;
+    type Base = FileStore<FileFrom<Wary>>;
 
     ghost used = { λ opener. opener.used };
+
+    ghost finds = { λ opener name trees. IsFoundIn (image_at ⟦<Wary as Start>⟧) trees };
 
     fn connect(
         &mut self,
@@ -76,9 +91,11 @@ impl<D: Disk + Drop> DisksOpener<Files<D>> {
 const SEED: u64 = 1;
 
 impl<D: Disk + Drop> Opener for DisksOpener<Files<D>> {
-    type Store = FileStore<D>;
+    type Base = FileStore<D>;
 
     ghost used = { λ opener. not (is_some opener.files) };
+
+    ghost finds = { λ opener name trees. IfSome opener.files (λ files. IsFoundIn (image_of D.Disk files) trees) };
 
     fn connect(
         &mut self,

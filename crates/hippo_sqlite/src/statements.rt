@@ -1,5 +1,9 @@
 //! What the keeper asks of `sqlite`, one statement a function, over any store.
-ghost use Rattle.std.specs.Prelude.{◌^◌, ◌<◌};
+ghost use Rattle.std.specs.Prelude.{[], ◌^◌, ◌<◌, IfOk, IfErr};
+ghost use Rattle.sqlite.specs.State.{HasCleanDisk, Survives, Executes, CommitsBy, Shown, FailsToQuery, CommitsShowing};
+ghost use Rattle.sqlite.specs.Held.{state};
+ghost use Rattle.hippo_sqlite.specs.Queries.{create_text, insert_text, backlog_text, asked_text, versions_params, asked_params, text_of, params_of};
+ghost use Rattle.hippo_sqlite.specs.Tables.{row_of, values_of};
 
 use hippo_model::StoredEntry;
 use hippo_values::{Moment, Name};
@@ -16,7 +20,12 @@ pub(crate) enum Question<'a> {
 }
 
 /// Makes the table of the history where there is none.
-pub(crate) fn create_history<S: Alter>(connection: &mut Connection<S>) -> Result<usize, Error> {
+pub(crate) fn create_history<S: Alter>(connection: &mut Connection<S>) -> Result<usize, Error>
+    ensures runs { HasCleanDisk (state S.Store connection.new)
+        → Executes create_text [] (state S.Store connection.old) (state S.Store connection.new) result }
+    ensures survives { Survives (state S.Store connection.old) (state S.Store connection.new)
+        (CommitsBy create_text [] (state S.Store connection.old)) }
+{
     connection.execute(
         "CREATE TABLE IF NOT EXISTS history (seq INTEGER PRIMARY KEY, moment INTEGER NOT NULL, kind INTEGER NOT NULL, tbl TEXT NOT NULL, body BLOB NOT NULL) STRICT",
         &[],
@@ -29,6 +38,12 @@ pub(crate) fn insert<S: Alter>(
     entry: &StoredEntry,
 ) -> Result<usize, Error>
     requires { entry.now.seq < 2 ^ 63 }
+    ensures runs { HasCleanDisk (state S.Store connection.new)
+        → Executes insert_text (values_of (row_of entry.now))
+        (state S.Store connection.old) (state S.Store connection.new) result }
+    ensures survives { Survives (state S.Store connection.old) (state S.Store connection.new)
+        (CommitsBy insert_text (values_of (row_of entry.now)) (state S.Store connection.old)) }
+    ensures kind { entry.now.kind < 256 }
 {
     connection.execute(
         "INSERT INTO history (seq, moment, kind, tbl, body) VALUES (?1, ?2, ?3, ?4, ?5)",
@@ -45,39 +60,72 @@ pub(crate) fn insert<S: Alter>(
 // The first rows above a number.
 fn select_all<S: Alter>(
     connection: &mut Connection<S>,
-    after: i64,
-    max: i64,
-) -> Result<Vec<Row>, Error> {
+    after: u64,
+    max: u64,
+) -> Result<Vec<Row>, Error>
+    requires above { after < 2 ^ 63 }
+    requires limit { max < 2 ^ 63 }
+    ensures ok { HasCleanDisk (state S.Store connection.new)
+        → IfOk result (λ rows. Shown (text_of Question.All) (params_of Question.All after max)
+        (state S.Store connection.old) (state S.Store connection.new) rows.items) }
+    ensures err { HasCleanDisk (state S.Store connection.new)
+        → IfErr result (FailsToQuery (text_of Question.All) (params_of Question.All after max)
+        (state S.Store connection.old) (state S.Store connection.new)) }
+    ensures survives { Survives (state S.Store connection.old) (state S.Store connection.new)
+        (CommitsShowing (text_of Question.All) (params_of Question.All after max) (state S.Store connection.old)) }
+{
     connection.query_all(
         "SELECT seq, moment, kind, tbl, body FROM history WHERE seq > ?1 ORDER BY seq LIMIT ?2",
-        params![after, max],
+        params![after as i64, max as i64],
     )
 }
 
 // The first versions of a table's rows above a number.
 fn select_backlog<S: Alter>(
     connection: &mut Connection<S>,
-    table: &Name,
-    after: i64,
-    max: i64,
-) -> Result<Vec<Row>, Error> {
+    table: &str,
+    after: u64,
+    max: u64,
+) -> Result<Vec<Row>, Error>
+    requires above { after < 2 ^ 63 }
+    requires limit { max < 2 ^ 63 }
+    ensures ok { HasCleanDisk (state S.Store connection.new)
+        → IfOk result (λ rows. Shown backlog_text (versions_params table.now after max)
+        (state S.Store connection.old) (state S.Store connection.new) rows.items) }
+    ensures err { HasCleanDisk (state S.Store connection.new)
+        → IfErr result (FailsToQuery backlog_text (versions_params table.now after max)
+        (state S.Store connection.old) (state S.Store connection.new)) }
+    ensures survives { Survives (state S.Store connection.old) (state S.Store connection.new)
+        (CommitsShowing backlog_text (versions_params table.now after max) (state S.Store connection.old)) }
+{
     connection.query_all(
         "SELECT seq, moment, kind, tbl, body FROM history WHERE tbl = ?1 AND kind >= 2 AND kind <= 4 AND seq > ?2 ORDER BY seq LIMIT ?3",
-        params![table.as_str(), after, max],
+        params![table, after as i64, max as i64],
     )
 }
 
 // The first questions of a period above a number.
 fn select_asked<S: Alter>(
     connection: &mut Connection<S>,
-    from: Moment,
-    to: Moment,
-    after: i64,
-    max: i64,
-) -> Result<Vec<Row>, Error> {
+    from: &i64,
+    to: &i64,
+    after: u64,
+    max: u64,
+) -> Result<Vec<Row>, Error>
+    requires above { after < 2 ^ 63 }
+    requires limit { max < 2 ^ 63 }
+    ensures ok { HasCleanDisk (state S.Store connection.new)
+        → IfOk result (λ rows. Shown asked_text (asked_params from.now to.now after max)
+        (state S.Store connection.old) (state S.Store connection.new) rows.items) }
+    ensures err { HasCleanDisk (state S.Store connection.new)
+        → IfErr result (FailsToQuery asked_text (asked_params from.now to.now after max)
+        (state S.Store connection.old) (state S.Store connection.new)) }
+    ensures survives { Survives (state S.Store connection.old) (state S.Store connection.new)
+        (CommitsShowing asked_text (asked_params from.now to.now after max) (state S.Store connection.old)) }
+{
     connection.query_all(
         "SELECT seq, moment, kind, tbl, body FROM history WHERE kind = 13 AND moment >= ?1 AND moment <= ?2 AND seq > ?3 ORDER BY seq LIMIT ?4",
-        params![from.seconds(), to.seconds(), after, max],
+        params![from, to, after as i64, max as i64],
     )
 }
 
@@ -85,12 +133,25 @@ fn select_asked<S: Alter>(
 pub(crate) fn select<S: Alter>(
     connection: &mut Connection<S>,
     question: &Question<'_>,
-    after: i64,
-    max: i64,
-) -> Result<Vec<Row>, Error> {
+    after: u64,
+    max: u64,
+) -> Result<Vec<Row>, Error>
+    requires above { after < 2 ^ 63 }
+    requires limit { max < 2 ^ 63 }
+    ensures ok { HasCleanDisk (state S.Store connection.new)
+        → IfOk result (λ rows. Shown (text_of question.now) (params_of question.now after max)
+        (state S.Store connection.old) (state S.Store connection.new) rows.items) }
+    ensures err { HasCleanDisk (state S.Store connection.new)
+        → IfErr result (FailsToQuery (text_of question.now) (params_of question.now after max)
+        (state S.Store connection.old) (state S.Store connection.new)) }
+    ensures survives { Survives (state S.Store connection.old) (state S.Store connection.new)
+        (CommitsShowing (text_of question.now) (params_of question.now after max) (state S.Store connection.old)) }
+{
     match question {
         Question::All => select_all(connection, after, max),
-        Question::VersionsOf(table) => select_backlog(connection, table, after, max),
-        Question::AskedIn(from, to) => select_asked(connection, *from, *to, after, max),
+        Question::VersionsOf(table) => select_backlog(connection, table.as_str(), after, max),
+        Question::AskedIn(from, to) => {
+            select_asked(connection, &from.seconds(), &to.seconds(), after, max)
+        }
     }
 }

@@ -1,5 +1,5 @@
 -- The table is brought forward at its place.
-use Rattle.std.proofs.Common.{rules, ◌≡◌, ◌∙◌, sym}
+use Rattle.std.proofs.Common.{rules}
 use Rattle.hippo_combine.proofs.BringingLemmas.{value_at, brings_one, holds_one}
 use Rattle.hippo_combine.proofs.bringing.bring.Goals as goal
 

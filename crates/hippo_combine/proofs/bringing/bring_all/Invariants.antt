@@ -1,5 +1,5 @@
 -- The tables so far are brought forward.
-use Rattle.std.proofs.Common.{◌≡◌, ◌≤◌, true, take}
+use Rattle.std.proofs.Common.{true, take}
 use Rattle.hippo_keeper.specs.Keeping.{IsReady}
 use Rattle.hippo_backlog.specs.declared.faults.ReadFault.{ReadFault}
 use Rattle.hippo_backlog.proofs.CallLemmas.{well}

@@ -1,5 +1,5 @@
 -- Where there are no rows of a table, nothing serves.
-use Rattle.std.proofs.Common.{rules, ◌≡◌, ◌∙◌, sym}
+use Rattle.std.proofs.Common.{rules, sym}
 use Rattle.hippo_model.specs.Verdicts.{Context}
 use Rattle.hippo_combine.proofs.SharingLemmas.{nothing_serves}
 use Rattle.hippo_combine.proofs.sharing.shared_at.Goals as goal

@@ -1,5 +1,5 @@
 -- The rows that are held are those of the history, and the same on both sides.
-use Rattle.std.proofs.Common.{rules, ◌≡◌, ◌∙◌, ap, sym, List, Option, take, filter_map}
+use Rattle.std.proofs.Common.{rules, ◌≡◌, List, Option, take}
 use Rattle.std.proofs.lemmas.Result.{IfOk-weaker}
 use Rattle.hippo_model.specs.declared.audit.SharedRow.{SharedRow}
 use Rattle.hippo_model.specs.Terms.{History}
@@ -27,6 +27,6 @@ returns c =
     (λ (shared : Option (List SharedRow)). ServesFirst c.args.query.now c.args.audit.now c.in_ok-rules.rules c.in_ok-query_sets.query_sets c.in_ok-audit_sets.audit_sets _ shared)
     (λ (shared : Option (List SharedRow)). (history : History) → HoldsBoth c.args.book.now c.args.tables.now c.args.number history c.args.query.now c.args.audit.now → shared ≡ first_serving (take c.args.number history) context c.args.query.now c.args.audit.now)
     (λ shared serves history holds. serves meaning (take c.args.number history) context
-        (those_of c.args.book.now c.args.tables.now c.args.number c.args.query.now c.args.audit.now c.in_ok-query_sets.query_sets c.in_ok-audit_sets.audit_sets (search rules) (search rules) c.requires.rows c.in_ok-schemas.schemas (search rules)
-        history holds context c.in_ok-rules.rules _ (c.in_ok-rules.ensures history holds.book_is) (c.choices_at-choices.ensures history holds.book_is)))
+    (those_of c.args.book.now c.args.tables.now c.args.number c.args.query.now c.args.audit.now c.in_ok-query_sets.query_sets c.in_ok-audit_sets.audit_sets (search rules) (search rules) c.requires.rows c.in_ok-schemas.schemas (search rules)
+    history holds context c.in_ok-rules.rules _ (c.in_ok-rules.ensures history holds.book_is) (c.choices_at-choices.ensures history holds.book_is)))
     c.shared_of.ensures

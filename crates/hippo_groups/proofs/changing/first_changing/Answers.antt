@@ -21,7 +21,7 @@ returns g c =
     c.deref.ensures.value ∙ c.in_ok-common.ensures.query
     ∙ (λ i. map (place_in (c.as_slice.ensures i)) (common_tables (c.as_slice.ensures i) (c.as_slice-2.ensures i))) in
     let marked = subst (λ (places : List Place). AreMarked key_order c.args.shape.now
-        (placed_rows choices c.args.query.now c.args.query_sets.now places (product (rows_of c.args.query_sets.now))) c.in_ok-groups.groups) tables c.in_ok-groups.ensures in
+    (placed_rows choices c.args.query.now c.args.query_sets.now places (product (rows_of c.args.query_sets.now))) c.in_ok-groups.groups) tables c.in_ok-groups.ensures in
     let are = changing_are choices c.args.query.now c.args.shape.now c.args.audit.now.tables c.args.query_sets.now c.args.audit_sets.now c.requires.query_sets c.requires.audit_sets
-        c.requires.rows c.know_order.ensures c.in_ok-groups.groups marked c.in_ok-candidates.candidates.keys c.in_ok-candidates.ensures in
+    c.requires.rows c.know_order.ensures c.in_ok-groups.groups marked c.in_ok-candidates.candidates.keys c.in_ok-candidates.ensures in
     IfOk-weaker c.first_of.result _ _ (λ shared is. is (needs_by choices c.args.query.now (Grouped c.args.shape.now) c.args.query_sets.now) are) c.first_of.ensures

@@ -1,5 +1,5 @@
 -- The tables are brought forward, and what is shared over them is found.
-use Rattle.std.proofs.Common.{rules, ◌≡◌, ◌∙◌, sym, refl}
+use Rattle.std.proofs.Common.{rules, refl}
 use Rattle.hippo_combine.specs.declared.combine.Combine.{Combine}
 use Rattle.hippo_combine.proofs.ExaminingLemmas.{up_to_number, examines_nothing, examines_fault, examines_shared}
 use Rattle.hippo_combine.proofs.combine.CombineExaminer.examine.Goals as goal
@@ -15,12 +15,16 @@ bring_both-requires-clause-up_to g c = up_to_number c.args.self.now c.args.entry
 pub returns-in_err-bring_both : goal.returns-in_err-bring_both
 returns-in_err-bring_both g c =
     let new : Combine = record { tables = c.bring_both.new.tables; asked = c.args.entry.now.seq } in
-    record { examines = examines_fault c.args.past.now c.args.audit.now c.args.entry.now c.args.query.now c.args.self.now new (g.P.Keeper.state c.args.keeper.now) c.args.steps.now refl c.requires.sound c.requires.order
-        c.in-Some.number c.in-Some.ensures.0 c.bring_both.result (g.P.Keeper.state c.bring_both.new.keeper) c.bring_both.new.steps c.bring_both.ensures.brings c.in_err-bring_both.field-0.0 c.from_residual.result (search rules) (search rules) }
+    record {
+      examines = examines_fault c.args.past.now c.args.audit.now c.args.entry.now c.args.query.now c.args.self.now new (g.P.Keeper.state c.args.keeper.now) c.args.steps.now refl c.requires.sound c.requires.order
+          c.in-Some.number c.in-Some.ensures.0 c.bring_both.result (g.P.Keeper.state c.bring_both.new.keeper) c.bring_both.new.steps c.bring_both.ensures.brings c.in_err-bring_both.field-0.0 c.from_residual.result (search rules) (search rules);
+    }
 
 pub returns : goal.returns
 returns g c =
     let new : Combine = record { tables = c.bring_both.new.tables; asked = c.args.entry.now.seq } in
-    record { examines = examines_shared c.args.past.now c.args.audit.now c.args.entry.now c.args.query.now c.args.self.now new (g.P.Keeper.state c.args.keeper.now) c.args.steps.now refl c.requires.sound c.requires.order
-        c.in-Some.number c.in-Some.ensures.0 c.bring_both.result (g.P.Keeper.state c.bring_both.new.keeper) c.bring_both.new.steps c.bring_both.ensures.brings c.in_ok-bring_both.field-0 (search rules)
-        c.as_slice.result.now c.as_slice.ensures.value c.requires.names c.in_ok-bring_both.ensures.audit c.in_ok-bring_both.ensures.query c.shared_with.result c.shared_with.ensures.memory c.shared_with.ensures.serves }
+    record {
+      examines = examines_shared c.args.past.now c.args.audit.now c.args.entry.now c.args.query.now c.args.self.now new (g.P.Keeper.state c.args.keeper.now) c.args.steps.now refl c.requires.sound c.requires.order
+          c.in-Some.number c.in-Some.ensures.0 c.bring_both.result (g.P.Keeper.state c.bring_both.new.keeper) c.bring_both.new.steps c.bring_both.ensures.brings c.in_ok-bring_both.field-0 (search rules)
+          c.as_slice.result.now c.as_slice.ensures.value c.requires.names c.in_ok-bring_both.ensures.audit c.in_ok-bring_both.ensures.query c.shared_with.result c.shared_with.ensures.memory c.shared_with.ensures.serves;
+    }

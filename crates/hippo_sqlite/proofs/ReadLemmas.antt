@@ -1,0 +1,92 @@
+-- What a query shows is what a read asks for.
+use Rattle.std.proofs.Common.{◌≡◌, ◌∙◌, ℕ, zero, suc, ◌<◌, ◌≤◌, ℤ, pos, negsuc, List, [], ◌∷◌, map, filter, take, length, Bool, true, false, cond, nat_lt, ◌&&◌, refl, sym, ap, subst, Less, int_cmp, arith}
+use Rattle.std.proofs.lemmas.Bool.Decides.{nat_tests}
+use Rattle.std.proofs.lemmas.List.{take-map, length-take}
+use Rattle.std.specs.List.{AllByRecursion, list_all}
+use Rattle.sqlite_value.specs.declared.value.Value.TheVariants.{Null, Int, Text}
+use Rattle.sqlite_value.specs.Order.{Row}
+use Rattle.sqlite_trees.specs.Tree.{Trees, IsAscending}
+use Rattle.sqlite_trees.specs.Objects.{number_in}
+use Rattle.sqlite_keyed.proofs.ListLemmas.{ascending-filter}
+use Rattle.sqlite_sql.specs.Term.{Term, holds, eval, col}
+use Rattle.sqlite.specs.Effect.{Database}
+use Rattle.sqlite.specs.Listing.{understood, reads_listing}
+use Rattle.sqlite.specs.State.{State, Shown}
+use Rattle.sqlite.proofs.Callers.{IsPlain, command_of, reads_as}
+use Rattle.hippo_model.specs.declared.stored.StoredEntry.{StoredEntry}
+use Rattle.hippo_keeper.specs.Selecting.{handed_over}
+use Rattle.hippo_sqlite.specs.declared.statements.Question.{Question}
+use Rattle.hippo_sqlite.specs.declared.statements.Question.TheVariants.{All, VersionsOf, AskedIn}
+use Rattle.hippo_sqlite.specs.Queries.{text_of, params_of, test_of, all_text, backlog_text, asked_text}
+use Rattle.hippo_sqlite.specs.Tables.{HistoryRow, stored_row, shown_row, entry_in, entries_in, AreInOrder, AreAbove, history_schema}
+use Rattle.hippo_sqlite.proofs.TextLemmas.{query, select, all_terms, backlog_terms, asked_terms, all_is, backlog_is, asked_is, all_plain, backlog_plain, asked_plain, all_reads, backlog_reads, asked_reads}
+use Rattle.hippo_sqlite.proofs.OrderLemmas.{handed}
+use Rattle.hippo_sqlite.proofs.SelectLemmas.{shows}
+use Rattle.hippo_sqlite.proofs.TestLemmas.{all_passes, backlog_passes, asked_passes}
+
+pub question_plain : (question : Question) → IsPlain (understood history_schema (text_of question))
+question_plain All = all_plain
+question_plain (VersionsOf table) = backlog_plain
+question_plain (AskedIn from to) = asked_plain
+
+-- the rows that a read is about
+abbrev pub passes : Question → ℕ → HistoryRow → Bool
+passes question after row = nat_lt after (entry_in (stored_row row)).seq && test_of question (entry_in (stored_row row))
+
+pub shown_is : (question : Question) (old new : State) (after max : ℕ) (rows : List HistoryRow) (found : List Row) → old.now.schema ≡ history_schema → old.now.trees 0 ≡ map stored_row rows → AreInOrder rows
+    → Shown (text_of question) (params_of question after max) old new found → found ≡ take max (map shown_row (filter (passes question after) rows))
+shown_is All old new after max rows found schema are order shown =
+    let read = reads_as all_text (params_of All after max) old new history_schema schema (select (query all_terms (col 0 1))) all_is all_plain all_reads found shown in
+    shows all_terms (col 0 1) (params_of All after max) old.now.trees max (passes All after) rows found are order.rise (all_passes after max) refl (read.answer Null)
+shown_is (VersionsOf table) old new after max rows found schema are order shown =
+    let read = reads_as backlog_text (params_of (VersionsOf table) after max) old new history_schema schema (select (query backlog_terms (col 0 2))) backlog_is backlog_plain backlog_reads found shown in
+    shows backlog_terms (col 0 2) (params_of (VersionsOf table) after max) old.now.trees max (passes (VersionsOf table) after) rows found are order.rise (backlog_passes table.now after max) refl (read.answer Null)
+shown_is (AskedIn from to) old new after max rows found schema are order shown =
+    let read = reads_as asked_text (params_of (AskedIn from to) after max) old new history_schema schema (select (query asked_terms (col 0 3))) asked_is asked_plain asked_reads found shown in
+    shows asked_terms (col 0 3) (params_of (AskedIn from to) after max) old.now.trees max (passes (AskedIn from to) after) rows found are order.rise (asked_passes from to after max) refl (read.answer Null)
+
+-- ---- the rows that are shown are above the number, in order
+
+above_number : (n : ℤ) (after : ℕ) → nat_lt after (number_in (Int n)) ≡ true → int_cmp (pos after) n ≡ Less
+above_number (pos n) after test = grind (arith, nat_tests)
+above_number (negsuc n) after test = absurd (let low : nat_lt after 0 ≡ false = grind (arith, nat_tests) in let both = sym low ∙ test in cc)
+
+first_passes : (question : Question) (after : ℕ) (row : HistoryRow) → passes question after row ≡ true → nat_lt after (number_in (Int row.number)) ≡ true
+first_passes question after row test = go (nat_lt after (number_in (Int row.number))) (test_of question (entry_in (stored_row row))) test
+  where
+    go : (a b : Bool) → (a && b) ≡ true → a ≡ true
+    go true b both = refl
+    go false b both = both
+
+all_above : (question : Question) (after : ℕ) (rows : List HistoryRow) → AllByRecursion (λ row. int_cmp (pos after) row.number ≡ Less) (filter (passes question after) rows)
+all_above question after [] = tt
+all_above question after (row ∷ rows) = go (passes question after row) refl (all_above question after rows)
+  where
+    go : (b : Bool) → passes question after row ≡ b → AllByRecursion (λ other. int_cmp (pos after) other.number ≡ Less) (filter (passes question after) rows)
+        → AllByRecursion (λ other. int_cmp (pos after) other.number ≡ Less) (cond (passes question after row) (row ∷ filter (passes question after) rows) (filter (passes question after) rows))
+    go true is rest = rw is (above_number row.number after (first_passes question after row is), rest)
+    go false is rest = rw is rest
+
+all_taken : (P : HistoryRow → Type 0) (max : ℕ) (rows : List HistoryRow) → AllByRecursion P rows → AllByRecursion P (take max rows)
+all_taken P zero rows all = tt
+all_taken P (suc max) [] all = tt
+all_taken P (suc max) (row ∷ rows) all = (all.0, all_taken P max rows all.1)
+
+rising_taken : (max : ℕ) (rows : List HistoryRow) → IsAscending (λ a b. int_cmp a.number b.number ≡ Less) rows → IsAscending (λ a b. int_cmp a.number b.number ≡ Less) (take max rows)
+rising_taken zero rows rising = tt
+rising_taken (suc max) [] rising = tt
+rising_taken (suc max) (row ∷ rows) rising = (all_taken (λ other. int_cmp row.number other.number ≡ Less) max rows rising.0, rising_taken max rows rising.1)
+
+-- the entries of what is shown are those that are asked for
+pub told_by : (question : Question) (old new : State) (after max : ℕ) (rows : List HistoryRow) (found : List Row) (list : List StoredEntry) → old.now.schema ≡ history_schema → old.now.trees 0 ≡ map stored_row rows → AreInOrder rows
+    → Shown (text_of question) (params_of question after max) old new found
+    → ((written : List HistoryRow) → found ≡ map shown_row written → AreAbove (pos after) written → length written ≤ max → list ≡ map (λ row. entry_in (stored_row row)) written)
+    → list ≡ handed_over (test_of question) after max (entries_in (map stored_row rows))
+told_by question old new after max rows found list schema are order shown read =
+    let passing = filter (passes question after) rows in
+    let is = shown_is question old new after max rows found schema are order shown ∙ take-map shown_row max passing in
+    let above : AreAbove (pos after) (take max passing) = record {
+      rise = rising_taken max passing (ascending-filter (λ a b. int_cmp a.number b.number ≡ Less) (passes question after) rows order.rise);
+      high = all_taken (λ row. int_cmp (pos after) row.number ≡ Less) max passing (all_above question after rows);
+    } in
+    read (take max passing) is above (omega (arith, length-take max passing)) ∙ handed (test_of question) after max (passes question after) rows (λ row. refl)

@@ -1,0 +1,123 @@
+-- What the statements of the keeper mean.
+use Rattle.std.proofs.Common.{◌≡◌, ℕ, pos, negsuc, List, [], ◌∷◌, codes, true, false, cond, Some, None, Ok, Err, refl}
+use Rattle.sqlite_value.specs.declared.value.Value.TheVariants.{Null, Int, Text}
+use Rattle.sqlite_value.specs.declared.keys.Collation.TheVariants.{Binary}
+use Rattle.sqlite_value.specs.declared.keys.Key.{Key}
+use Rattle.sqlite_sql.specs.declared.ops.BinaryOp.{BinaryOp}
+use Rattle.sqlite_sql.specs.declared.ops.BinaryOp.TheVariants.{Compare}
+use Rattle.sqlite_sql.specs.declared.ops.CompareOp.TheVariants.{Eq, Ge, Gt, Le}
+use Rattle.sqlite_sql.specs.declared.ops.UnaryOp.TheVariants.{ToInt}
+use Rattle.sqlite_sql.specs.Term.{Term, lit, col, op1, op2, case}
+use Rattle.sqlite_sql.specs.Query.{Query, inner, end}
+use Rattle.sqlite_schema.specs.declared.command.Source.TheVariants.{Values}
+use Rattle.sqlite_schema.specs.declared.schema.Schema.{Schema}
+use Rattle.sqlite_schema.specs.declared.command.Command.{Command}
+use Rattle.sqlite_schema.specs.declared.command.Command.TheVariants.{Insert, Select, CreateTable, Nothing}
+use Rattle.sqlite_resolve.specs.Compile.{table_defined_by}
+use Rattle.sqlite_tied.specs.Compute.{everything}
+use Rattle.sqlite.specs.Listing.{understood, reads_listing}
+use Rattle.sqlite.proofs.Callers.{IsPlain, command_of, statement_of}
+use Rattle.hippo_sqlite.specs.Queries.{create_text, insert_text, all_text, backlog_text, asked_text}
+use Rattle.hippo_sqlite.specs.Tables.{history_table, history_schema, empty_schema}
+
+pub create_is : (command_of (understood empty_schema create_text) ≡ CreateTable) × (table_defined_by create_text ≡ Ok history_table)
+unfolding understood everything
+create_is = (refl, refl)
+
+pub made_is : command_of (understood history_schema create_text) ≡ Nothing
+unfolding understood everything
+made_is = refl
+
+abbrev pub given : List Term
+given = col 0 0 ∷ lit Null ∷ col 0 1 ∷ col 0 2 ∷ col 0 3 ∷ col 0 4 ∷ []
+
+abbrev pub query : List Term → Term → Query
+query filter limit = record {
+  from = inner 0 end;
+  filter = filter;
+  group = None;
+  project = col 1 0 ∷ col 1 2 ∷ col 1 3 ∷ col 1 4 ∷ col 1 5 ∷ [];
+  distinct = false;
+  collations = [];
+  order = (col 1 0, record { collation = Binary; descending = false }) ∷ [];
+  limit = limit;
+  offset = lit (Int (pos 0));
+}
+
+abbrev pub names : List (List ℕ)
+names = codes "seq" ∷ codes "moment" ∷ codes "kind" ∷ codes "tbl" ∷ codes "body" ∷ []
+
+abbrev pub select : Query → Command
+select query = Select (record { lets = []; body = query }) names
+
+abbrev pub compared : BinaryOp → ℕ → ℕ → Term
+compared op place param = op2 op (col 1 place) (col 0 param)
+
+pub insert_is : command_of (understood history_schema insert_text) ≡ Insert 0 (Values given 6)
+unfolding understood everything
+insert_is = refl
+
+abbrev pub all_terms : List Term
+all_terms = compared (Compare Gt Binary) 0 0 ∷ []
+
+abbrev pub backlog_terms : List Term
+backlog_terms =
+    compared (Compare Eq Binary) 4 0 ∷ op2 (Compare Ge Binary) (col 1 3) (lit (Int (pos 2))) ∷ op2 (Compare Le Binary) (col 1 3) (lit (Int (pos 4)))
+    ∷ compared (Compare Gt Binary) 0 1 ∷ []
+
+abbrev pub asked_terms : List Term
+asked_terms =
+    op2 (Compare Eq Binary) (col 1 3) (lit (Int (pos 13))) ∷ compared (Compare Ge Binary) 2 0 ∷ compared (Compare Le Binary) 2 1
+    ∷ compared (Compare Gt Binary) 0 2 ∷ []
+
+pub all_is : command_of (understood history_schema all_text) ≡ select (query all_terms (col 0 1))
+unfolding understood everything
+all_is = refl
+
+pub backlog_is : command_of (understood history_schema backlog_text) ≡ select (query backlog_terms (col 0 2))
+unfolding understood everything
+backlog_is = refl
+
+pub asked_is : command_of (understood history_schema asked_text) ≡ select (query asked_terms (col 0 3))
+unfolding understood everything
+asked_is = refl
+
+pub create_plain : IsPlain (understood empty_schema create_text)
+unfolding understood everything
+create_plain = (refl, refl)
+
+pub made_plain : IsPlain (understood history_schema create_text)
+unfolding understood everything
+made_plain = (refl, refl)
+
+pub statement_is : statement_of create_text (understood empty_schema create_text) ≡ create_text
+unfolding understood everything
+statement_is = refl
+
+pub insert_plain : IsPlain (understood history_schema insert_text)
+unfolding understood everything
+insert_plain = (refl, refl)
+
+pub all_plain : IsPlain (understood history_schema all_text)
+unfolding understood everything
+all_plain = (refl, refl)
+
+pub backlog_plain : IsPlain (understood history_schema backlog_text)
+unfolding understood everything
+backlog_plain = (refl, refl)
+
+pub asked_plain : IsPlain (understood history_schema asked_text)
+unfolding understood everything
+asked_plain = (refl, refl)
+
+pub all_reads : reads_listing history_schema all_text ≡ false
+unfolding understood everything
+all_reads = refl
+
+pub backlog_reads : reads_listing history_schema backlog_text ≡ false
+unfolding understood everything
+backlog_reads = refl
+
+pub asked_reads : reads_listing history_schema asked_text ≡ false
+unfolding understood everything
+asked_reads = refl

@@ -1,0 +1,10 @@
+-- The rows that the query shows are the entries that are asked for.
+use Rattle.std.proofs.Common.{◌∙◌}
+use Rattle.sqlite.specs.Held.{state}
+use Rattle.hippo_sqlite.proofs.ReadLemmas.{told_by}
+use Rattle.hippo_sqlite.proofs.link.find.Goals as goal
+
+pub returns-in-Ok-entries_of-clause-told : goal.returns-in-Ok-entries_of-clause-told
+returns-in-Ok-entries_of-clause-told g c clean rows schema are order =
+    told_by c.args.question.now (state g.S.Store c.args.connection.now) (state g.S.Store c.select.new.connection) c.args.after c.args.max rows c.in-Ok.rows.items c.in-Ok-entries_of.list
+    schema are order (c.in-Ok.ensures.ok clean) (λ written is above few. c.in-Ok-entries_of.ensures.told written (c.as_slice.ensures.value ∙ is) above few)

@@ -1,0 +1,98 @@
+-- What a keeper tells of the store that it is connected to, and what its calls do to that.
+use Rattle.std.specs.Prelude.{◌≡◌, ◌⊎◌, Bool, true, false, List, [], ◌∷◌, ◌++◌, codes, find, map, Result, OnOk, IsTrue, ⊤}
+use Rattle.std.specs.Option.{option_map_or}
+use Rattle.sqlite_trees.specs.declared.store.Store as store
+use Rattle.sqlite_trees.specs.Tree.{Trees}
+use Rattle.sqlite_schema.specs.declared.schema.Schema.{Schema}
+use Rattle.sqlite_schema.specs.Names.{same_name}
+use Rattle.sqlite_catalog.specs.Listing.{IsSound}
+use Rattle.sqlite.specs.Effect.{Database, IsDatabase}
+use Rattle.sqlite.specs.State.{State, HasCleanDisk}
+use Rattle.sqlite.specs.Held.{Held, state}
+use Rattle.hippo_model.specs.declared.stored.StoredEntry.{StoredEntry}
+use Rattle.hippo_keeper.specs.Answering.{has_failed, wants_memory}
+use Rattle.hippo_keeper.specs.Keeping.{Store, Survivors, RisesAbove}
+use Rattle.hippo_keeper.specs.declared.faults.KeeperFault.{KeeperFault}
+use Rattle.hippo_sqlite.specs.Tables.{HistoryRow, stored_row, entries_in, AreInOrder, history_schema, empty_schema}
+
+-- the entries in a database: those of its table `history`, or none where it has no such table
+abbrev pub entries_of : Schema → Trees → Store
+entries_of schema trees =
+    option_map_or (λ table. entries_in (trees table.tree))
+    (find (λ table. same_name table.name (codes "history")) schema.tables) []
+
+-- the trees are those of a database with these entries
+abbrev pub IsKeptIn : Trees → Store → Type 0
+IsKeptIn trees entries = (schema : Schema) × IsSound schema trees × (entries ≡ entries_of schema trees)
+
+-- the database has the table of the history alone, with rows of its types in the order of their numbers
+pub record HasHistory (db : Database) : Type 0 where
+  pub schema : db.schema ≡ history_schema
+  pub rows : List HistoryRow
+  pub are : db.trees 0 ≡ map stored_row rows
+  pub order : AreInOrder rows
+
+-- it has no table, or that of the history alone
+abbrev pub StartsWell : Database → Type 0
+StartsWell db = (db.schema ≡ empty_schema) ⊎ HasHistory db
+
+-- between calls no transaction is begun, and what was committed has the history
+pub record Rests (s : State) : Type 0 where
+  pub autocommit : s.in_transaction ≡ false
+  pub settled : s.now ≡ s.committed
+  pub sound : IsDatabase s.committed
+  pub history : HasHistory s.committed
+
+-- what clauses see of a connection
+pub record Contents : Type 1 where
+  pub tells : Type 0
+  pub kept : Store
+  pub survives : Survivors
+  pub rests : Type 0
+
+-- of a connection as it is, as it last told, which is before a call that failed, and as it was opened
+abbrev pub contents : {S : Type 0} → store.Ghosts S → Held S → Held S → Held S → Contents
+contents g now told opened = record {
+  tells = HasCleanDisk (state g now) × IsTrue (state g told).is_open × StartsWell (state g opened).now;
+  kept = entries_of (state g told).committed.schema (state g told).committed.trees;
+  survives = λ entries. (trees : Trees) × (state g now).may_leave trees × IsKeptIn trees entries;
+  rests = (told ≡ now) × (HasCleanDisk (state g now) → IsTrue (state g now).is_open → StartsWell (state g opened).now
+      → Rests (state g now));
+}
+
+-- where there is no connection, nothing is kept
+abbrev pub no_contents : Contents
+no_contents = record { tells = ⊤; kept = []; survives = λ entries. entries ≡ []; rests = ⊤ }
+
+-- a stop now leaves just what is kept
+pub record OnlyKept (it : Contents) : Type 0 where
+  pub survives_stop : it.survives it.kept
+  pub alone : (entries : Store) → it.survives entries → entries ≡ it.kept
+
+-- the same is kept, no other list survives a stop, and one does
+pub record IsSame (old new : Contents) : Type 0 where
+  pub kept : new.kept ≡ old.kept
+  pub stop : (entries : Store) → new.survives entries → old.survives entries
+  pub some : ∥ ((entries : Store) × new.survives entries) ∥₁
+
+-- after any call, unless it failed, the connection rests
+pub record GoesOn {A : Type 0} (result : Result A KeeperFault) (old new : Contents) : Type 0 where
+  pub told : new.tells → old.tells
+  pub rests : has_failed result ≡ false → new.rests
+
+-- an append puts one entry behind what is kept; where it fails, a stop may leave it or not, and where memory is short
+-- it does nothing
+pub record AppendsTo {A : Type 0} (entry : StoredEntry) (result : Result A KeeperFault)
+    (old new : Contents) : Type 0 where
+  pub on : GoesOn result old new
+  pub longer : OnOk result (new.tells → new.kept ≡ old.kept ++ entry ∷ [])
+  pub only : OnOk result (new.tells → OnlyKept new)
+  pub kept : has_failed result ≡ true → new.kept ≡ old.kept
+  pub stop : has_failed result ≡ true → new.tells → (entries : Store) → new.survives entries
+      → old.survives entries ⊎ (entries ≡ old.kept ++ entry ∷ [])
+  pub memory : wants_memory result ≡ true → new.tells → IsSame old new
+
+-- a read changes nothing that is kept
+pub record LooksAt {A : Type 0} (result : Result A KeeperFault) (old new : Contents) : Type 0 where
+  pub on : GoesOn result old new
+  pub same : new.tells → IsSame old new

@@ -1,0 +1,35 @@
+-- What a statement did, as a keeper answers it.
+use Rattle.std.specs.Prelude.{◌≡◌, ◌⊎◌, ℕ, List, [], Result, Ok, Err, Bool, false, true}
+use Rattle.sqlite_value.specs.Order.{Row}
+use Rattle.sqlite.specs.declared.error.Error.{Error}
+use Rattle.sqlite.specs.State.{State, HasCleanDisk, Survives, Executes, CommitsBy, Shown, FailsToQuery, CommitsShowing}
+use Rattle.hippo_keeper.specs.Keeping.{Store, RisesAbove}
+use Rattle.hippo_keeper.specs.declared.faults.KeeperFault.{KeeperFault}
+use Rattle.hippo_sqlite.specs.Standings.{fault_named}
+use Rattle.hippo_sqlite.specs.Tables.{empty_schema}
+use Rattle.hippo_sqlite.specs.Contents.{Contents, IsKeptIn, OnlyKept}
+
+abbrev pub answered : Result ℕ Error → Result (Unit {0}) KeeperFault
+answered (Ok count) = Ok tt
+answered (Err e) = Err (fault_named e)
+
+-- a statement was run, and its outcome is answered so
+pub record HasExecuted (text : List ℕ) (params : Row) (result : Result (Unit {0}) KeeperFault)
+    (old new : State) : Type 0 where
+  pub ran : HasCleanDisk new
+      → (outcome : Result ℕ Error) × Executes text params old new outcome × (result ≡ answered outcome)
+  pub survives : Survives old new (CommitsBy text params old)
+
+-- a query showed rows, or failed
+abbrev pub HasLooked : List ℕ → Row → State → State → Type 0
+HasLooked text params old new =
+    ((rows : List Row) × Shown text params old new rows) ⊎ ((e : Error) × FailsToQuery text params old new e)
+
+-- a connection that was opened so has the table of the history, and keeps what was found
+pub record IsLinked (opened : State) (it : Contents) : Type 0 where
+  pub rests : it.rests
+  pub clean : it.tells → HasCleanDisk opened
+  pub found : it.tells → IsKeptIn opened.committed.trees it.kept
+  pub order : it.tells → RisesAbove 0 it.kept
+  pub only : it.tells → OnlyKept it
+  pub empty : it.tells → opened.now.schema ≡ empty_schema → it.kept ≡ []

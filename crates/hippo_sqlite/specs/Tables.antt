@@ -1,0 +1,107 @@
+-- The table of the history, and the rows that it holds.
+use Rattle.std.specs.Prelude.{◌≡◌, true, false, [], ◌∷◌, Some, codes, List, ℕ, ◌^◌, ℤ, pos, map, filter, find, nat_lt, if◌then◌else◌}
+use Rattle.std.specs.declared.cmp.Ordering.TheVariants.{Less}
+use Rattle.std.specs.List.{AllByRecursion}
+use Rattle.std.specs.Option.{option_map_or}
+use Rattle.std.specs.Ordering.{int_cmp}
+use Rattle.sqlite_value.specs.declared.value.Value.{Value}
+use Rattle.sqlite_value.specs.declared.keys.Collation.TheVariants.{Binary}
+use Rattle.sqlite_value.specs.declared.value.Value.TheVariants.{Null, Int, Text as Words, Blob as Bytes}
+use Rattle.sqlite_value.specs.Order.{Row, column, bytes}
+use Rattle.sqlite_trees.specs.Objects.{number_in}
+use Rattle.sqlite_trees.specs.Tree.{Trees, IsAscending}
+use Rattle.sqlite_rules.specs.Edit.{id_in}
+use Rattle.hippo_model.specs.declared.stored.StoredEntry.{StoredEntry}
+use Rattle.hippo_keeper.specs.Keeping.{Store}
+use Rattle.sqlite_schema.specs.Names.{same_name}
+use Rattle.sqlite_schema.specs.declared.schema.Table.{Table}
+use Rattle.sqlite_schema.specs.declared.schema.Schema.{Schema}
+use Rattle.sqlite_schema.specs.declared.schema.Column.{Column}
+use Rattle.sqlite_schema.specs.declared.schema.Kind.{Kind}
+use Rattle.sqlite_schema.specs.declared.schema.Kind.TheVariants.{Integer, Text, Blob}
+
+abbrev pub needed : List ℕ → Kind → Column
+needed name kind =
+    record { name = name; kind = kind; is_strict = true; not_null = true; default = Null; collation = Binary }
+
+-- the table that the keeper makes in a store with no other
+abbrev pub history_table : Table
+history_table = record {
+  name = codes "history";
+  tree = 0;
+  columns = record (needed (codes "seq") Integer) { not_null = false }
+      ∷ needed (codes "moment") Integer ∷ needed (codes "kind") Integer ∷ needed (codes "tbl") Text
+      ∷ needed (codes "body") Blob ∷ [];
+  key = Some 0;
+  primary = 0 ∷ [];
+  uniques = [];
+  orders = [];
+  checks = [];
+  references = [];
+  computed = [];
+  stamps = record { places = []; terms = []; formats = [] };
+  is_counted = false;
+}
+
+abbrev pub history_schema : Schema
+history_schema = record { tables = history_table ∷ []; indexes = []; views = [] }
+
+abbrev pub empty_schema : Schema
+empty_schema = record { tables = []; indexes = []; views = [] }
+
+-- the values in a row of the table
+pub record HistoryRow : Type 0 where
+  pub number : ℤ
+  pub moment : ℤ
+  pub kind : ℤ
+  pub table : List ℕ
+  pub body : List ℕ
+
+-- as a query shows it
+abbrev pub shown_row : HistoryRow → Row
+shown_row row = Int row.number ∷ Int row.moment ∷ Int row.kind ∷ Words row.table ∷ Bytes row.body ∷ []
+
+-- as a statement is given it
+abbrev pub values_of : HistoryRow → Row
+values_of row = shown_row row
+
+-- as the table has it: first its rowid, for which the first column stands
+abbrev pub stored_row : HistoryRow → Row
+stored_row row = Int row.number ∷ Null ∷ Int row.moment ∷ Int row.kind ∷ Words row.table ∷ Bytes row.body ∷ []
+
+-- the row of an entry
+abbrev pub row_of : StoredEntry → HistoryRow
+row_of entry = record {
+  number = pos entry.seq;
+  moment = entry.moment;
+  kind = pos entry.kind;
+  table = entry.table;
+  body = entry.body;
+}
+
+-- a kind is from 0 to 255, and any other number is read as 0
+abbrev pub kind_in : Value → ℕ
+kind_in value = if nat_lt (number_in value) 256 then number_in value else 0
+
+abbrev pub entry_in : Row → StoredEntry
+entry_in row = record {
+  seq = number_in (column row 0);
+  moment = id_in (column row 2);
+  kind = kind_in (column row 3);
+  table = bytes (column row 4);
+  body = bytes (column row 5);
+}
+
+-- the entries of the rows whose number is above 0
+abbrev pub entries_in : List Row → Store
+entries_in rows = filter (λ entry. nat_lt 0 entry.seq) (map entry_in rows)
+
+-- rows of the table's types, in the order of their numbers, which have 64 bits
+pub record AreInOrder (rows : List HistoryRow) : Type 0 where
+  pub rise : IsAscending (λ a b. int_cmp a.number b.number ≡ Less) rows
+  pub low : AllByRecursion (λ row. int_cmp row.number (pos (2 ^ 63)) ≡ Less) rows
+
+-- rows in the order of their numbers, which are above this one
+pub record AreAbove (number : ℤ) (rows : List HistoryRow) : Type 0 where
+  pub rise : IsAscending (λ a b. int_cmp a.number b.number ≡ Less) rows
+  pub high : AllByRecursion (λ row. int_cmp number row.number ≡ Less) rows
