@@ -2,6 +2,7 @@
 use Rattle.std.proofs.Common.{◌≡◌, ◌≢◌, ◌∙◌, ◌⊎◌, ◌≤◌, ◌+◌, ℕ, ℤ, refl, sym, ap, subst, inl, inr, arith, Bool, true, false, List, [], ◌++◌, map, length, Option, Some, None, Result, Ok, Err, append-nil}
 use Rattle.std.specs.Prelude.{min, bytes_eq, OnOk, IfOk}
 use Rattle.std.specs.List.{IsDistinct}
+use Rattle.std.specs.Result.{result_map_both}
 use Rattle.std.proofs.lemmas.Bool.{false≢true}
 use Rattle.hippo_values.specs.Texts.{Txt}
 use Rattle.hippo_values.specs.declared.moments.Moment.{Moment}
@@ -75,6 +76,13 @@ moment_is text = by (moment_in text) refl
 pub period_is : (written : RawAudit) → IsPeriodOf written (period_in written)
 period_is written = record { from = moment_is written.from; to = moment_is written.to }
 
+-- the audit that a catalog's names give is that of the history, at the console
+pub audit_found : (history : History) (session : ℕ) (written : RawAudit) (known : KnownNames) (result : Checked Audit) → ◌≡◌ {A = Checked (Unit {0})} (Ok tt) (by_console session) → known ≡ known_at history
+    → Finds (λ audit. audit) (meant (audit_refused known (period_in written) written) (audit_of known (period_in written) written)) result → Finds (λ audit. audit) (audit_in history session written) result
+audit_found history session written known result passed same finds =
+    subst (λ (console : Checked (Unit {0})). Finds (λ audit. audit) (console >>= λ _. meant (audit_refused (known_at history) (period_in written) written) (audit_of (known_at history) (period_in written) written)) result) passed
+    (subst (λ (names : KnownNames). Finds (λ audit. audit) (meant (audit_refused names (period_in written) written) (audit_of names (period_in written) written)) result) same finds)
+
 -- an audit expression of which nothing is refused means an audit of each history that the state stands for
 pub audit_stands : (held : State) (written : RawAudit) (audit : Audit) (history : History) → StandsFor held history
     → (audit_refused held.catalog.names (period_in written) written ≡ []) × (audit ≡ audit_of held.catalog.names (period_in written) written) → IsAuditOf history audit
@@ -91,7 +99,7 @@ abbrev pub found_by : Result (Unit {0}) ReadFault → Job Combine → Result (Li
 found_by (Ok all) job = Ok job.waiting
 found_by (Err fault) job = Err fault
 
-same_call : (result : Result (Unit {0}) ReadFault) (job : Job Combine) → has_failed (reads.as_call result) ≡ has_failed (reads.as_call (found_by result job))
+same_call : (result : Result (Unit {0}) ReadFault) (job : Job Combine) → has_failed (reads.as_call (found_by result job)) ≡ has_failed (reads.as_call result)
 same_call (Ok all) job = refl
 same_call (Err Keeper) job = refl
 same_call (Err (Damaged number)) job = refl
@@ -137,7 +145,7 @@ finds_flags audit held past combine result job before after steps steps' new is_
         fault_of (Err other) = Err other
 
 -- how the line ends is how its keeper's calls did
-ended_same : (found : Result (List Flag) ReadFault) → has_failed (reads.as_call found) ≡ has_failed (as_call (ended found))
+ended_same : (found : Result (List Flag) ReadFault) → has_failed (as_call (ended found)) ≡ has_failed (reads.as_call found)
 ended_same (Ok flags) = refl
 ended_same (Err Keeper) = refl
 ended_same (Err (Damaged number)) = refl
@@ -221,3 +229,22 @@ Carries-audited text written audit session result old new before after steps ste
     either history is flags fine (inl said) = effect_found history (world_of old.world) text written audit is tells.found new.reply flags fine said
     either history is flags fine (inr said) =
         subst (λ (r : Txt). IsEffect history (world_of old.world) (state 0 (stmt.Audit written) text) (only_reply (world_of old.world) r)) (sym said) (short_of_memory history (world_of old.world) text written audit is)
+
+-- how the line ends, by the job or by what it found
+pub ended_view : (result : Result (Unit {0}) EngineFault) (found : Result (Job Combine) ReadFault) → result ≡ ended found → result ≡ ended (result_map_both (λ (job : Job Combine). job.waiting) (λ fault. fault) found)
+ended_view result (Ok job) is = is
+ended_view result (Err Keeper) is = is
+ended_view result (Err (Damaged number)) is = is
+ended_view result (Err Memory) is = is
+
+-- an audit that is refused changes nothing
+pub refused_audit : (text : Txt) (written : RawAudit) (session : ℕ) (refusal : Refusal) (engine : Engine) → ((history : History) → StandsFor engine.state history → Finds (λ audit. audit) (audit_in history session written) (Err refusal))
+    → IsRefused (state session (stmt.Audit written) text) session refusal engine
+refused_audit text written session refusal engine refuses = record {
+  who = refl;
+  memory = refl;
+  refused = λ history stands. elim (refuses history stands) [
+    | inl is ↦ inl (ap (λ (checked : Checked Audit). checked >>= λ audit. Ok (deeds.audit audit)) is)
+    | inr is ↦ inr is
+  ];
+}

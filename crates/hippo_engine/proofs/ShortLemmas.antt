@@ -1,6 +1,7 @@
 -- A line that takes memory may be answered by want of it.
 use Rattle.std.proofs.Common.{◌≡◌, inl, inr, refl, ap, sym, true, Option, Ok, Err, List, Some, None}
 use Rattle.std.specs.Prelude.{ℕ, int_lt, ok_or}
+use Rattle.hippo_model.specs.declared.audit.Audit.{Audit}
 use Rattle.hippo_model.specs.declared.audit.Pair.{Pair}
 use Rattle.hippo_model.specs.declared.entry.Act.{Act}
 use Rattle.hippo_model.specs.declared.entry.Entry.{Entry}
@@ -32,7 +33,7 @@ use Rattle.hippo_engine.specs.declared.asking.Handing.TheVariants.{Rows, Records
 use Rattle.hippo_engine.specs.Deeds.{Deed, Question}
 use Rattle.hippo_engine.specs.Deeds as deeds
 use Rattle.hippo_engine.specs.Checks.{Checked, ◌>>=◌, refused_if, by_console, open_session, may_log_in, meant, act_made, has_room, question_at}
-use Rattle.hippo_engine.specs.Judging.{judged, judged_login, judged_fetch, judged_close, judged_wanted, judged_change, insert_of, judged_load, text_between, question_in, delivery_for, deed_for, judged_question}
+use Rattle.hippo_engine.specs.Judging.{judged, judged_login, judged_fetch, judged_close, judged_wanted, judged_change, insert_of, judged_load, text_between, question_in, delivery_for, deed_for, judged_question, audit_in}
 use Rattle.hippo_engine.specs.Effects.{only_reply, carried_out, effect_of, IsShort, IsEffect}
 
 -- a judgement is no step of a job
@@ -124,7 +125,8 @@ stepless history world (state number (stmt.Extract written start end) text) =
 stepless history world (state number (stmt.Explain question) text) =
     check {A = Unit {0}} (by_console number) (λ console. ok_or (question_at history question) (NoSuchQuery question) >>= λ entry. Ok (deeds.explain entry))
     (λ console. check {A = Entry} (ok_or (question_at history question) (NoSuchQuery question)) (λ entry. Ok (deeds.explain entry)) (λ entry. tt))
-stepless history world (state number (stmt.Audit audit) text) = tt
+stepless history world (state number (stmt.Audit written) text) =
+    check {A = Audit} (audit_in history number written) (λ audit. Ok (deeds.audit audit)) (λ audit. tt)
 stepless history world (state number (stmt.BeginAudit audit) text) = tt
 stepless history world (state number (stmt.Watch audit) text) = tt
 stepless history world (state number statement text) = change history world number statement
