@@ -55,7 +55,7 @@ nothing_more [] more same = same
 nothing_more (first ∷ front) more same = nothing_more front more (ap (drop 1) same)
 
 -- the flags between two places with the same questions before them
-skipped : (history : History) (audit : Audit) (ahead : ReadAhead) (low high : ℕ) → is_valid meaning history ≡ true → low ≤ high
+pub skipped : (history : History) (audit : Audit) (ahead : ReadAhead) (low high : ℕ) → is_valid meaning history ≡ true → low ≤ high
     → (split : IsAhead (was_asked audit) low ahead history) (moved : IsAhead (was_asked audit) high ahead history) → moved.used ≡ split.used → flags_between meaning history audit low high ≡ []
 skipped history audit ahead low high valid le split moved same =
     let test : Entry → Bool = was_asked audit in
@@ -114,7 +114,7 @@ reads_so number ahead kept first = ap (λ (o : Option StoredEntry). nat_le numbe
     or_true true = refl
     or_true false = refl
 
-above_place : (held : Store) (kept : StoredEntry) (place : ℕ) → slice_get held 0 ≡ Some kept → RisesAbove place held → place < kept.seq
+pub above_place : (held : Store) (kept : StoredEntry) (place : ℕ) → slice_get held 0 ≡ Some kept → RisesAbove place held → place < kept.seq
 above_place [] kept place first rises = absurd cc
 above_place (one ∷ rest) kept place first rises = subst (λ (k : StoredEntry). place < k.seq) (some_is one kept first) rises.0
 

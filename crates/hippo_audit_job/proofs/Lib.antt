@@ -7,3 +7,5 @@ pub mod QuestionLemmas
 pub mod ReadingLemmas
 pub mod StepLemmas
 pub mod FirstLemmas
+pub mod FlagLemmas
+pub mod PassedLemmas
