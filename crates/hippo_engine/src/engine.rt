@@ -121,10 +121,7 @@ impl Engine {
                 )
             }
             Stmt::Explain(number) => self.explain(alloc, keeper, session, number, steps),
-            Stmt::Extract { .. }
-            | Stmt::Audit(_)
-            | Stmt::BeginAudit(_)
-            | Stmt::Watch(_) => {
+            Stmt::Extract { .. } | Stmt::Audit(_) | Stmt::BeginAudit(_) | Stmt::Watch(_) => {
                 self.refuse_unbuilt(session, statement);
                 Ok(())
             }
