@@ -45,6 +45,7 @@ none_waiting number ahead read = none_held ahead.waiting read
     some_read : (within : Bool) → (within || true) ≡ false → ⊥
     some_read true e = absurd cc
     some_read false e = absurd cc
+
     none_held : (held : Store) → (nat_le number ahead.reached || is_some (slice_get held 0)) ≡ false → held ≡ []
     none_held [] e = refl
     none_held (one ∷ rest) e = absurd (some_read (nat_le number ahead.reached) e)

@@ -155,7 +155,15 @@ impl<X> Job<X> {
     {
         let number = entry.seq;
         self.place = number - 1;
-        match find_flag(&mut self.examiner, keeper, alloc, past, entry, &self.audit, steps) {
+        match find_flag(
+            &mut self.examiner,
+            keeper,
+            alloc,
+            past,
+            entry,
+            &self.audit,
+            steps,
+        ) {
             Ok(flag) => match self.add(number, flag) {
                 Ok(()) => Ok(()),
                 Err(Memory) => Err(ReadFault::Memory),
