@@ -103,7 +103,7 @@ first_waits (entry ∷ rest) held kept forms first = record {
   form = some_is (stored entry) kept (sym (ap (λ (s : Store). slice_get s 0) forms) ∙ first);
 }
 
-begins_before : (held : Store) (kept : StoredEntry) (place : ℕ) → slice_get held 0 ≡ Some kept → place < kept.seq → BeginsAbove place held
+pub begins_before : (held : Store) (kept : StoredEntry) (place : ℕ) → slice_get held 0 ≡ Some kept → place < kept.seq → BeginsAbove place held
 begins_before [] kept place first below = tt
 begins_before (one ∷ rest) kept place first below = subst (λ (k : StoredEntry). place < k.seq) (sym (some_is one kept first)) below
 
