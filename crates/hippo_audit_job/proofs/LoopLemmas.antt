@@ -1,7 +1,6 @@
 -- The loops of a step: what its parts ask and leave.
-use Rattle.std.proofs.Common.{◌≡◌, ◌∙◌, sym, ap, refl, arith, true, false, Bool, ℕ, ◌+◌, ◌<◌, ◌≤◌, nat_lt, min, [], ◌∷◌, drop, length, slice_get, None, Some, Result, Ok, Err}
+use Rattle.std.proofs.Common.{◌≡◌, ◌∙◌, ap, refl, arith, true, false, Bool, ℕ, ◌<◌, ◌≤◌, [], ◌∷◌, drop, length, slice_get, None, Some, Result, Ok, Err}
 use Rattle.std.specs.Prelude.{◌&&◌}
-use Rattle.std.proofs.lemmas.Bool.Decides.{nat_tests}
 use Rattle.hippo_model.specs.declared.entry.Entry.{Entry}
 use Rattle.hippo_model.specs.declared.stored.StoredEntry.{StoredEntry}
 use Rattle.hippo_entry.specs.Forms.{IsEntryOf}
@@ -30,12 +29,6 @@ fewer_left (one ∷ rest) kept first = omega arith
 -- an entry has the number of its form
 pub form_number : (kept : StoredEntry) (entry : Entry) → IsEntryOf kept (Some entry) → entry.seq ≡ kept.seq
 form_number kept entry form = ap (λ (k : StoredEntry). k.seq) form.sound.1
-
-pub is_below : (low high : ℕ) → nat_lt low high ≡ true → low < high
-is_below low high test = grind (arith, nat_tests)
-
-pub is_not_below : (low high : ℕ) → nat_lt low high ≡ false → high ≤ low
-is_not_below low high test = grind (arith, nat_tests)
 
 pub and_done : (mark : Bool) → mark ≡ (mark && true)
 and_done true = refl

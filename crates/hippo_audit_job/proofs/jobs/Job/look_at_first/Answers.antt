@@ -4,7 +4,7 @@ use Rattle.std.specs.Option.{option_copied}
 use Rattle.hippo_audit_job.proofs.StepLemmas.{LooksOn-none}
 use Rattle.hippo_audit_job.proofs.FirstLemmas.{begins_before}
 use Rattle.hippo_audit_job.proofs.FlagLemmas.{LooksOn-as, LooksOn-fault, LooksOn-undecoded}
-use Rattle.hippo_audit_job.proofs.LoopLemmas.{begins_none, fewer_left, form_number, is_below, is_not_below}
+use Rattle.hippo_audit_job.proofs.LoopLemmas.{begins_none, fewer_left, form_number}
 use Rattle.hippo_audit_job.proofs.jobs.Job.look_at_first.Goals as goal
 
 pub returns-in_default-clause-looks : goal.returns-in_default-clause-looks
@@ -29,7 +29,7 @@ returns-then-upto-kept-clause-looks g c =
 
 pub returns-then-upto-kept-clause-past : goal.returns-then-upto-kept-clause-past
 returns-then-upto-kept-clause-past g c =
-    λ e. begins_before c.args.self.now.questions.waiting c.in-Some.kept.now c.args.upto (sym c.in-Some.ensures) (is_below c.args.upto c.in-Some.kept.now.seq c.if-upto-kept.true)
+    λ e. begins_before c.args.self.now.questions.waiting c.in-Some.kept.now c.args.upto (sym c.in-Some.ensures) c.if-upto-kept.true
 
 pub returns-then-upto-kept-clause-fewer : goal.returns-then-upto-kept-clause-fewer
 returns-then-upto-kept-clause-fewer g c =
@@ -54,14 +54,14 @@ look_at-requires-clause-first g c =
 pub look_at-requires-clause-within : goal.look_at-requires-clause-within
 look_at-requires-clause-within g c =
     let number = form_number c.in-Some.kept.now c.in-Ok.entry c.in-Ok.ensures in
-    let up = is_not_below c.args.upto c.in-Some.kept.now.seq c.if-upto-kept.false in
+    let up = c.if-upto-kept.false in
     let within = c.requires.within in
     omega (arith, number, up, within)
 
 pub returns-in-Ok-look_at-clause-looks : goal.returns-in-Ok-look_at-clause-looks
 returns-in-Ok-look_at-clause-looks g c =
     let number = form_number c.in-Some.kept.now c.in-Ok.entry c.in-Ok.ensures in
-    let up = is_not_below c.args.upto c.in-Some.kept.now.seq c.if-upto-kept.false in
+    let up = c.if-upto-kept.false in
     LooksOn-as g.X.Examiner.terms c.in-Ok.entry.seq c.args.upto c.args.past.now (Ok c.in-Ok-look_at.field-0) (Ok true) c.args.self.now c.look_at.new.self (g.P.Keeper.state c.args.keeper.now) (g.P.Keeper.state c.look_at.new.keeper) c.args.steps.now c.look_at.new.steps (omega (arith, number, up)) refl (λ other not e. absurd cc) c.in-Ok-look_at.ensures.looks
 
 pub returns-in-Ok-look_at-clause-past : goal.returns-in-Ok-look_at-clause-past
@@ -79,7 +79,7 @@ returns-in-Ok-look_at-clause-others g c =
 pub returns-in-Err-look_at-clause-looks : goal.returns-in-Err-look_at-clause-looks
 returns-in-Err-look_at-clause-looks g c =
     let number = form_number c.in-Some.kept.now c.in-Ok.entry c.in-Ok.ensures in
-    let up = is_not_below c.args.upto c.in-Some.kept.now.seq c.if-upto-kept.false in
+    let up = c.if-upto-kept.false in
     LooksOn-fault g.X.Examiner.terms (Unit {0}) Bool c.in-Ok.entry.seq c.args.upto c.args.past.now c.in-Err-look_at.fault c.args.self.now c.look_at.new.self (g.P.Keeper.state c.args.keeper.now) (g.P.Keeper.state c.look_at.new.keeper) c.args.steps.now c.look_at.new.steps (omega (arith, number, up)) c.in-Err-look_at.ensures.looks
 
 pub returns-in-Err-look_at-clause-past : goal.returns-in-Err-look_at-clause-past
