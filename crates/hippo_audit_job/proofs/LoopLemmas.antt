@@ -1,5 +1,5 @@
 -- The loops of a step: what its parts ask and leave.
-use Rattle.std.proofs.Common.{◌≡◌, ◌∙◌, ap, refl, arith, true, false, Bool, ℕ, ◌<◌, ◌≤◌, [], ◌∷◌, drop, length, slice_get, None, Some, Result, Ok, Err}
+use Rattle.std.proofs.Common.{◌≡◌, ◌∙◌, ap, refl, arith, true, false, Bool, ℕ, ◌<◌, ◌≤◌, [], ◌∷◌, drop, length, slice_get, None, Some, Result, Ok}
 use Rattle.std.specs.Prelude.{◌&&◌}
 use Rattle.hippo_model.specs.declared.entry.Entry.{Entry}
 use Rattle.hippo_model.specs.declared.stored.StoredEntry.{StoredEntry}

@@ -133,7 +133,6 @@ impl<X> Job<X> {
     }
 
     // Looks at the first question that was read ahead, which is this entry.
-    #[tactic(none)]
     fn look_at<P: Keeper, L: Ledger>(
         &mut self,
         entry: Entry,
@@ -155,7 +154,15 @@ impl<X> Job<X> {
     {
         let number = entry.seq;
         self.place = number - 1;
-        match find_flag(&mut self.examiner, keeper, alloc, past, entry, &self.audit, steps) {
+        match find_flag(
+            &mut self.examiner,
+            keeper,
+            alloc,
+            past,
+            entry,
+            &self.audit,
+            steps,
+        ) {
             Ok(flag) => match self.add(number, flag) {
                 Ok(()) => Ok(()),
                 Err(Memory) => Err(ReadFault::Memory),
@@ -165,7 +172,6 @@ impl<X> Job<X> {
     }
 
     // Looks at the first question that was read ahead, if its number is at most this; whether there was one.
-    #[tactic(none)]
     fn look_at_first<P: Keeper, L: Ledger>(
         &mut self,
         keeper: &mut P,
@@ -202,7 +208,6 @@ impl<X> Job<X> {
     }
 
     // Looks at the questions that were read ahead and are numbered up to this.
-    #[tactic(none)]
     fn look_at_waiting<P: Keeper, L: Ledger>(
         &mut self,
         keeper: &mut P,
@@ -232,7 +237,6 @@ impl<X> Job<X> {
     }
 
     // Looks at the numbers up to this one.
-    #[tactic(none)]
     fn look_up_to<P: Keeper, L: Ledger>(
         &mut self,
         keeper: &mut P,
@@ -273,7 +277,6 @@ impl<X> Job<X> {
     /// Where it fails, it has looked up to a number between, and the flags up to there wait. That is said where the
     /// keeper tells a valid history of which this is the past, and which the job fits; then `Damaged` never comes.
     /// `Keeper` comes only where the keeper's count of faults rose. Steps and what is taken rise by the same.
-    #[tactic(none)]
     pub fn step<P: Keeper, L: Ledger>(
         &mut self,
         keeper: &mut P,

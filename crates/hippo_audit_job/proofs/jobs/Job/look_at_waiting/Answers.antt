@@ -1,5 +1,5 @@
 -- One question after the other is looked at.
-use Rattle.std.proofs.Common.{◌∙◌, refl, true, false, Ok, Bool}
+use Rattle.std.proofs.Common.{refl, Bool}
 use Rattle.hippo_audit_job.proofs.LoopLemmas.{LooksOn-start, LooksOn-more, LooksOn-stop, ready_after, IsAsFar-then}
 use Rattle.hippo_audit_job.proofs.jobs.Job.look_at_waiting.Goals as goal
 
