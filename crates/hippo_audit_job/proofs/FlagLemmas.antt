@@ -1,5 +1,5 @@
 -- The first question that was read ahead, taken as its entry: what looking at it makes of a job.
-use Rattle.std.proofs.Common.{◌≡◌, ◌∙◌, sym, ap, refl, subst, arith, true, false, ℕ, ◌-◌, ◌<◌, ◌≤◌, List, slice_get, Option, None, Some, Result, Ok, Err}
+use Rattle.std.proofs.Common.{◌≡◌, ◌∙◌, sym, ap, refl, subst, arith, true, false, ℕ, ◌-◌, ◌<◌, ◌≤◌, List, slice_get, Option, Some, Result, Ok, Err}
 use Rattle.std.specs.Prelude.{◌≢◌, option_and_then}
 use Rattle.std.specs.Result.{result_map_both}
 use Rattle.hippo_model.specs.declared.audit.Flag.{Flag}

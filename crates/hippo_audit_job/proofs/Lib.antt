@@ -9,3 +9,4 @@ pub mod StepLemmas
 pub mod FirstLemmas
 pub mod FlagLemmas
 pub mod PassedLemmas
+pub mod LoopLemmas

@@ -1,11 +1,10 @@
 -- A job whose place moves on to a number up to which no question waits.
-use Rattle.std.proofs.Common.{◌≡◌, ◌∙◌, sym, ap, refl, subst, arith, ℕ, ◌+◌, ◌-◌, ◌<◌, ◌≤◌, Bool, true, false, List, [], ◌∷◌, ◌++◌, map, length, nat_le, nat_lt, slice_get, Option, None, Some, Result, Ok, Err}
-use Rattle.std.specs.Prelude.{◌≢◌, ◌||◌, is_some}
+use Rattle.std.proofs.Common.{◌≡◌, ◌∙◌, sym, ap, refl, arith, ℕ, ◌+◌, ◌<◌, ◌≤◌, Bool, true, false, List, [], ◌∷◌, ◌++◌, length, nat_le, slice_get}
+use Rattle.std.specs.Prelude.{◌||◌, is_some}
 use Rattle.std.proofs.lemmas.Bool.{false≢true}
 use Rattle.std.proofs.lemmas.Bool.Decides.{nat_tests}
 use Rattle.std.proofs.lemmas.List.{append-nil}
 use Rattle.hippo_model.specs.declared.audit.Flag.{Flag}
-use Rattle.hippo_model.specs.Terms.{History}
 use Rattle.hippo_model.specs.Audits.{flags_between}
 use Rattle.hippo_keeper.specs.Keeping.{Store, KeeperState, IsReady, RisesAbove, last_number}
 use Rattle.hippo_typing.specs.Meanings.{meaning}

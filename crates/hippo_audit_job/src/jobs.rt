@@ -133,7 +133,6 @@ impl<X> Job<X> {
     }
 
     // Looks at the first question that was read ahead, which is this entry.
-    #[tactic(none)]
     fn look_at<P: Keeper, L: Ledger>(
         &mut self,
         entry: Entry,
@@ -173,7 +172,6 @@ impl<X> Job<X> {
     }
 
     // Looks at the first question that was read ahead, if its number is at most this; whether there was one.
-    #[tactic(none)]
     fn look_at_first<P: Keeper, L: Ledger>(
         &mut self,
         keeper: &mut P,
@@ -210,7 +208,6 @@ impl<X> Job<X> {
     }
 
     // Looks at the questions that were read ahead and are numbered up to this.
-    #[tactic(none)]
     fn look_at_waiting<P: Keeper, L: Ledger>(
         &mut self,
         keeper: &mut P,
@@ -240,7 +237,6 @@ impl<X> Job<X> {
     }
 
     // Looks at the numbers up to this one.
-    #[tactic(none)]
     fn look_up_to<P: Keeper, L: Ledger>(
         &mut self,
         keeper: &mut P,
@@ -281,7 +277,6 @@ impl<X> Job<X> {
     /// Where it fails, it has looked up to a number between, and the flags up to there wait. That is said where the
     /// keeper tells a valid history of which this is the past, and which the job fits; then `Damaged` never comes.
     /// `Keeper` comes only where the keeper's count of faults rose. Steps and what is taken rise by the same.
-    #[tactic(none)]
     pub fn step<P: Keeper, L: Ledger>(
         &mut self,
         keeper: &mut P,
