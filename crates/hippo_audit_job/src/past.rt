@@ -4,6 +4,7 @@ use hippo_policy::PolicyBook;
 
 /// The names, the rules and choices, and the length of the history as it stands now: whoever looks at its past reads
 /// the rest from the keeper.
+#[derive(Clone, Copy)]
 pub struct Past<'a> {
     pub catalog: &'a Catalog,
     pub book: &'a PolicyBook,
