@@ -1,5 +1,5 @@
 -- Counts that rise and fall with steps.
-use Rattle.std.proofs.Common.{◌≡◌, ◌∙◌, sym, refl, arith, ℕ, ◌+◌, ◌≤◌, Option, None, Some}
+use Rattle.std.proofs.Common.{◌≡◌, refl, arith, ℕ, ◌+◌, ◌≤◌, Option, None, Some}
 use Rattle.hippo_audit_job.specs.Examining.{RisesWith, FallsWith, RisesWithin, AreWithin}
 
 pub RisesWith-none : (count : Option ℕ) (steps : ℕ) → RisesWith count count steps steps

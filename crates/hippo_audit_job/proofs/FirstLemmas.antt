@@ -1,9 +1,9 @@
 -- The first question that was read ahead: what it is in a history, and what looking at it makes of a job.
-use Rattle.std.proofs.Common.{◌≡◌, ◌∙◌, sym, ap, refl, subst, arith, ℕ, zero, suc, ◌+◌, ◌-◌, ◌<◌, ◌≤◌, Bool, true, false, cond, List, [], ◌∷◌, ◌++◌, map, filter, length, take, drop, nat_le, slice_get, Option, None, Some, Result, Ok, Err, append_assoc, length-append}
-use Rattle.std.specs.Prelude.{◌≢◌, ◌&&◌, ◌||◌, ◌==◌, filter_map, option_and_then, option_to_list, is_some, IfOk}
+use Rattle.std.proofs.Common.{◌≡◌, ◌∙◌, sym, ap, refl, subst, arith, ℕ, zero, suc, ◌+◌, ◌-◌, ◌<◌, ◌≤◌, Bool, true, false, cond, List, [], ◌∷◌, ◌++◌, map, filter, length, take, drop, nat_le, slice_get, Option, None, Some, Result, Ok, Err, length-append}
+use Rattle.std.specs.Prelude.{◌≢◌, ◌||◌, filter_map, option_and_then, option_to_list, is_some}
 use Rattle.std.specs.List.{AllByRecursion, cons_option}
 use Rattle.std.proofs.Math.Seq.{take-add}
-use Rattle.std.proofs.lemmas.Bool.{false≢true, and_parts}
+use Rattle.std.proofs.lemmas.Bool.{and_parts}
 use Rattle.std.proofs.lemmas.List.{append-nil}
 use Rattle.std.proofs.lemmas.List.Elements.{filter-append}
 use Rattle.hippo_model.specs.declared.audit.Audit.{Audit}
@@ -14,7 +14,7 @@ use Rattle.hippo_model.specs.declared.stored.StoredEntry.{StoredEntry}
 use Rattle.hippo_model.specs.Terms.{History}
 use Rattle.hippo_model.specs.Keepable.{is_keepable}
 use Rattle.hippo_model.specs.StoredForms.{stored}
-use Rattle.hippo_model.specs.Validity.{is_valid, keeps_order, is_acceptable}
+use Rattle.hippo_model.specs.Validity.{is_valid}
 use Rattle.hippo_model.specs.Versions.{versions}
 use Rattle.hippo_model.specs.Audits.{flag_by, flag_of, flags_between, shared}
 use Rattle.hippo_laws.proofs.ValidFronts.{entry_has_its_number}
@@ -32,9 +32,9 @@ use Rattle.hippo_backlog.proofs.NumberLemmas.{passed_at}
 use Rattle.hippo_backlog.proofs.VersionsTheorem.{StandsAt, stands_at, may_there}
 use Rattle.hippo_audit_job.specs.declared.jobs.Job.{Job}
 use Rattle.hippo_audit_job.specs.declared.past.Past.{Past}
-use Rattle.hippo_audit_job.specs.Examining.{RisesWith, IsPastOf, Examination}
+use Rattle.hippo_audit_job.specs.Examining.{RisesWith, Examination}
 use Rattle.hippo_audit_job.specs.Looking.{was_asked, IsQuestionOf, LooksAtKept, LooksAt}
-use Rattle.hippo_audit_job.specs.Jobs.{with_flag, IsSound, JobFits, LooksOver, LooksOn}
+use Rattle.hippo_audit_job.specs.Jobs.{with_flag, IsSound, JobFits, LooksOn}
 use Rattle.hippo_audit_job.proofs.CountLemmas.{AreWithin-then}
 use Rattle.hippo_audit_job.proofs.StepLemmas.{flags_parted}
 use Rattle.hippo_audit_job.proofs.StretchLemmas.{no_questions}
@@ -55,7 +55,7 @@ nothing_more [] more same = same
 nothing_more (first ∷ front) more same = nothing_more front more (ap (drop 1) same)
 
 -- the flags between two places with the same questions before them
-skipped : (history : History) (audit : Audit) (ahead : ReadAhead) (low high : ℕ) → is_valid meaning history ≡ true → low ≤ high
+pub skipped : (history : History) (audit : Audit) (ahead : ReadAhead) (low high : ℕ) → is_valid meaning history ≡ true → low ≤ high
     → (split : IsAhead (was_asked audit) low ahead history) (moved : IsAhead (was_asked audit) high ahead history) → moved.used ≡ split.used → flags_between meaning history audit low high ≡ []
 skipped history audit ahead low high valid le split moved same =
     let test : Entry → Bool = was_asked audit in
@@ -103,7 +103,7 @@ first_waits (entry ∷ rest) held kept forms first = record {
   form = some_is (stored entry) kept (sym (ap (λ (s : Store). slice_get s 0) forms) ∙ first);
 }
 
-begins_before : (held : Store) (kept : StoredEntry) (place : ℕ) → slice_get held 0 ≡ Some kept → place < kept.seq → BeginsAbove place held
+pub begins_before : (held : Store) (kept : StoredEntry) (place : ℕ) → slice_get held 0 ≡ Some kept → place < kept.seq → BeginsAbove place held
 begins_before [] kept place first below = tt
 begins_before (one ∷ rest) kept place first below = subst (λ (k : StoredEntry). place < k.seq) (sym (some_is one kept first)) below
 
@@ -114,7 +114,7 @@ reads_so number ahead kept first = ap (λ (o : Option StoredEntry). nat_le numbe
     or_true true = refl
     or_true false = refl
 
-above_place : (held : Store) (kept : StoredEntry) (place : ℕ) → slice_get held 0 ≡ Some kept → RisesAbove place held → place < kept.seq
+pub above_place : (held : Store) (kept : StoredEntry) (place : ℕ) → slice_get held 0 ≡ Some kept → RisesAbove place held → place < kept.seq
 above_place [] kept place first rises = absurd cc
 above_place (one ∷ rest) kept place first rises = subst (λ (k : StoredEntry). place < k.seq) (some_is one kept first) rises.0
 

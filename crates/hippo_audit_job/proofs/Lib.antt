@@ -7,3 +7,6 @@ pub mod QuestionLemmas
 pub mod ReadingLemmas
 pub mod StepLemmas
 pub mod FirstLemmas
+pub mod FlagLemmas
+pub mod PassedLemmas
+pub mod LoopLemmas

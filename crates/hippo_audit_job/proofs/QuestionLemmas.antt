@@ -1,9 +1,8 @@
 -- What an audit makes of one logged question, by what is found of it.
-use Rattle.std.proofs.Common.{◌≡◌, ◌∙◌, sym, ap, refl, subst, arith, ℕ, ◌≤◌, Bool, true, false, List, Option, None, Some, Result, Ok, Err}
+use Rattle.std.proofs.Common.{◌≡◌, ◌∙◌, sym, ap, refl, subst, ℕ, ◌≤◌, Bool, true, false, List, Option, None, Some, Result, Ok, Err}
 use Rattle.std.specs.Prelude.{◌≢◌, ◌&&◌, not, option_and_then, if◌then◌else◌, IfOk}
 use Rattle.std.proofs.lemmas.Bool.{false≢true, and_parts}
 use Rattle.hippo_values.specs.Texts.{Txt}
-use Rattle.hippo_values.specs.declared.moments.Moment.{Moment}
 use Rattle.hippo_values.specs.declared.names.Name.{Name}
 use Rattle.hippo_model.specs.declared.audit.Audit.{Audit}
 use Rattle.hippo_model.specs.declared.audit.SharedRow.{SharedRow}
@@ -24,8 +23,8 @@ use Rattle.hippo_backlog.specs.declared.faults.ReadFault.TheVariants.{Keeper, Da
 use Rattle.hippo_backlog.specs.Calls.{as_call}
 use Rattle.hippo_backlog.proofs.CallLemmas.{KeepsSame-here, IsAfterCall-none, as_call-unfailed}
 use Rattle.hippo_audit_job.specs.declared.past.Past.{Past}
-use Rattle.hippo_audit_job.specs.Examining.{IsPastOf, Examination, first_serving, MovesOn, Examines}
-use Rattle.hippo_audit_job.specs.Looking.{question_in, IsMeant, IsAskedFor, was_asked, IsQuestionOf, LooksAt}
+use Rattle.hippo_audit_job.specs.Examining.{IsPastOf, Examination, first_serving, Examines}
+use Rattle.hippo_audit_job.specs.Looking.{question_in, IsMeant, IsAskedFor, IsQuestionOf, LooksAt}
 use Rattle.hippo_audit_job.proofs.CountLemmas.{RisesWith-none, FallsWith-none}
 use Rattle.hippo_audit_job.proofs.StretchLemmas.{question_means}
 

@@ -1,5 +1,5 @@
 -- A piece of the logged questions of an audit's period, read ahead.
-use Rattle.std.proofs.Common.{◌≡◌, ◌∙◌, sym, ap, refl, subst, arith, ℕ, ◌<◌, ◌≤◌, Bool, true, false, ◌&&◌, [], map, Result, Ok, Err}
+use Rattle.std.proofs.Common.{◌≡◌, ◌∙◌, sym, ap, refl, subst, arith, ℕ, ◌<◌, Bool, true, false, ◌&&◌, [], Result, Ok, Err}
 use Rattle.std.specs.Prelude.{◌==◌, int_le}
 use Rattle.hippo_model.specs.declared.audit.Audit.{Audit}
 use Rattle.hippo_model.specs.declared.entry.Act.{Act}

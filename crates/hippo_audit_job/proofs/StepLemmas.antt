@@ -1,5 +1,5 @@
 -- A job that looks on: at nothing more, and at more numbers behind others.
-use Rattle.std.proofs.Common.{◌≡◌, ◌∙◌, sym, ap, refl, subst, arith, true, false, ℕ, ◌+◌, ◌-◌, ◌≤◌, List, [], ◌∷◌, ◌++◌, map, length, take, drop, Result, Ok, Err, append_assoc}
+use Rattle.std.proofs.Common.{◌≡◌, ◌∙◌, sym, ap, refl, subst, arith, true, false, ℕ, ◌+◌, ◌-◌, ◌≤◌, List, [], ◌++◌, map, take, drop, Result, Ok, Err, append_assoc}
 use Rattle.std.specs.Prelude.{◌≢◌, filter_map}
 use Rattle.std.proofs.Math.Seq.{take-add, drop-drop}
 use Rattle.std.proofs.lemmas.List.{append-nil}

@@ -1,10 +1,9 @@
 -- What stays of meanings and flags when entries are added, and stretches without questions.
-use Rattle.std.proofs.Common.{◌≡◌, ◌∙◌, sym, ap, refl, subst, arith, ℕ, zero, suc, ◌+◌, ◌-◌, ◌<◌, ◌≤◌, Bool, true, false, ◌&&◌, List, [], ◌∷◌, ◌++◌, map, length, take, drop, Option, None, Some, append_assoc}
+use Rattle.std.proofs.Common.{◌≡◌, ◌∙◌, sym, ap, refl, arith, ℕ, zero, suc, ◌-◌, ◌≤◌, Bool, true, false, ◌&&◌, List, [], ◌∷◌, ◌++◌, length, take, drop, Option, None, Some}
 use Rattle.std.specs.Prelude.{filter_map, option_and_then, is_some, slice_get, if◌then◌else◌, not}
 use Rattle.std.specs.List.{AllByRecursion, cons_option}
 use Rattle.std.proofs.lemmas.Bool.{false≢true, and_parts}
-use Rattle.std.proofs.lemmas.List.{drop-take, take-append-le, take-append-drop}
-use Rattle.std.proofs.lemmas.Option.{slice_get_within}
+use Rattle.std.proofs.lemmas.List.{take-append-le, take-append-drop}
 use Rattle.hippo_values.specs.Texts.{Txt}
 use Rattle.hippo_values.specs.declared.moments.Moment.{Moment}
 use Rattle.hippo_values.specs.declared.names.Name.{Name}
@@ -26,7 +25,7 @@ use Rattle.hippo_model.specs.Audits.{in_period, is_exempt, shared_by, shared_in,
 use Rattle.hippo_laws.specs.Audits.{StandsIn}
 use Rattle.hippo_laws.proofs.ValidFronts.{before-append, entry_has_its_number, front_is_valid}
 use Rattle.hippo_catalog.specs.Catalogs.{known_at}
-use Rattle.hippo_typing.specs.Meanings.{Means, meaning}
+use Rattle.hippo_typing.specs.Meanings.{meaning}
 use Rattle.hippo_typing.proofs.LastingNames.{extends_later, select_lasts}
 use Rattle.hippo_typing.proofs.MeaningTheorem.{Means-found, found-Means}
 use Rattle.hippo_backlog.proofs.VersionsTheorem.{may_there}

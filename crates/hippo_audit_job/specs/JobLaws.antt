@@ -1,5 +1,5 @@
 -- Laws on audit jobs, and on what stays when entries are added to a history.
-use Rattle.std.specs.Prelude.{◌≡◌, ◌≤◌, ℕ, true, false, List, [], ◌∷◌, ◌++◌, drop, take, ◌-◌, length, Option, Some}
+use Rattle.std.specs.Prelude.{◌≡◌, ◌≤◌, ℕ, true, false, [], ◌++◌, drop, take, ◌-◌, length, Some}
 use Rattle.std.specs.List.{AllByRecursion}
 use Rattle.hippo_values.specs.Texts.{Txt}
 use Rattle.hippo_values.specs.declared.names.Name.{Name}

@@ -1,14 +1,12 @@
 -- Audit jobs, which look at the logged questions of a history in steps.
-use Rattle.std.specs.Prelude.{◌≡◌, ◌≢◌, ◌≤◌, ℕ, ◌+◌, min, true, Bool, ◌&&◌, List, [], ◌++◌, map, length, bytes_eq, Result, Err, is_ok, OnOk, Option, option_to_list}
+use Rattle.std.specs.Prelude.{◌≡◌, ◌≢◌, ◌≤◌, ℕ, ◌+◌, min, true, ◌&&◌, List, [], ◌++◌, map, length, bytes_eq, Result, Err, is_ok, OnOk, Option, option_to_list}
 use Rattle.std.specs.List.{IsDistinct}
 use Rattle.hippo_model.specs.declared.audit.Audit.{Audit}
 use Rattle.hippo_model.specs.declared.audit.Flag.{Flag}
-use Rattle.hippo_model.specs.declared.entry.Entry.{Entry}
 use Rattle.hippo_model.specs.Terms.{History}
-use Rattle.hippo_model.specs.HandedOver.{is_asked}
 use Rattle.hippo_model.specs.StoredForms.{stored}
 use Rattle.hippo_model.specs.Versions.{versions}
-use Rattle.hippo_model.specs.Audits.{in_period, flags_between}
+use Rattle.hippo_model.specs.Audits.{flags_between}
 use Rattle.hippo_keeper.specs.Keeping.{KeeperState, RisesAbove, last_number}
 use Rattle.hippo_typing.specs.Meanings.{meaning}
 use Rattle.hippo_backlog.specs.declared.faults.ReadFault.{ReadFault}

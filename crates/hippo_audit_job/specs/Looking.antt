@@ -1,5 +1,5 @@
 -- What an audit makes of one logged question, and of the questions that are read ahead.
-use Rattle.std.specs.Prelude.{◌≡◌, ◌≢◌, ◌≤◌, ◌<◌, ℕ, true, false, Bool, ◌&&◌, List, [], map, length, Option, Some, None, Result, Ok, Err, IfOk, OnOk, ⊤}
+use Rattle.std.specs.Prelude.{◌≡◌, ◌≢◌, ◌≤◌, ◌<◌, ℕ, true, false, Bool, ◌&&◌, List, map, length, Option, Some, None, Result, Ok, Err, IfOk, OnOk, ⊤}
 use Rattle.hippo_values.specs.Texts.{Txt}
 use Rattle.hippo_values.specs.declared.names.Name.{Name}
 use Rattle.hippo_model.specs.declared.audit.Audit.{Audit}
@@ -21,7 +21,7 @@ use Rattle.hippo_typing.specs.Meanings.{meaning_in, meaning}
 use Rattle.hippo_backlog.specs.declared.faults.ReadFault.{ReadFault}
 use Rattle.hippo_backlog.specs.declared.faults.ReadFault.TheVariants.{Keeper, Damaged, Memory}
 use Rattle.hippo_backlog.specs.Calls.{as_call, KeepsSame}
-use Rattle.hippo_backlog.specs.ReadingAhead.{ReadAhead, with_piece, IsAhead}
+use Rattle.hippo_backlog.specs.ReadingAhead.{ReadAhead, IsAhead}
 use Rattle.hippo_audit_job.specs.declared.past.Past.{Past}
 use Rattle.hippo_audit_job.specs.Examining.{Examination, MovesOn, FallsWith, IsPastOf, IsAuditOf}
 

@@ -100,11 +100,7 @@ fn condition_names(wanted: Named<'_>, tables: &Names, condition: &CondOf<Operand
 }
 
 #[cycle(condition_names)]
-fn any_condition_names(
-    wanted: Named<'_>,
-    tables: &Names,
-    parts: &Sequence<CondOf<Operand>>,
-) -> bool
+fn any_condition_names(wanted: Named<'_>, tables: &Names, parts: &Sequence<CondOf<Operand>>) -> bool
     ensures { result ≡ list_any (λ part. is_named (wanted.entry.table.now, wanted.entry.column) tables.now
         (condition_columns part)) parts.now }
 {

@@ -5,11 +5,11 @@ ghost use Rattle.hippo_audit_job.specs.Examining.{shown_count};
 
 use crate::examiner::Examiner;
 use crate::past::Past;
-use crate::questions::{flagged, shared_with};
+use crate::questions::find_flag;
 use crate::reading::{decoded, has_read, read_ahead};
 use hippo_backlog::{Ahead, ReadFault};
 use hippo_keeper::{Keeper, Steps};
-use hippo_model::{Audit, Flag, Flags};
+use hippo_model::{Audit, Entry, Flag, Flags};
 use hippo_values::Memory;
 use std::alloc::Global;
 use std::sync::ledger::Ledger;
@@ -114,7 +114,8 @@ impl<X> Job<X> {
 
 impl<X> Job<X> {
     ghost use Rattle.hippo_audit_job.specs.Jobs.{with_flag, IsSound, IsAsFar, LooksOn, HasStepped};
-    ghost use Rattle.hippo_backlog.specs.ReadingAhead.{BeginsAbove};
+    ghost use Rattle.hippo_audit_job.specs.Flagging.{IsFirst};
+    ghost use Rattle.hippo_backlog.specs.ReadingAhead.{BeginsAbove, without_first};
 
     // A flag waits behind the others, and the first question is used.
     fn add(&mut self, number: u64, flag: Option<Flag>) -> Result<(), Memory>
@@ -129,6 +130,45 @@ impl<X> Job<X> {
         self.questions.pass();
         self.place = number;
         Ok(())
+    }
+
+    // Looks at the first question that was read ahead, which is this entry.
+    fn look_at<P: Keeper, L: Ledger>(
+        &mut self,
+        entry: Entry,
+        keeper: &mut P,
+        alloc: Global,
+        past: &Past<'_>,
+        steps: &mut Steps<L>,
+    ) -> Result<(), ReadFault>
+    where
+        X: Examiner<P>,
+        requires ready { IsReady true (P.state keeper.old) }
+        requires sound { IsSound X.terms self.old }
+        requires first { IsFirst self.old.questions entry }
+        requires within { entry.seq ≤ self.old.length }
+        ensures looks { LooksOn X.terms entry.seq past.now result self.old self.new
+            (P.state keeper.old) (P.state keeper.new) steps.old steps.new }
+        ensures used { OnOk result (self.new.questions ≡ without_first self.old.questions) }
+        ensures others { IsAsFar self.old self.new }
+    {
+        let number = entry.seq;
+        self.place = number - 1;
+        match find_flag(
+            &mut self.examiner,
+            keeper,
+            alloc,
+            past,
+            entry,
+            &self.audit,
+            steps,
+        ) {
+            Ok(flag) => match self.add(number, flag) {
+                Ok(()) => Ok(()),
+                Err(Memory) => Err(ReadFault::Memory),
+            },
+            Err(fault) => Err(fault),
+        }
     }
 
     // Looks at the first question that was read ahead, if its number is at most this; whether there was one.
@@ -155,17 +195,15 @@ impl<X> Job<X> {
         let Some(kept) = self.questions.first() else {
             return Ok(false);
         };
-        let number = kept.seq;
-        if upto < number {
+        if upto < kept.seq {
             return Ok(false);
         }
-        let entry = decoded(alloc, kept)?;
-        self.place = number - 1;
-        let examiner = &mut self.examiner;
-        let shared = shared_with(examiner, keeper, alloc, past, &entry, &self.audit, steps)?;
-        match self.add(number, flagged(entry, shared)) {
-            Ok(()) => Ok(true),
-            Err(Memory) => Err(ReadFault::Memory),
+        match decoded(alloc, kept) {
+            Ok(entry) => match self.look_at(entry, keeper, alloc, past, steps) {
+                Ok(()) => Ok(true),
+                Err(fault) => Err(fault),
+            },
+            Err(fault) => Err(fault),
         }
     }
 

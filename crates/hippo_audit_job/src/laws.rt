@@ -27,7 +27,3 @@ pub fn no_questions_no_flags()
 pub fn unrefused_are_audits()
     ensures { UnrefusedAreAudits }
 {}
-
-pub fn scratch()
-    ensures { Unit {0} }
-{}

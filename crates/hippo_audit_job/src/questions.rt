@@ -4,6 +4,7 @@ ghost use Rattle.std.specs.List.{IsDistinct};
 ghost use Rattle.hippo_model.specs.Audits.{flag_by};
 ghost use Rattle.hippo_keeper.specs.Keeping.{IsReady};
 ghost use Rattle.hippo_audit_job.specs.Looking.{question_in, IsMeant, IsAskedFor, LooksAt};
+ghost use Rattle.hippo_audit_job.specs.Flagging.{FindsFlag};
 
 use crate::candidates::{in_period, is_exempt, names_all};
 use crate::examiner::Examiner;
@@ -69,8 +70,8 @@ fn flag_by(seq: u64, moment: Moment, act: Act, shared: SharedTuple) -> Option<Fl
     }
 }
 
-/// The flag of an entry, where it shares something.
-pub(crate) fn flagged(entry: Entry, shared: Option<SharedTuple>) -> Option<Flag>
+// The flag of an entry, where it shares something.
+fn flagged(entry: Entry, shared: Option<SharedTuple>) -> Option<Flag>
     ensures { result ≡ option_and_then (flag_by entry entry.act) shared }
 {
     let Entry { seq, moment, act } = entry;
@@ -150,5 +151,31 @@ pub(crate) fn shared_with<P: Keeper, L: Ledger, X: Examiner<P>>(
             shared
         }
         Err(fault) => Err(fault),
+    }
+}
+
+/// The flag of a question, where it shares something with an audit; the errors of `shared_with`.
+pub(crate) fn find_flag<P: Keeper, L: Ledger, X: Examiner<P>>(
+    examiner: &mut X,
+    keeper: &mut P,
+    alloc: Global,
+    past: &Past<'_>,
+    entry: Entry,
+    audit: &Audit,
+    steps: &mut Steps<L>,
+) -> Result<Option<Flag>, ReadFault>
+    requires ready { IsReady true (P.state keeper.old) }
+    requires sound { X.terms.sound examiner.old }
+    requires order { X.terms.upto examiner.old ≤ entry.seq }
+    requires tables { IsDistinct bytes_eq audit.now.tables }
+    ensures { FindsFlag X.terms past.now audit.now entry result examiner.old examiner.new
+        (P.state keeper.old) (P.state keeper.new) steps.old steps.new }
+{
+    match shared_with(examiner, keeper, alloc, past, &entry, audit, steps) {
+        Ok(shared) => Ok(flagged(entry, shared)),
+        Err(fault) => {
+            drop(entry);
+            Err(fault)
+        }
     }
 }

@@ -68,7 +68,8 @@ tables_denials rules query tables history =
 -- those of the query that a text means
 abbrev pub text_denials : RulesThen → Txt → History → List Denial
 text_denials rules text history =
-    option_map_or (query_denials (take rules.count history) (context_of rules)) (meaning (take rules.count history) text) []
+    option_map_or (query_denials (take rules.count history) (context_of rules))
+    (meaning (take rules.count history) text) []
 
 -- how many versions a table has, and tables, each by itself
 abbrev pub one_count : Schema → History → ℕ

@@ -276,6 +276,28 @@ none-needed choices query form audit seen query_sets audit_sets none =
     never true = refl
     never false = refl
 
+-- ---- a list whose members are taken out one after the other: those left that pass a test, or what was found
+module _ {A : Type 0} (test : A → Bool) (items : List A) (now whole : Bool) (so_far : (list_any test items || now) ≡ whole) where
+  pub one-taken : (item : A) (rest : List A) (later : Bool) → items ≡ item ∷ rest → later ≡ (test item || now) → (list_any test rest || later) ≡ whole
+  one-taken item rest later split added =
+      ap (λ (taken : Bool). list_any test rest || taken) added
+      ∙ turned_round (test item) (list_any test rest) now
+      ∙ sym (ap (λ (left : List A). list_any test left || now) split)
+      ∙ so_far
+    where
+      turned_round : (x y z : Bool) → (y || (x || z)) ≡ ((x || y) || z)
+      turned_round true true z = refl
+      turned_round true false z = refl
+      turned_round false true z = refl
+      turned_round false false z = refl
+
+  pub none-left : items ≡ [] → now ≡ whole
+  none-left none = sym (ap (λ (left : List A). list_any test left || now) none) ∙ so_far
+
+pub or_false : (x : Bool) → (x || false) ≡ x
+or_false true = refl
+or_false false = refl
+
 -- what an answer that is Ok says
 pub ok-by : {A E : Type 0} (P Q : A → Type 0) → ((a : A) → P a → Q a) → (result : Result A E) → IfOk result P → IfOk result Q
 ok-by P Q then (Ok a) told = then a told

@@ -23,11 +23,7 @@ use std::alloc::Global;
 use std::collections::{BTreeMap, BTreeSet};
 
 // Marks one combination more, which makes the row with this key and has the tuple of these places.
-fn mark(
-    marks: &mut BTreeMap<RowKey, Mark>,
-    key: RowKey,
-    places: Places,
-) -> Result<(), Memory>
+fn mark(marks: &mut BTreeMap<RowKey, Mark>, key: RowKey, places: Places) -> Result<(), Memory>
     ensures { (tuples : List (List Place)) → mark_at ⟦<Sequence<CellKey> as Ord>⟧.cmp marks.old key ≡ mark_of tuples
         → OnOk result ((other : List cell_keys.CellKey) → mark_at ⟦<Sequence<CellKey> as Ord>⟧.cmp marks.new other
         ≡ cond (is_eq (⟦<Sequence<CellKey> as Ord>⟧.cmp key other)) (mark_of (tuples ++ places ∷ []))
@@ -64,7 +60,11 @@ impl<'a, C: ChoiceView> Visitor for Marker<'a, C> {
         if passes(self.query, combo, self.choices) {
             let row = project(alloc, self.query, combo, self.choices)?;
             let key = row_key(alloc, row.as_slice())?;
-            mark(state, key, row_places(alloc, self.sets, self.tables, combo)?)?;
+            mark(
+                state,
+                key,
+                row_places(alloc, self.sets, self.tables, combo)?,
+            )?;
         }
         Ok(Onward::More)
     }

@@ -18,7 +18,7 @@ use crate::engine::{Engine, Reply};
 use crate::faults::EngineFault;
 use crate::replies::{refuse, refuse_for_memory};
 use hippo_backlog::{ReadFault, fault_of};
-use hippo_denials::{Denied, DenialsFault, denied_cells};
+use hippo_denials::{DenialsFault, Denied, denied_cells};
 use hippo_entry::decode;
 use hippo_keeper::{Keeper, Steps};
 use hippo_model::{Act, Entry, StoredEntry};
@@ -212,7 +212,9 @@ fn say_cells(
             refuse_for_memory(Some(0), reply);
             Ok(())
         }
-        Err(ExplainFault::Denials(DenialsFault::Read(ReadFault::Keeper))) => Err(EngineFault::Keeper),
+        Err(ExplainFault::Denials(DenialsFault::Read(ReadFault::Keeper))) => Err(
+            EngineFault::Keeper,
+        ),
         Err(ExplainFault::Denials(DenialsFault::Read(ReadFault::Damaged(number)))) => {
             Err(EngineFault::Damaged(number))
         }
@@ -253,14 +255,7 @@ impl Engine {
         ensures unwritten { result ≢ Bad WriteFailed }
     {
         match check_console(session) {
-            Ok(()) => tell_cells(
-                alloc,
-                keeper,
-                &self.state,
-                number,
-                &mut self.reply,
-                steps,
-            ),
+            Ok(()) => tell_cells(alloc, keeper, &self.state, number, &mut self.reply, steps),
             Err(refusal) => {
                 self.refuse_command(session, &refusal);
                 Ok(())

@@ -99,7 +99,14 @@ pub fn first_of<C: ChoiceView>(
         choices: &*choices,
         blank: &blank,
     };
-    match first_candidate(alloc, &query_side, &audit_side, seen.as_slice(), &common, &listed)? {
+    match first_candidate(
+        alloc,
+        &query_side,
+        &audit_side,
+        seen.as_slice(),
+        &common,
+        &listed,
+    )? {
         Some(places) => {
             let names = audit.tables.as_slice();
             let tuple = tuple_at(alloc, names, audit_sets, &common.audit, places.as_slice())?;

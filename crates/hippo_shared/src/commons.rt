@@ -38,11 +38,7 @@ fn place_in(tables: &[Name], table: &Name) -> usize
 }
 
 /// The places in a query's FROM list, and in an audit's, of the tables that both have.
-pub fn common_places(
-    alloc: Global,
-    query: &[Name],
-    audit: &[Name],
-) -> Result<CommonPlaces, Memory>
+pub fn common_places(alloc: Global, query: &[Name], audit: &[Name]) -> Result<CommonPlaces, Memory>
     ensures query { IfOk result (λ common.
         common.query.items ≡ map (place_in query.now) (common_tables query.now audit.now)) }
     ensures audit { IfOk result (λ common.

@@ -178,12 +178,7 @@ impl<'a, C: ChoiceView> Search<'a, C> {
 
 impl<'a, C: ChoiceView> Search<'a, C> {
     // Whether both sides have a combination with these places of the common tables.
-    fn shares(
-        &self,
-        alloc: Global,
-        common: &CommonPlaces,
-        places: &[usize],
-    ) -> Result<bool, Memory>
+    fn shares(&self, alloc: Global, common: &CommonPlaces, places: &[usize]) -> Result<bool, Memory>
         requires common { AreCommon (length self.now.query.now.sets.now) (length self.now.audit.now.sets.now)
             common.now.query.items common.now.audit.items }
         requires query { AreWholeOf C.choices self.now.query.now self.now.query_stages.now }
@@ -198,7 +193,9 @@ impl<'a, C: ChoiceView> Search<'a, C> {
         let mut query = slots_with(alloc, self.query.sets.len(), &common.query, places)?;
         let mut audit = slots_with(alloc, self.audit.sets.len(), &common.audit, places)?;
         if self.audit.has(alloc, self.audit_stages, &[], &mut audit)? {
-            return self.query.has(alloc, self.query_stages, self.seen, &mut query);
+            return self
+                .query
+                .has(alloc, self.query_stages, self.seen, &mut query);
         }
         Ok(false)
     }

@@ -1,2 +1,3 @@
 mod WorldsExamples
 pub mod NumberLemmas
+pub mod HeldLemmas

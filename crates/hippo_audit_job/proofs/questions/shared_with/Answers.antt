@@ -1,5 +1,5 @@
 -- The question is taken apart and its text is read; or something is not right.
-use Rattle.std.proofs.Common.{◌≡◌, Some, sym, ap, ◌∙◌}
+use Rattle.std.proofs.Common.{sym}
 use Rattle.hippo_audit_job.proofs.QuestionLemmas.{LooksAt-meant}
 use Rattle.hippo_audit_job.proofs.questions.shared_with.Goals as goal
 

@@ -9,8 +9,10 @@ use Rattle.hippo_shared.specs.Sharing.{common_tables, place_in}
 use Rattle.hippo_distinct.proofs.AloneLemmas.{needed-are, none-needed, ok-by}
 use Rattle.hippo_distinct.proofs.alone.first_alone.Goals as goal
 
-pub returns-then-branch : goal.returns-then-branch
-returns-then-branch g c = ?
+pub returns-then-not-branch : goal.returns-then-not-branch
+returns-then-not-branch g c =
+    none-needed (g.C.ChoiceView.choices c.args.choices.now) c.args.query.now Distinct c.args.audit.now c.args.seen.now c.args.query_sets.now c.args.audit_sets.now
+    (c.in_ok-audit_has_any.ensures c.if-not-branch.true)
 
 pub returns : goal.returns
 returns g c =

@@ -1,0 +1,103 @@
+-- The loops of a step: what its parts ask and leave.
+use Rattle.std.proofs.Common.{◌≡◌, ◌∙◌, ap, refl, arith, true, false, Bool, ℕ, ◌<◌, ◌≤◌, [], ◌∷◌, drop, length, slice_get, None, Some, Result, Ok}
+use Rattle.std.specs.Prelude.{◌&&◌}
+use Rattle.hippo_model.specs.declared.entry.Entry.{Entry}
+use Rattle.hippo_model.specs.declared.stored.StoredEntry.{StoredEntry}
+use Rattle.hippo_entry.specs.Forms.{IsEntryOf}
+use Rattle.hippo_keeper.specs.Keeping.{Store, KeeperState, IsReady}
+use Rattle.hippo_backlog.specs.declared.faults.ReadFault.{ReadFault}
+use Rattle.hippo_backlog.specs.Calls.{as_call}
+use Rattle.hippo_backlog.specs.ReadingAhead.{BeginsAbove}
+use Rattle.hippo_backlog.proofs.CallLemmas.{err_of, well, IsReady-after}
+use Rattle.hippo_audit_job.specs.declared.jobs.Job.{Job}
+use Rattle.hippo_audit_job.specs.declared.past.Past.{Past}
+use Rattle.hippo_audit_job.specs.Examining.{Examination}
+use Rattle.hippo_audit_job.specs.Jobs.{IsSound, IsAsFar, LooksOn}
+use Rattle.hippo_audit_job.proofs.StepLemmas.{LooksOn-none, LooksOn-then}
+use Rattle.hippo_audit_job.proofs.FlagLemmas.{LooksOn-as, LooksOn-fault}
+
+-- nothing waits
+pub begins_none : (held : Store) (number : ℕ) → slice_get held 0 ≡ None → BeginsAbove number held
+begins_none [] number none = tt
+begins_none (kept ∷ rest) number none = absurd cc
+
+-- one is used
+pub fewer_left : (held : Store) (kept : StoredEntry) → slice_get held 0 ≡ Some kept → length (drop 1 held) < length held
+fewer_left [] kept first = absurd cc
+fewer_left (one ∷ rest) kept first = omega arith
+
+-- an entry has the number of its form
+pub form_number : (kept : StoredEntry) (entry : Entry) → IsEntryOf kept (Some entry) → entry.seq ≡ kept.seq
+form_number kept entry form = ap (λ (k : StoredEntry). k.seq) form.sound.1
+
+pub and_done : (mark : Bool) → mark ≡ (mark && true)
+and_done true = refl
+and_done false = refl
+
+pub and_failed : (mark : Bool) → false ≡ (mark && false)
+and_failed true = refl
+and_failed false = refl
+
+module _ {X : Type 0} where
+  pub IsAsFar-then : (old mid new : Job X) → IsAsFar old mid → IsAsFar mid new → IsAsFar old new
+  IsAsFar-then old mid new first second = record {
+    reached_is = second.reached_is ∙ first.reached_is;
+    unbroken_is = second.unbroken_is ∙ first.unbroken_is;
+  }
+
+module _ {X : Type 0} (terms : Examination X) (upto : ℕ) (past : Past) where
+  -- a job that has looked at nothing more yet
+  pub LooksOn-start : (job : Job X) (keeper : KeeperState) (steps : ℕ) → IsReady true keeper → IsSound terms job → job.place ≤ upto → LooksOn terms upto past (well ReadFault) job job keeper keeper steps steps
+  LooksOn-start job keeper steps ready sound forward =
+      LooksOn-none terms upto past job keeper steps ready sound forward (well ReadFault) (λ e. absurd cc) (λ history kept stands fits number e. absurd cc)
+
+  -- a keeper is ready after a look that did not fail
+  pub ready_after : (old new : Job X) (before after : KeeperState) (one two : ℕ) → LooksOn terms upto past (well ReadFault) old new before after one two → IsReady true after
+  ready_after old new before after one two looks = IsReady-after (as_call (well ReadFault)) before after refl looks.moves.is_after
+
+  module _ (old mid new : Job X) (before now after : KeeperState) (one two three : ℕ) (first : LooksOn terms upto past (well ReadFault) old mid before now one two) where
+    -- and one more that did not fail, whatever it answered
+    pub LooksOn-more : {B : Type 0} (value : B) → LooksOn {A = B} terms upto past (Ok value) mid new now after two three → LooksOn terms upto past (well ReadFault) old new before after one three
+    LooksOn-more value second =
+        LooksOn-then terms upto past {A = Unit {0}} tt (well ReadFault) old mid new before now after one two three first
+        (LooksOn-as terms upto upto past (Ok value) (well ReadFault) mid new now after two three (omega arith) refl (λ number not e. absurd cc) second)
+
+    -- or one that failed
+    pub LooksOn-stop : (B : Type 0) (fault : ReadFault) → LooksOn terms upto past (err_of B fault) mid new now after two three → LooksOn terms upto past (err_of (Unit {0}) fault) old new before after one three
+    LooksOn-stop B fault second =
+        LooksOn-then terms upto past {A = Unit {0}} tt (err_of (Unit {0}) fault) old mid new before now after one two three first
+        (LooksOn-fault terms B (Unit {0}) upto upto past fault mid new now after two three (omega arith) second)
+
+  -- a job that is marked
+  pub LooksOn-marked : {A : Type 0} (mark : Bool) (result : Result A ReadFault) (old new : Job X) (before after : KeeperState) (one two : ℕ) → LooksOn terms upto past result old new before after one two
+      → LooksOn terms upto past result old (record new { unbroken = mark }) before after one two
+  LooksOn-marked mark result old new before after one two looks = record {
+    moves = looks.moves;
+    is_sound = record {
+      tables = looks.is_sound.tables;
+      within = looks.is_sound.within;
+      counted = looks.is_sound.counted;
+      read = looks.is_sound.read;
+      ahead = looks.is_sound.ahead;
+      examiner_is = looks.is_sound.examiner_is;
+      asked = looks.is_sound.asked;
+    };
+    same_audit = looks.same_audit;
+    same_length = looks.same_length;
+    forward = looks.forward;
+    limit = looks.limit;
+    told = λ tells history forms stands fits.
+        let over = looks.told tells history forms stands fits in
+        record {
+          fits_still = record {
+            begun = over.fits_still.begun;
+            audit_is = over.fits_still.audit_is;
+            flags = over.fits_still.flags;
+            split = over.fits_still.split;
+            examiner_fits = over.fits_still.examiner_fits;
+            once = over.fits_still.once;
+          };
+          flags = over.flags;
+          undamaged = over.undamaged;
+        };
+  }

@@ -1,0 +1,30 @@
+-- The flag of a question that waits.
+use Rattle.std.specs.Prelude.{◌≡◌, ℕ, List, slice_get, Option, Some, option_and_then, Result}
+use Rattle.std.specs.Result.{result_map_both}
+use Rattle.hippo_model.specs.declared.audit.Audit.{Audit}
+use Rattle.hippo_model.specs.declared.audit.Flag.{Flag}
+use Rattle.hippo_model.specs.declared.audit.SharedRow.{SharedRow}
+use Rattle.hippo_model.specs.declared.entry.Entry.{Entry}
+use Rattle.hippo_model.specs.declared.stored.StoredEntry.{StoredEntry}
+use Rattle.hippo_model.specs.Audits.{flag_by}
+use Rattle.hippo_entry.specs.Forms.{IsEntryOf}
+use Rattle.hippo_keeper.specs.Keeping.{KeeperState}
+use Rattle.hippo_backlog.specs.declared.faults.ReadFault.{ReadFault}
+use Rattle.hippo_backlog.specs.ReadingAhead.{ReadAhead}
+use Rattle.hippo_audit_job.specs.declared.past.Past.{Past}
+use Rattle.hippo_audit_job.specs.Examining.{Examination}
+use Rattle.hippo_audit_job.specs.Looking.{LooksAt}
+
+-- the first stored form that waits is that of an entry
+pub record IsFirst (ahead : ReadAhead) (entry : Entry) : Type 0 where
+  pub kept : StoredEntry
+  pub stands : slice_get ahead.waiting 0 ≡ Some kept
+  pub form : IsEntryOf kept (Some entry)
+
+-- an entry is looked at, and where it shares something its flag is found
+pub record FindsFlag {X : Type 0} (terms : Examination X) (past : Past) (audit : Audit) (entry : Entry)
+    (result : Result (Option Flag) ReadFault) (old new : X) (before after : KeeperState)
+    (steps_old steps_new : ℕ) : Type 0 where
+  pub shares : Result (Option (List SharedRow)) ReadFault
+  pub looks : LooksAt terms past audit entry shares old new before after steps_old steps_new
+  pub found : result ≡ result_map_both (option_and_then (flag_by entry entry.act)) (λ fault. fault) shares
