@@ -17,7 +17,10 @@ returns-in-Explain-clause-carries g c = rw c.in-Explain.is (c.explain.ensures.ca
 pub returns-in-Extract-clause-carries : goal.returns-in-Extract-clause-carries
 returns-in-Extract-clause-carries g c = rw c.in-Extract.is (c.question-in-Extract.ensures.carries c.args.steps.now)
 
-pub returns-in-Explain-clause-carries : goal.returns-in-Explain-clause-carries
-returns-in-Explain-clause-carries g c =
+pub returns-in-Audit-clause-carries : goal.returns-in-Audit-clause-carries
+returns-in-Audit-clause-carries g c = rw c.in-Audit.is (c.audit.ensures.carries c.args.text.now)
+
+pub returns-in-BeginAudit-clause-carries : goal.returns-in-BeginAudit-clause-carries
+returns-in-BeginAudit-clause-carries g c =
     Carries-quiet (state c.args.session c.args.statement.now c.args.text.now) c.args.self.now c.refuse_unbuilt.new.self
     (g.P.Keeper.state c.args.keeper.now) c.args.steps.now c.requires.at_work (c.refuse_unbuilt.ensures c.args.text.now)
