@@ -137,7 +137,7 @@ covered-whole slots covers table within = elim (covers table within) as (λ _. i
   | inr left ↦ absurd (omega (arith, left.1))
 ]
 
-first_or_later : (first : Place) (rest : List Place) (table : Place) → Contains (first ∷ rest) table → (first ≡ table) ⊎ Contains rest table
+pub first_or_later : (first : Place) (rest : List Place) (table : Place) → Contains (first ∷ rest) table → (first ≡ table) ⊎ Contains rest table
 first_or_later first rest table has = by_index has.0 has.1 has.2
   where
     by_index : (k : ℕ) → k < suc (length rest) → get_or (first ∷ rest) k table ≡ table → (first ≡ table) ⊎ Contains rest table

@@ -11,3 +11,5 @@ pub mod FindingLemmas
 pub mod ExistenceLemmas
 pub mod AnswerLemmas
 pub mod OrderLemmas
+pub mod VisitingLemmas
+pub mod GatheringLemmas

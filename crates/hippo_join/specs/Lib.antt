@@ -7,4 +7,5 @@ pub mod Stages
 pub mod Finding
 pub mod Walking
 pub mod Existence
+pub mod Visiting
 pub mod Plans

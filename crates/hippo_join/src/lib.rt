@@ -4,6 +4,7 @@
 mod existence;
 mod finding;
 mod following;
+mod gathering;
 mod joins;
 mod keys;
 mod known;
@@ -13,7 +14,9 @@ mod reaching;
 mod sides;
 mod stages;
 mod ties;
+mod visiting;
 
+pub use gathering::gather_joined;
 pub use joins::{blank_row, run};
 pub use lookups::value_at;
 pub use orders::{order_behind, plan};
@@ -21,3 +24,4 @@ pub use reaching::{open_slots, push_if};
 pub use sides::Side;
 pub use stages::Stage;
 pub use ties::Tie;
+pub use visiting::walk_joined;

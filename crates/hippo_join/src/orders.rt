@@ -10,7 +10,7 @@ use hippo_model::{CondOf, Expr, Masked, Plan, Sizes};
 use hippo_values::{CompareOp, Memory, Sequence};
 use std::alloc::Global;
 
-fn tables_below(alloc: Global, count: usize) -> Result<Vec<usize>, Memory>
+pub(crate) fn tables_below(alloc: Global, count: usize) -> Result<Vec<usize>, Memory>
     ensures { IfOk result (λ tables. tables.items ≡ range_with_len 0 count) }
 {
     let mut tables = Vec::with_capacity(alloc, count)?;

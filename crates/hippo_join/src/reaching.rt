@@ -16,7 +16,7 @@ use crate::lookups::{known_value, sort_by_column, with_value};
 use crate::sides::Side;
 use crate::stages::Stage;
 use crate::ties::{Tie, find_tie, outer_parts};
-use hippo_model::{ChoiceView, Ref, RowSet};
+use hippo_model::{ChoiceView, Expr, Ref, RowSet};
 use hippo_values::Memory;
 use std::alloc::Global;
 
@@ -56,11 +56,18 @@ fn sorted_by_column(set: &RowSet, column: usize, mut places: Vec<usize>) -> Vec<
     places
 }
 
+// Whether a guard may not hold: it does where its column is kept as it is.
+fn can_fail(expr: &Expr) -> bool {
+    !matches!(expr, Expr::Keep(_) | Expr::Literal(_))
+}
+
 impl<'a, C: ChoiceView> Side<'a, C> {
-    // Whether some guard can be tested where only these rows are chosen.
+    // Whether some guard can be tested where only these rows are chosen, and can fail.
     fn knows_guard(&self, slots: &[Option<usize>]) -> bool {
         let guards = self.query.guards.as_slice();
-        guards.iter().any(|guard| knows_expr(&guard.expr, slots))
+        guards
+            .iter()
+            .any(|guard| can_fail(&guard.expr) && knows_expr(&guard.expr, slots))
     }
 
     // The parts of the condition that can be tested where these rows are chosen, by their places.
