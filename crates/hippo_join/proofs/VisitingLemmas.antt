@@ -111,7 +111,7 @@ module _ {A : Type 0} where
         let next : suc first ≡ start + 1 = omega (arith, at) in
         let later =
         sparse f g rest (start + 1) n (subst (λ (s : ℕ). Ascends s rest) next rising.1) (λ p within. same p (omega (arith, within)))
-        (λ p above none. absent p (omega (arith, above)) (λ has. elim (first_or_later first rest p has) as (λ _. ⊥) [ | inl this ↦ omega (arith, this, at, above) | inr behind ↦ none behind ])) (λ p above. past p (omega (arith, above))) in
+        (λ p above none. absent p (omega (arith, above)) (λ has. elim (first_or_later first rest p has) as (λ _. ⊥) [ inl this ↦ omega (arith, this, at, above) | inr behind ↦ none behind ])) (λ p above. past p (omega (arith, above))) in
         λ i. here i ++ later i
     | inr above ↦
         let missing : ¬ Contains (first ∷ rest) start = λ has. let low = lowest (start + 1) (first ∷ rest) (above, rising.1) start has in omega (arith, low) in
@@ -187,7 +187,7 @@ module _ (sets : List KeyedRows) where
       let those : drop table sets ≡ set ∷ rest = drop_at sets table set at in
       let joined : (others : List Place) → (begun.places ++ place ∷ []) ++ others ≡ begun.places ++ place ∷ others = λ others. append_assoc begun.places (place ∷ []) others in
       let inside : (others : List Place) → in_range (drop table sets) (place ∷ others) ≡ in_range rest others = λ others.
-          ap (λ (s : List KeyedRows). in_range s (place ∷ others)) those ∙ ap (λ b. b && in_range rest others) below in
+      ap (λ (s : List KeyedRows). in_range s (place ∷ others)) those ∙ ap (λ b. b && in_range rest others) below in
       record {
         places = begun.places ++ place ∷ [];
         long = omega (arith, length-append begun.places (place ∷ []), begun.long);
@@ -223,9 +223,9 @@ module _ (choices : Choices) (query : Masked) where
         let rest = drop table sets in
         let whole : List Place → Combination = λ others. front ++ chosen rest others in
         let none : (others : List Place) → has_places others (places_of rest) ≡ true → stays choices query (whole others) ≡ false = λ others has.
-            let within : in_range rest others ≡ true = sym (has-places_of rest others) ∙ has in
-            not_true (stays choices query (whole others)) (λ counts.
-            never (begun.places ++ others) (begun.fits others within) ((λ i. (begun.within others ∙ within) i && (ap (stays choices query) (begun.rows others) ∙ counts) i))) in
+        let within : in_range rest others ≡ true = sym (has-places_of rest others) ∙ has in
+        not_true (stays choices query (whole others)) (λ counts.
+        never (begun.places ++ others) (begun.fits others within) ((λ i. (begun.within others ∙ within) i && (ap (stays choices query) (begun.rows others) ∙ counts) i))) in
         ap (λ (some : List Combination). counting choices query (continued front some)) (product-rows rest)
         ∙ ap (counting choices query) (map-map (λ others. front ++ others) (chosen rest) (places_of rest))
         ∙ filter-map (stays choices query) whole (places_of rest) ∙ ap (map whole) (none_passes (λ others. stays choices query (whole others)) (places_of rest) none)

@@ -65,9 +65,7 @@ impl<'a, C: ChoiceView> Side<'a, C> {
     // Whether some guard can be tested where only these rows are chosen, and can fail.
     fn knows_guard(&self, slots: &[Option<usize>]) -> bool {
         let guards = self.query.guards.as_slice();
-        guards
-            .iter()
-            .any(|guard| can_fail(&guard.expr) && knows_expr(&guard.expr, slots))
+        guards.iter().any(|guard| can_fail(&guard.expr) && knows_expr(&guard.expr, slots))
     }
 
     // The parts of the condition that can be tested where these rows are chosen, by their places.

@@ -150,8 +150,9 @@ impl<'a, C: ChoiceView> Side<'a, C> {
         let following = self.following(alloc, stage, slots)?;
         let places = ascending(alloc, following)?;
         for place in &places {
-            let onward =
-                self.visit_with(alloc, stages, stage, *place, slots, combo, visitor, state)?;
+            let onward = self.visit_with(
+                alloc, stages, stage, *place, slots, combo, visitor, state,
+            )?;
             if let Onward::Enough = onward {
                 return Ok(Onward::Enough);
             }
@@ -174,9 +175,7 @@ impl<'a, C: ChoiceView> Side<'a, C> {
         let stages = self.stages_in(alloc, &order, false)?;
         let mut slots = open_slots(alloc, self.sets.len())?;
         let mut combo = Combo::new(alloc);
-        let _onward = self.visit_from(
-            alloc, &stages, 0, &mut slots, &mut combo, visitor, state,
-        )?;
+        let _onward = self.visit_from(alloc, &stages, 0, &mut slots, &mut combo, visitor, state)?;
         Ok(())
     }
 }

@@ -37,9 +37,22 @@ visit_with-visit_behind-requires g t c κs within =
     let set = c.get-set.result.now in
     let row : BornRow = record { row = c.row.result.now; born = c.born.result } in
     let is_row : row ≡ row_at set.rows c.args.place = sym (born_row_is (slice_get set.rows c.args.place) c.row.result.now c.born.result c.row.ensures c.born.ensures) in
-    let pushed : c.push.new.self ≡ c.args.combo.now ++ row_at set.rows c.args.place ∷ [] = c.in_ok-push.ensures.ok ∙ ap (λ (last : BornRow). c.args.combo.now ++ last ∷ []) is_row in
-    (omega arith, (within.0, (within.1.0, (within.1.1, (c.requires.table,
-    visit-more choices query sets c.args.stages.now c.args.slots.now c.args.combo.now table c.requires.walk set c.get-set.ensures c.args.place (slice_set c.args.slots.now table (Some c.args.place)) c.push.new.self (omega (arith, c.if-place-len.false, c.len.ensures.rows)) refl pushed)))))
+    let pushed : c.push.new.self ≡ c.args.combo.now ++ row_at set.rows c.args.place ∷ [] = c.in_ok-push.ensures.ok ∙ ap (λ (last : BornRow). c.args.combo.now ++ last ∷ []) is_row in (
+      omega arith,
+      (
+        within.0,
+        (
+          within.1.0,
+          (
+            within.1.1,
+            (
+              c.requires.table,
+              visit-more choices query sets c.args.stages.now c.args.slots.now c.args.combo.now table c.requires.walk set c.get-set.ensures c.args.place (slice_set c.args.slots.now table (Some c.args.place)) c.push.new.self (omega (arith, c.if-place-len.false, c.len.ensures.rows)) refl pushed,
+            ),
+          ),
+        ),
+      ),
+    )
 
 pub visit_with-returns-clause-slots : goal.visit_with-returns-clause-slots
 visit_with-returns-clause-slots g t c =
@@ -115,9 +128,22 @@ visit_from-visit_with-requires g t c κs within =
     let sets = c.args.self.now.sets.now in
     let stages = c.args.stages.now in
     let stage = c.in-Some.stage.now in
-    let here = stage-at choices query sets stages c.requires.walkable c.args.table stage (get-at stages stages c.args.table stage refl c.in-Some.ensures.lookup.0 c.in-Some.ensures.lookup.1) in
-    (omega (arith, here.0, here.1.0), (within.0, (within.1.0, (within.1.1, (omega (arith, here.0, here.1.0),
-    visit-same choices query sets stages c.args.slots.now c.loop-place.slots c.args.combo.now c.loop-place.combo c.args.table stage.table c.loop-place.invariant.same_slots c.loop-place.invariant.same_rows here.0 c.requires)))))
+    let here = stage-at choices query sets stages c.requires.walkable c.args.table stage (get-at stages stages c.args.table stage refl c.in-Some.ensures.lookup.0 c.in-Some.ensures.lookup.1) in (
+      omega (arith, here.0, here.1.0),
+      (
+        within.0,
+        (
+          within.1.0,
+          (
+            within.1.1,
+            (
+              omega (arith, here.0, here.1.0),
+              visit-same choices query sets stages c.args.slots.now c.loop-place.slots c.args.combo.now c.loop-place.combo c.args.table stage.table c.loop-place.invariant.same_slots c.loop-place.invariant.same_rows here.0 c.requires,
+            ),
+          ),
+        ),
+      ),
+    )
 
 pub visit_from-loop-place-preserved : goal.visit_from-loop-place-preserved
 visit_from-loop-place-preserved g t c =
