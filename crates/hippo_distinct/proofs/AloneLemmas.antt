@@ -26,7 +26,9 @@ use Rattle.hippo_model.specs.Masking.{Choices, is_guarded, masked_passes, masked
 use Rattle.hippo_model.specs.RowSets.{KeyedRows, IsAscending, key_in}
 use Rattle.hippo_eval.specs.Walks.{rows_of}
 use Rattle.hippo_join.specs.Finding.{has_places}
-use Rattle.hippo_join.specs.Places.{in_range}
+use Rattle.hippo_join.specs.Places.{in_range, stays}
+use Rattle.hippo_join.specs.Visiting.{counting}
+use Rattle.hippo_join.proofs.VisitingLemmas.{filter-implied}
 use Rattle.hippo_shared.specs.declared.marks.Mark.{Mark}
 use Rattle.hippo_shared.specs.declared.marks.Mark.TheVariants.{Unmarked}
 use Rattle.hippo_shared.specs.Marks.{row_places, mark_of, is_one}
@@ -128,6 +130,16 @@ module _ (choices : Choices) (query : Masked) (sets : List KeyedRows) (tables : 
 -- no mark of no combination
 pub marked-none : (choices : Choices) (query : Masked) (sets : List KeyedRows) (tables : List Place) (marks : Marks) → marks.entries ≡ [] → AreMarked key_order choices query sets tables [] marks
 marked-none choices query sets tables marks none row = ap (λ (es : List (List CellKey × Mark)). unwrap_or (lookup (λ other. is_eq (key_order (row_key row) other)) es) Unmarked) none
+
+-- the marks of the combinations that count are those of all
+pub marked-counting : (choices : Choices) (query : Masked) (sets : List KeyedRows) (tables : List Place) (combinations : List Combination) (marks : Marks)
+    → AreMarked key_order choices query sets tables (counting choices query combinations) marks → AreMarked key_order choices query sets tables combinations marks
+unfolding stays
+marked-counting choices query sets tables combinations marks are row =
+    are row
+    ∙ ap (λ (some : List Combination). mark_of (map (row_places sets tables) some))
+    (filter-implied (stays choices query) (makes_row choices query row)
+    (λ rows makes. (and_parts (is_guarded choices query rows && masked_passes choices query rows) (same_row row (masked_items choices query rows)) makes).0) combinations)
 
 -- ---- the marks that are kept, and those of the rows
 any-at : {A : Type 0} (test : A → Bool) (xs : List A) → list_any test xs ≡ true → (i : ℕ) × (x : A) × (slice_get xs i ≡ Some x) × (test x ≡ true)

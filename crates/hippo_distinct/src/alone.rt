@@ -15,7 +15,8 @@ ghost use Rattle.hippo_distinct.specs.declared.keys.CellKey as cell_keys;
 ghost use Rattle.hippo_distinct.specs.AloneRows.{AreMarked, mark_at};
 
 use crate::keys::{CellKey, RowKey, row_key};
-use hippo_eval::{Onward, Visitor, passes, project, walk};
+use hippo_eval::{Onward, Visitor, passes, project};
+use hippo_join::walk_joined;
 use hippo_model::{Audit, ChoiceView, Combo, Exprs, Masked, Places, Sets, SharedTuple};
 use hippo_shared::{Mark, audit_has_any, common_places, first_of, know_order, row_places};
 use hippo_values::{Memory, Sequence};
@@ -87,7 +88,7 @@ fn row_marks<C: ChoiceView>(
         choices: &*choices,
     };
     let mut marks = BTreeMap::new(alloc);
-    walk(alloc, sets, &marker, &mut marks)?;
+    walk_joined(alloc, query, sets, choices, &marker, &mut marks)?;
     Ok(marks)
 }
 
@@ -107,9 +108,9 @@ fn alone(alloc: Global, marks: BTreeMap<RowKey, Mark>) -> Result<BTreeSet<Places
 /// The first virtual tuple (a row of each table in both FROM lists, by its key; in the audit's order) that a DISTINCT
 /// query needs, that some row of its answer has with each expression of `seen` a shown cell, and that some combination
 /// of the audit's rows has of which its condition is true; none exactly where there is none. A tuple is needed where
-/// some row of the answer comes from combinations with the tuple alone. Wants what `first_shared` wants. Takes time in
-/// proportion to the combinations of the query's rows, unless no combination of the audit's rows counts; and memory for
-/// the different rows.
+/// some row of the answer comes from combinations with the tuple alone. Wants what `first_shared` wants. Takes the time
+/// of `walk_joined` over the query's rows, unless no combination of the audit's rows counts; and memory for the
+/// different rows.
 pub fn first_alone<C: ChoiceView>(
     alloc: Global,
     query: &Masked,

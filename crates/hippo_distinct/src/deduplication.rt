@@ -1,4 +1,4 @@
-//! The different rows of a query's answer, as a walk over all combinations of rows finds them.
+//! The different rows of a query's answer, as a walk over the combinations that count finds them.
 ghost use Rattle.std.specs.Prelude.{[], ◌∷◌, ◌++◌, List, OnOk};
 ghost use Rattle.hippo_model.specs.Terms.{ShownRow};
 ghost use Rattle.hippo_model.specs.Forms.{different};
@@ -8,7 +8,8 @@ ghost use Rattle.hippo_eval.specs.Walks.{rows_of};
 ghost use Rattle.hippo_distinct.specs.DistinctRows.{AreDifferent};
 
 use crate::keys::{CellKey, RowKey, row_key};
-use hippo_eval::{ANSWER_LIMIT, EvalFault, Gatherer, gather};
+use hippo_eval::{ANSWER_LIMIT, EvalFault, Gatherer};
+use hippo_join::gather_joined;
 use hippo_model::{Answer, CellRow, ChoiceView, Masked, Sets};
 use hippo_values::{Memory, Sequence};
 use std::alloc::Global;
@@ -90,5 +91,5 @@ pub fn distinct<C: ChoiceView>(
     ensures { let rows = masked_answer (C.choices choices.now) query.now (rows_of sets.now) in
         IsAnswered ANSWER_LIMIT (different rows) result }
 {
-    gather(alloc, query, sets, choices, &Different, ANSWER_LIMIT)
+    gather_joined(alloc, query, sets, choices, &Different, ANSWER_LIMIT)
 }

@@ -1,5 +1,5 @@
 -- What is kept of a group to know without which tuples it changes, one member more.
-use Rattle.std.proofs.Common.{◌≡◌, ℕ, ◌+◌, ◌<◌, arith, length, map, take, get_or, add-one, Bool, true, false, cond, ◌||◌, List, [], ◌∷◌, ◌++◌, refl, sym, ap, ◌∙◌}
+use Rattle.std.proofs.Common.{◌≡◌, ℕ, ◌+◌, ◌<◌, arith, length, map, take, get_or, add-one, Bool, true, false, cond, ◌&&◌, ◌||◌, List, [], ◌∷◌, ◌++◌, refl, sym, ap, ◌∙◌}
 use Rattle.std.specs.List.{list_any}
 use Rattle.std.specs.Ordering.{is_eq}
 use Rattle.std.proofs.Math.Seq.{take-suc}
@@ -9,13 +9,27 @@ use Rattle.hippo_values.specs.declared.values.Value.TheVariants.{Null}
 use Rattle.hippo_values.specs.Order.{value_cmp}
 use Rattle.hippo_model.specs.declared.query.Out.{Out}
 use Rattle.hippo_model.specs.declared.query.Out.TheVariants.{Column, Min, Max}
-use Rattle.hippo_model.specs.Terms.{Place}
+use Rattle.hippo_model.specs.declared.query.Masked.{Masked}
+use Rattle.hippo_model.specs.Terms.{Combination, Place}
+use Rattle.hippo_model.specs.Masking.{Choices, is_guarded, masked_passes, masked_items}
+use Rattle.hippo_model.specs.RowSets.{KeyedRows}
+use Rattle.hippo_join.specs.Places.{stays}
+use Rattle.hippo_join.specs.Visiting.{counting}
+use Rattle.hippo_join.proofs.VisitingLemmas.{filter-implied}
 use Rattle.hippo_shared.specs.declared.marks.Mark.{Mark}
 use Rattle.hippo_shared.specs.declared.marks.Mark.TheVariants.{Unmarked}
-use Rattle.hippo_shared.specs.Marks.{mark_of}
+use Rattle.hippo_shared.specs.Marks.{mark_of, row_places}
 use Rattle.hippo_groups.specs.declared.group_marks.Best.{Best}
-use Rattle.hippo_groups.specs.GroupMarks.{PlacedRow, value_at, places_of, best_by, best_of, best_after}
+use Rattle.hippo_groups.specs.GroupMarks.{PlacedRow, placed_rows, value_at, places_of, best_by, best_of, best_after}
 use Rattle.hippo_groups.proofs.BestTheorem.{IsBest, has, who_have_it, best-push, best-equal, who-equal, who-same, who-better}
+
+-- the rows of the combinations that count are those of all
+pub placed-counting : (choices : Choices) (query : Masked) (sets : List KeyedRows) (tables : List Place) (combinations : List Combination)
+    → placed_rows choices query sets tables (counting choices query combinations) ≡ placed_rows choices query sets tables combinations
+unfolding stays
+placed-counting choices query sets tables combinations =
+    ap (λ (some : List Combination). map (λ (rows : Combination). record { row = masked_items choices query rows; places = row_places sets tables rows }) some)
+    (filter-implied (stays choices query) (λ rows. is_guarded choices query rows && masked_passes choices query rows) (λ rows counts. counts) combinations)
 
 -- an output's best where there is no member yet
 pub no-best : (out : Out) → record { value = Null; mark = Unmarked } ≡ best_of [] out

@@ -7,7 +7,7 @@ ghost use Rattle.hippo_shared.specs.Sharing.{HaveSameRows};
 
 use crate::marking::marked_groups;
 use hippo_model::{Audit, ChoiceView, Exprs, Masked, Sets, Shape, SharedTuple};
-use hippo_shared::{common_places, first_of, know_order};
+use hippo_shared::{audit_has_any, common_places, first_of, know_order};
 use hippo_values::Memory;
 use std::alloc::Global;
 
@@ -16,7 +16,7 @@ use std::alloc::Global;
 /// counts and in which each expression of `seen` is a shown cell, and that some combination of the audit's rows has of
 /// which its condition is true; none exactly where there is none. Wants the rows of each side's tables, in the order of
 /// FROM, the same ones of a table that both have; and an audit that names no table twice. Takes memory for the groups,
-/// and time for each combination of the query's rows.
+/// and the time of `walk_joined` over the query's rows, unless no combination of the audit's rows counts.
 pub fn first_changing<C: ChoiceView>(
     alloc: Global,
     query: &Masked,
@@ -34,6 +34,9 @@ pub fn first_changing<C: ChoiceView>(
     ensures { IfOk result (λ shared. shared ≡ first_needed (C.choices choices.now) query.now (Grouped shape.now)
         audit.now seen.now query_sets.now audit_sets.now) }
 {
+    if !audit_has_any(alloc, audit, audit_sets, choices)? {
+        return Ok(None);
+    }
     know_order(audit_sets);
     let common = common_places(alloc, query.tables.as_slice(), audit.tables.as_slice())?;
     let groups = marked_groups(alloc, query, shape, query_sets, &common.query, choices)?;

@@ -1,4 +1,4 @@
-//! The groups of a query's answer, as a walk over all combinations of rows finds them.
+//! The groups of a query's answer, as a walk over the combinations that count finds them.
 ghost use Rattle.std.specs.Prelude.{◌≡◌, [], ◌∷◌, ◌++◌, List, take, option_copied, OnOk};
 ghost use Rattle.std.specs.BTreeMap.{get};
 ghost use Rattle.hippo_model.specs.declared.query.Shape as shapes;
@@ -11,7 +11,8 @@ ghost use Rattle.hippo_groups.specs.KeptGroups.{AreGroups};
 
 use crate::group_rows::{join_at, row_of_first};
 use hippo_distinct::{CellKey, RowKey, row_key};
-use hippo_eval::{ANSWER_LIMIT, EvalFault, Gatherer, gather};
+use hippo_eval::{ANSWER_LIMIT, EvalFault, Gatherer};
+use hippo_join::gather_joined;
 use hippo_model::{Answer, Cell, CellRow, ChoiceView, Masked, Sets, Shape};
 use hippo_values::{Memory, Sequence};
 use std::alloc::Global;
@@ -115,7 +116,7 @@ pub fn grouped<C: ChoiceView>(
     ensures { let rows = masked_answer (C.choices choices.now) query.now (rows_of sets.now) in
         IsAnswered ANSWER_LIMIT (grouped shape.now rows) result }
 {
-    gather(
+    gather_joined(
         alloc,
         query,
         sets,

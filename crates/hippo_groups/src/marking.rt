@@ -1,4 +1,4 @@
-//! The marks of a query's groups, as a walk over all combinations of rows finds them.
+//! The marks of a query's groups, as a walk over the combinations that count finds them.
 ghost use Rattle.std.specs.Prelude.{◌≡◌, [], ◌∷◌, ◌++◌, List, IfOk, OnOk};
 ghost use Rattle.std.specs.BTreeMap.{get};
 ghost use Rattle.std.specs.List.{list_any};
@@ -13,7 +13,8 @@ ghost use Rattle.hippo_groups.specs.KeptGroups.{AreMarked};
 use crate::group_marks::{GroupMarks, candidates, join_at, marks_of_first};
 use crate::grouping::front;
 use hippo_distinct::{CellKey, RowKey, row_key};
-use hippo_eval::{Onward, Visitor, passes, project, walk};
+use hippo_eval::{Onward, Visitor, passes, project};
+use hippo_join::walk_joined;
 use hippo_model::{CellRow, ChoiceView, Combo, Masked, Places, Sets, Shape};
 use hippo_shared::row_places;
 use hippo_values::{Memory, Sequence};
@@ -131,6 +132,6 @@ pub(crate) fn marked_groups<C: ChoiceView>(
         choices,
     };
     let mut groups = MarkedGroups::new(alloc);
-    walk(alloc, sets, &marker, &mut groups)?;
+    walk_joined(alloc, query, sets, choices, &marker, &mut groups)?;
     Ok(groups)
 }

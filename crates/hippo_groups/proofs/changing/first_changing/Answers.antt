@@ -1,4 +1,4 @@
--- The places that the marks give are those of the tuples that the query needs.
+-- The places that the marks give are those of the tuples that the query needs; where no combination of the audit's rows counts, none is.
 use Rattle.std.proofs.Common.{◌≡◌, List, map, subst, ◌∙◌}
 use Rattle.std.proofs.lemmas.Result.{IfOk-weaker}
 use Rattle.hippo_model.specs.declared.query.Form.TheVariants.{Grouped}
@@ -6,6 +6,7 @@ use Rattle.hippo_model.specs.Answers.{product}
 use Rattle.hippo_model.specs.Masking.{Choices}
 use Rattle.hippo_model.specs.Terms.{Place}
 use Rattle.hippo_eval.specs.Walks.{rows_of}
+use Rattle.hippo_distinct.proofs.AloneLemmas.{none-needed}
 use Rattle.hippo_distinct.proofs.CellOrder.{key_order}
 use Rattle.hippo_shared.specs.Needs.{needs_by}
 use Rattle.hippo_shared.specs.Sharing.{common_tables, place_in}
@@ -13,6 +14,11 @@ use Rattle.hippo_groups.specs.GroupMarks.{placed_rows}
 use Rattle.hippo_groups.specs.KeptGroups.{AreMarked}
 use Rattle.hippo_groups.proofs.ChangingTheorem.{changing_are}
 use Rattle.hippo_groups.proofs.changing.first_changing.Goals as goal
+
+pub returns-then-not-branch : goal.returns-then-not-branch
+returns-then-not-branch g c =
+    none-needed (g.C.ChoiceView.choices c.args.choices.now) c.args.query.now (Grouped c.args.shape.now) c.args.audit.now c.args.seen.now c.args.query_sets.now c.args.audit_sets.now
+    (c.in_ok-audit_has_any.ensures c.if-not-branch.true)
 
 pub returns : goal.returns
 returns g c =
