@@ -145,7 +145,7 @@ finds_flags audit held past combine result job before after steps steps' new is_
         fault_of (Err other) = Err other
 
 -- how the line ends is how its keeper's calls did
-ended_same : (found : Result (List Flag) ReadFault) → has_failed (as_call (ended found)) ≡ has_failed (reads.as_call found)
+pub ended_same : {A : Type 0} (found : Result A ReadFault) → has_failed (as_call (ended found)) ≡ has_failed (reads.as_call found)
 ended_same (Ok flags) = refl
 ended_same (Err Keeper) = refl
 ended_same (Err (Damaged number)) = refl
@@ -179,7 +179,7 @@ module _ (history : History) (world : World) (text : Txt) (written : RawAudit) (
   unrefused : (refusal : Refusal) → judged history world command ≡ Err refusal → ⊥
   unrefused refusal refuses = let both : ◌≡◌ {A = Checked Deed} (Ok (deeds.audit audit)) (Err refusal) = sym judged_is ∙ refuses in absurd cc
 
-undamaged_end : (found : Result (List Flag) ReadFault) (number : ℕ) → ((other : ℕ) → found ≢ Err (Damaged other)) → ended found ≢ Err (engine.Damaged number)
+pub undamaged_end : {A : Type 0} (found : Result A ReadFault) (number : ℕ) → ((other : ℕ) → found ≢ Err (Damaged other)) → ended found ≢ Err (engine.Damaged number)
 undamaged_end (Ok flags) number fine e = absurd cc
 undamaged_end (Err Keeper) number fine e = absurd cc
 undamaged_end (Err (Damaged other)) number fine e = fine other refl

@@ -23,12 +23,12 @@ use Rattle.hippo_report.specs.declared.format.Format.{Format}
 use Rattle.hippo_values.specs.declared.moments.Moment.{Moment}
 use Rattle.hippo_world.specs.Holding.{world_of, KeepsAudits, JobsFit}
 use Rattle.hippo_world.proofs.AuditLemmas.{WatchesFit-more, JobsFit-opening, WatchesFit-opening, none_watched, JobsFit-same, WatchesFit-same, taken_of-same}
-use Rattle.hippo_commands.specs.Commands.{Command, nothing, wrong, ask, state, who_commands, takes_memory, may_want, IsCommand}
+use Rattle.hippo_commands.specs.Commands.{Command, nothing, wrong, ask, state, who_commands, may_want, IsCommand}
 use Rattle.hippo_commands.specs.Commands as commands
 use Rattle.hippo_engine.specs.declared.engine.Engine.{Engine}
 use Rattle.hippo_engine.specs.declared.faults.EngineFault.{EngineFault}
 use Rattle.hippo_engine.specs.declared.faults.EngineFault.TheVariants.{Keeper, Write, Damaged}
-use Rattle.hippo_engine.specs.Effects.{Effect, only_reply, IsEffect}
+use Rattle.hippo_engine.specs.Effects.{Effect, only_reply, IsEffect, may_do_nothing}
 use Rattle.hippo_engine.specs.Ledgers.{Tallies, none_taken, at_once, job_begun, job_stepped, job_dropped}
 use Rattle.hippo_engine.specs.Carrying.{WatchesStand, Holds, AtWork, IsBacked, is_carried, shown, IsOfLine, IsQuiet, AddsNothing, BreaksOff, Carries}
 use Rattle.hippo_engine.proofs.ShortLemmas.{short}
@@ -147,7 +147,7 @@ unbroken history who old before after (inr reading) = false≢true reading.reads
 
 -- what is carried out in the place of a command that takes memory, where memory was short for reading it
 Carries-memory : {A : Type 0} (command : Command) (result : Result A EngineFault) (old new : Engine) (before after : KeeperState) (steps steps' : ℕ)
-    → takes_memory command ≡ true → Carries (wrong (who_commands command) Memory) result old new before after steps steps'
+    → may_do_nothing command ≡ true → Carries (wrong (who_commands command) Memory) result old new before after steps steps'
     → Carries command result old new before after steps steps'
 Carries-memory command result old new before after steps steps' takes refused = record {
   call = refused.call;
@@ -186,7 +186,7 @@ Carries-written command (Err Write) old new before after steps steps' done carri
 }
 
 -- what may want memory to be read takes memory, and is not nobody's
-wanting : (command : Command) → may_want command ≡ true → (takes_memory command ≡ true) × IsOfLine (wrong (who_commands command) Memory)
+wanting : (command : Command) → may_want command ≡ true → (may_do_nothing command ≡ true) × IsOfLine (wrong (who_commands command) Memory)
 wanting nothing wants = absurd (false≢true wants)
 wanting (wrong None refusal) wants = absurd (false≢true wants)
 wanting (wrong (Some session) refusal) wants = (refl, tt)

@@ -26,7 +26,7 @@ use Rattle.hippo_world.specs.Holding.{world_of, KeepsAudits}
 use Rattle.hippo_world.proofs.AuditLemmas.{JobsFit-more, JobsFit-same, taken_of-same}
 use Rattle.hippo_values.specs.Limits.{watch_limit}
 use Rattle.hippo_model.specs.declared.audit.Audit.{Audit}
-use Rattle.hippo_commands.specs.Commands.{Command, state, who_commands, takes_memory}
+use Rattle.hippo_commands.specs.Commands.{Command, state, who_commands}
 use Rattle.hippo_engine.specs.declared.engine.Engine.{Engine}
 use Rattle.hippo_engine.specs.declared.faults.EngineFault.{EngineFault}
 use Rattle.hippo_engine.specs.declared.faults.EngineFault.TheVariants.{Keeper}
@@ -36,13 +36,13 @@ use Rattle.hippo_engine.specs.declared.asking.Delivery.TheVariants as delivered
 use Rattle.hippo_engine.specs.Checks.{Checked, ◌>>=◌, refused_if, open_session}
 use Rattle.hippo_engine.specs.Deeds.{Deed, Question, asked_by}
 use Rattle.hippo_engine.specs.Judging.{deed_for, judged}
-use Rattle.hippo_engine.specs.Effects.{Effect, only_reply, next_entry, row_limit, question_rows, within_limit, alarms, asked, done, effect_of, IsShortAnswer, IsShort, IsEffect}
+use Rattle.hippo_engine.specs.Effects.{Effect, only_reply, next_entry, row_limit, question_rows, within_limit, alarms, asked, done, effect_of, IsShortAnswer, IsShort, IsEffect, may_do_nothing}
 use Rattle.hippo_engine.specs.Ledgers.{none_taken}
 use Rattle.hippo_engine.specs.Carrying.{Carries}
 use Rattle.hippo_engine.proofs.CarryingLemmas.{WatchesStand-more, WatchesStand-same, Holds-same, Holds-more}
 use Rattle.hippo_engine.specs.Asking.{question_of, deed_asked, entry_of, KeptAnswer, Asks, answer_said, world_left, Replies}
 use Rattle.hippo_engine.specs.Asking as asking
-use Rattle.hippo_engine.proofs.ShortLemmas.{short, refused, done_for}
+use Rattle.hippo_engine.proofs.ShortLemmas.{takes_some, short, refused, done_for}
 
 -- what is kept does not hang on what is answered
 pub Keeps-ok : {A B : Type 0} (one : A) (other : B) (entry : Entry) (held : State) (before after : KeeperState) → Keeps entry (ok_of KeeperFault one) held before after → Keeps entry (ok_of KeeperFault other) held before after
@@ -55,7 +55,7 @@ Keeps-ok one other entry held before after keeps = record {
 }
 
 -- a question that is refused, or for which memory is short, has that effect
-pub refused_effect : (history : History) (world : World) (command : Command) (refusal : Refusal) (reply : Txt) → takes_memory command ≡ true
+pub refused_effect : (history : History) (world : World) (command : Command) (refusal : Refusal) (reply : Txt) → may_do_nothing command ≡ true
     → (judged history world command ≡ Err refusal) ⊎ (refusal ≡ Memory)
     → (reply ≡ refusal_line (who_commands command) refusal) ⊎ (reply ≡ refusal_line (who_commands command) Memory)
     → IsEffect history world command (only_reply world reply)
@@ -93,7 +93,7 @@ record SaysSo (new : Engine) (said : List ShownRow → Txt) (left : List ShownRo
   world : world_of new.world ≡ left rows
 
 module _ (command : Command) (deed : Deed) (question : Question) (said : List ShownRow → Txt) (left : List ShownRow → World) (old new : Engine) (before after : KeeperState) (steps : ℕ)
-    (takes : takes_memory command ≡ true) (sound : IsSound old.state) (same_audits : KeepsAudits old.world new.world)
+    (takes : may_do_nothing command ≡ true) (sound : IsSound old.state) (same_audits : KeepsAudits old.world new.world)
     (judged_is : (history : History) → StandsFor old.state history → judged history (world_of old.world) command ≡ Ok deed)
     (asks : IsQuestion (world_of old.world) deed question said left) where
   abbrev entry : Entry
@@ -120,7 +120,7 @@ module _ (command : Command) (deed : Deed) (question : Question) (said : List Sh
       let line : Txt = refusal_line (who_commands command) Memory in
       let next = next_is history old.state old.world question stands in
       let so : IsShort history (world_of old.world) line (Ok deed) shown = asks.short history line shown (record { said = none.said; kept = inr (λ i. next i ∷ []); same = none.same }) in
-      inr (takes, subst (λ (judgement : Checked Deed). IsShort history (world_of old.world) line judgement shown) (sym (judged_is history stands)) so)
+      inr ((takes_some command takes).0, subst (λ (judgement : Checked Deed). IsShort history (world_of old.world) line judgement shown) (sym (judged_is history stands)) so)
 
   -- it was kept and answered
   Carries-kept : (answer : Result (List ShownRow) EvalFault) → Asks entry (world_of old.world) question (ok_of KeeperFault answer) old.state new.state before after
