@@ -45,19 +45,19 @@ use Rattle.hippo_report.specs.declared.refusal.Refusal.TheVariants as refusals
 use Rattle.hippo_report.specs.Flags.{flag_line}
 use Rattle.hippo_report.specs.Refusals.{refusal_line}
 use Rattle.hippo_world.specs.Worlds.{World}
-use Rattle.hippo_world.specs.Holding.{world_of}
+use Rattle.hippo_world.specs.Holding.{world_of, JobsFit, taken_of}
 use Rattle.hippo_engine.specs.declared.engine.Engine.{Engine}
 use Rattle.hippo_engine.specs.declared.faults.EngineFault.{EngineFault}
 use Rattle.hippo_engine.specs.declared.faults.EngineFault.TheVariants as engine
 use Rattle.hippo_engine.specs.Auditing.{HasFlags, FindsFlags, ended, told_flags, TellsFlags}
-use Rattle.hippo_engine.specs.Carrying.{JobsFit, WatchesFit, AtWork, as_call, is_carried, Carries}
+use Rattle.hippo_engine.specs.Carrying.{WatchesStand, AtWork, as_call, is_carried, Carries}
 use Rattle.hippo_engine.specs.Changing.{IsRefused}
 use Rattle.hippo_engine.specs.Checks.{Checked, Finds, ◌>>=◌, by_console, meant}
 use Rattle.hippo_engine.specs.Deeds.{Deed}
 use Rattle.hippo_engine.specs.Deeds as deeds
 use Rattle.hippo_engine.specs.Effects.{Effect, only_reply, carried_out, effect_of, audited, listed, IsEffect}
 use Rattle.hippo_engine.specs.Judging.{audit_in, judged}
-use Rattle.hippo_engine.specs.Ledgers.{taken_of, at_once}
+use Rattle.hippo_engine.specs.Ledgers.{at_once}
 use Rattle.hippo_engine.proofs.LookingLemmas.{Carries-looked}
 use Rattle.hippo_engine.proofs.ShortLemmas.{short, done_for}
 
@@ -145,7 +145,7 @@ finds_flags audit held past combine result job before after steps steps' new is_
         fault_of (Err other) = Err other
 
 -- how the line ends is how its keeper's calls did
-ended_same : (found : Result (List Flag) ReadFault) → has_failed (as_call (ended found)) ≡ has_failed (reads.as_call found)
+pub ended_same : {A : Type 0} (found : Result A ReadFault) → has_failed (as_call (ended found)) ≡ has_failed (reads.as_call found)
 ended_same (Ok flags) = refl
 ended_same (Err Keeper) = refl
 ended_same (Err (Damaged number)) = refl
@@ -179,7 +179,7 @@ module _ (history : History) (world : World) (text : Txt) (written : RawAudit) (
   unrefused : (refusal : Refusal) → judged history world command ≡ Err refusal → ⊥
   unrefused refusal refuses = let both : ◌≡◌ {A = Checked Deed} (Ok (deeds.audit audit)) (Err refusal) = sym judged_is ∙ refuses in absurd cc
 
-undamaged_end : (found : Result (List Flag) ReadFault) (number : ℕ) → ((other : ℕ) → found ≢ Err (Damaged other)) → ended found ≢ Err (engine.Damaged number)
+pub undamaged_end : {A : Type 0} (found : Result A ReadFault) (number : ℕ) → ((other : ℕ) → found ≢ Err (Damaged other)) → ended found ≢ Err (engine.Damaged number)
 undamaged_end (Ok flags) number fine e = absurd cc
 undamaged_end (Err Keeper) number fine e = absurd cc
 undamaged_end (Err (Damaged other)) number fine e = fine other refl
@@ -216,7 +216,7 @@ Carries-audited text written audit session result old new before after steps ste
           (either history is done.flags_are fine (carried_said tells.found (IsSaid old.world.format tells.found new.reply) fine
           (subst (λ (r : Result (Unit {0}) EngineFault). OnOk r (IsSaid old.world.format tells.found new.reply)) tells.ended_so tells.said)));
       jobs = subst (JobsFit history) (sym same_world) holds.jobs;
-      watches = subst (WatchesFit history) (sym same_world) holds.watches;
+      watches = subst (WatchesStand history) (sym same_world) holds.watches;
       counts = at_once refl done.few (ap taken_of same_world);
       refused = λ refusal refuses others. absurd (unrefused history world text written audit is refusal refuses);
       adds = adds_none history world text written audit is;

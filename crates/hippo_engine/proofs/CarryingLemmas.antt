@@ -1,10 +1,12 @@
 -- From what single calls do to what carrying out a command does.
-use Rattle.std.proofs.Common.{◌≡◌, ◌∙◌, ℕ, refl, sym, ap, subst, inl, inr, List, [], ◌∷◌, ◌++◌, Option, Some, None, Result, Ok, Err, true, append-nil}
+use Rattle.std.proofs.Common.{◌≡◌, ◌∙◌, ℕ, refl, sym, ap, subst, inl, inr, List, [], ◌∷◌, ◌++◌, map, Option, Some, None, Result, Ok, Err, true, append-nil}
 use Rattle.std.proofs.lemmas.Bool.{false≢true}
 use Rattle.std.proofs.lemmas.List.{map-append}
 use Rattle.hippo_model.specs.declared.entry.Entry.{Entry}
 use Rattle.hippo_model.specs.StoredForms.{stored}
 use Rattle.hippo_model.specs.Terms.{History}
+use Rattle.hippo_model.specs.Validity.{is_valid}
+use Rattle.hippo_typing.specs.Meanings.{meaning}
 use Rattle.hippo_keeper.specs.Keeping.{KeeperState}
 use Rattle.hippo_replay.specs.Loading.{KeepsSame}
 use Rattle.hippo_replay.specs.Recording.{HasKept}
@@ -16,16 +18,19 @@ use Rattle.hippo_report.specs.declared.refusal.Refusal.{Refusal}
 use Rattle.hippo_report.specs.declared.refusal.Refusal.TheVariants.{Memory}
 use Rattle.hippo_report.specs.Refusals.{refusal_line}
 use Rattle.hippo_world.specs.declared.worlds.World.{World as HeldWorld}
-use Rattle.hippo_world.specs.Worlds.{World}
-use Rattle.hippo_world.specs.Holding.{world_of}
-use Rattle.hippo_commands.specs.Commands.{Command, nothing, wrong, ask, state, who_commands, takes_memory, may_want, IsCommand}
+use Rattle.hippo_world.specs.Worlds.{World, opening}
+use Rattle.hippo_report.specs.declared.format.Format.{Format}
+use Rattle.hippo_values.specs.declared.moments.Moment.{Moment}
+use Rattle.hippo_world.specs.Holding.{world_of, KeepsAudits, JobsFit}
+use Rattle.hippo_world.proofs.AuditLemmas.{WatchesFit-more, JobsFit-opening, WatchesFit-opening, none_watched, JobsFit-same, WatchesFit-same, taken_of-same}
+use Rattle.hippo_commands.specs.Commands.{Command, nothing, wrong, ask, state, who_commands, may_want, IsCommand}
 use Rattle.hippo_commands.specs.Commands as commands
 use Rattle.hippo_engine.specs.declared.engine.Engine.{Engine}
 use Rattle.hippo_engine.specs.declared.faults.EngineFault.{EngineFault}
 use Rattle.hippo_engine.specs.declared.faults.EngineFault.TheVariants.{Keeper, Write, Damaged}
-use Rattle.hippo_engine.specs.Effects.{Effect, only_reply, IsEffect}
+use Rattle.hippo_engine.specs.Effects.{Effect, only_reply, IsEffect, may_do_nothing}
 use Rattle.hippo_engine.specs.Ledgers.{Tallies, none_taken, at_once, job_begun, job_stepped, job_dropped}
-use Rattle.hippo_engine.specs.Carrying.{JobsFit, WatchesFit, Holds, AtWork, IsBacked, is_carried, shown, IsOfLine, IsQuiet, BreaksOff, Carries}
+use Rattle.hippo_engine.specs.Carrying.{WatchesStand, Holds, AtWork, IsBacked, is_carried, shown, IsOfLine, IsQuiet, AddsNothing, BreaksOff, Carries}
 use Rattle.hippo_engine.proofs.ShortLemmas.{short}
 
 -- the state of an engine that is at work is backed by its keeper
@@ -38,13 +43,41 @@ IsBacked-of engine keeper at_work = record {
       record { history = holds.0; forms = holds.1.forms; stands = holds.1.stands };
 }
 
--- jobs that fit a history fit it with an entry behind
-pub JobsFit-more : (history : History) (entry : Entry) (held : HeldWorld) → JobsFit history held → JobsFit (history ++ entry ∷ []) held
-JobsFit-more history entry held fits = fits
+-- watches that stand for a history stand for it with an entry behind
+pub WatchesStand-more : (history : History) (entry : Entry) (held : HeldWorld) → is_valid meaning (history ++ entry ∷ []) ≡ true → WatchesStand history held
+    → WatchesStand (history ++ entry ∷ []) held
+WatchesStand-more history entry held valid stand = record { fit = WatchesFit-more history entry valid held stand.fit; none = stand.none }
+
+-- and where they are the same
+pub WatchesStand-same : (history : History) (old new : HeldWorld) → KeepsAudits old new → WatchesStand history old → WatchesStand history new
+WatchesStand-same history old new keeps stand = record { fit = WatchesFit-same history old new keeps stand.fit; none = keeps.watches ∙ stand.none }
+
+-- an engine with the state of a history that is kept holds it where a run begins
+pub Holds-opening : (history : History) (held : State) (engine : Engine) (keeper : KeeperState) (clock : Moment) (limit : ℕ) (format : Format) → engine.state ≡ held
+    → StandsFor held history → map stored history ≡ keeper.kept → world_of engine.world ≡ opening clock limit format → Holds history engine keeper
+Holds-opening history held engine keeper clock limit format same stands forms opens = record {
+  forms = forms;
+  stands = subst (λ (state : State). StandsFor state history) (sym same) stands;
+  jobs = JobsFit-opening engine.world clock limit format opens history;
+  watches = record {
+    fit = WatchesFit-opening engine.world clock limit format opens history;
+    none = none_watched engine.world clock limit format opens;
+  };
+}
+
+-- a command that leaves jobs and watches alone
+pub AddsNothing-quiet : (command : Command) (old new : Engine) → IsQuiet command old new → AddsNothing command old new
+AddsNothing-quiet command old new quiet = record {
+  same = quiet.same;
+  effect = quiet.effect;
+  jobs = λ history stands fit. JobsFit-same history old.world new.world quiet.audits fit;
+  watches = λ history stands stand. WatchesStand-same history old.world new.world quiet.audits stand;
+  counts = λ versions steps. none_taken refl (taken_of-same old.world new.world quiet.audits);
+}
 
 -- nothing was added
 pub Holds-same : (history : History) (old new : Engine) (before after : KeeperState) → Holds history old before
-    → StandsFor new.state history → JobsFit history new.world → WatchesFit history new.world → KeepsSame before after
+    → StandsFor new.state history → JobsFit history new.world → WatchesStand history new.world → KeepsSame before after
     → Holds (history ++ []) new after
 Holds-same history old new before after holds stands jobs watches keeps =
     subst (λ (h : History). Holds h new after) (sym (append-nil history))
@@ -52,7 +85,7 @@ Holds-same history old new before after holds stands jobs watches keeps =
 
 -- an entry was added
 pub Holds-more : (history : History) (entry : Entry) (old new : Engine) (before after : KeeperState) → Holds history old before
-    → StandsFor new.state (history ++ entry ∷ []) → JobsFit (history ++ entry ∷ []) new.world → WatchesFit (history ++ entry ∷ []) new.world
+    → StandsFor new.state (history ++ entry ∷ []) → JobsFit (history ++ entry ∷ []) new.world → WatchesStand (history ++ entry ∷ []) new.world
     → HasKept (entry ∷ []) before after → Holds (history ++ entry ∷ []) new after
 Holds-more history entry old new before after holds stands jobs watches kept = record {
   forms = map-append stored history (entry ∷ []) ∙ ap (λ front. front ++ stored entry ∷ []) holds.forms ∙ sym kept.0;
@@ -62,9 +95,9 @@ Holds-more history entry old new before after holds stands jobs watches kept = r
 }
 
 -- a command that adds nothing leaves the keeper alone
-pub Carries-quiet : (command : Command) (old new : Engine) (keeper : KeeperState) (steps : ℕ) → AtWork old keeper → IsQuiet command old new
+pub Carries-nothing : (command : Command) (old new : Engine) (keeper : KeeperState) (steps : ℕ) → AtWork old keeper → AddsNothing command old new
     → Carries {A = Unit {0}} command (Ok tt) old new keeper keeper steps steps
-Carries-quiet command old new keeper steps at_work quiet = record {
+Carries-nothing command old new keeper steps at_work quiet = record {
   call = IsAfterCall-none keeper at_work.ready;
   sound = λ fine. subst IsSound (sym quiet.same) at_work.sound;
   idle = λ none. refl;
@@ -82,6 +115,12 @@ Carries-quiet command old new keeper steps at_work quiet = record {
   failed = λ fails. absurd (false≢true fails);
   undamaged = λ tells history holds number damaged. cc;
 }
+
+-- nor do jobs and watches change
+pub Carries-quiet : (command : Command) (old new : Engine) (keeper : KeeperState) (steps : ℕ) → AtWork old keeper → IsQuiet command old new
+    → Carries {A = Unit {0}} command (Ok tt) old new keeper keeper steps steps
+Carries-quiet command old new keeper steps at_work quiet =
+    Carries-nothing command old new keeper steps at_work (AddsNothing-quiet command old new quiet)
 
 -- a line that is refused for want of memory, whatever the history, has that reply alone
 memory_effect : (history : History) (world : World) (who : Option ℕ) (effect : Effect) → IsEffect history world (wrong who Memory) effect
@@ -108,7 +147,7 @@ unbroken history who old before after (inr reading) = false≢true reading.reads
 
 -- what is carried out in the place of a command that takes memory, where memory was short for reading it
 Carries-memory : {A : Type 0} (command : Command) (result : Result A EngineFault) (old new : Engine) (before after : KeeperState) (steps steps' : ℕ)
-    → takes_memory command ≡ true → Carries (wrong (who_commands command) Memory) result old new before after steps steps'
+    → may_do_nothing command ≡ true → Carries (wrong (who_commands command) Memory) result old new before after steps steps'
     → Carries command result old new before after steps steps'
 Carries-memory command result old new before after steps steps' takes refused = record {
   call = refused.call;
@@ -147,7 +186,7 @@ Carries-written command (Err Write) old new before after steps steps' done carri
 }
 
 -- what may want memory to be read takes memory, and is not nobody's
-wanting : (command : Command) → may_want command ≡ true → (takes_memory command ≡ true) × IsOfLine (wrong (who_commands command) Memory)
+wanting : (command : Command) → may_want command ≡ true → (may_do_nothing command ≡ true) × IsOfLine (wrong (who_commands command) Memory)
 wanting nothing wants = absurd (false≢true wants)
 wanting (wrong None refusal) wants = absurd (false≢true wants)
 wanting (wrong (Some session) refusal) wants = (refl, tt)

@@ -21,9 +21,12 @@ use Rattle.hippo_replay.proofs.KeeperLemmas.{IsAfterCall-as}
 use Rattle.hippo_replay.proofs.Results.{ok_of, err_of, well}
 use Rattle.hippo_world.specs.declared.sessions.Session.{Session}
 use Rattle.hippo_world.specs.declared.worlds.World.{World as HeldWorld}
-use Rattle.hippo_world.specs.Worlds.{World, session_at}
-use Rattle.hippo_world.specs.Holding.{world_of}
-use Rattle.hippo_commands.specs.Commands.{Command, state, who_commands, takes_memory}
+use Rattle.hippo_world.specs.Worlds.{World, session_at, none_held}
+use Rattle.hippo_world.specs.Holding.{world_of, KeepsAudits}
+use Rattle.hippo_world.proofs.AuditLemmas.{JobsFit-more, JobsFit-same, taken_of-same}
+use Rattle.hippo_values.specs.Limits.{watch_limit}
+use Rattle.hippo_model.specs.declared.audit.Audit.{Audit}
+use Rattle.hippo_commands.specs.Commands.{Command, state, who_commands}
 use Rattle.hippo_engine.specs.declared.engine.Engine.{Engine}
 use Rattle.hippo_engine.specs.declared.faults.EngineFault.{EngineFault}
 use Rattle.hippo_engine.specs.declared.faults.EngineFault.TheVariants.{Keeper}
@@ -33,13 +36,13 @@ use Rattle.hippo_engine.specs.declared.asking.Delivery.TheVariants as delivered
 use Rattle.hippo_engine.specs.Checks.{Checked, ◌>>=◌, refused_if, open_session}
 use Rattle.hippo_engine.specs.Deeds.{Deed, Question, asked_by}
 use Rattle.hippo_engine.specs.Judging.{deed_for, judged}
-use Rattle.hippo_engine.specs.Effects.{Effect, only_reply, next_entry, row_limit, question_rows, within_limit, alarms, asked, done, effect_of, IsShortAnswer, IsShort, IsEffect}
+use Rattle.hippo_engine.specs.Effects.{Effect, only_reply, next_entry, row_limit, question_rows, within_limit, alarms, asked, done, effect_of, IsShortAnswer, IsShort, IsEffect, may_do_nothing}
 use Rattle.hippo_engine.specs.Ledgers.{none_taken}
 use Rattle.hippo_engine.specs.Carrying.{Carries}
-use Rattle.hippo_engine.proofs.CarryingLemmas.{JobsFit-more, Holds-same, Holds-more}
+use Rattle.hippo_engine.proofs.CarryingLemmas.{WatchesStand-more, WatchesStand-same, Holds-same, Holds-more}
 use Rattle.hippo_engine.specs.Asking.{question_of, deed_asked, entry_of, KeptAnswer, Asks, answer_said, world_left, Replies}
 use Rattle.hippo_engine.specs.Asking as asking
-use Rattle.hippo_engine.proofs.ShortLemmas.{short, refused, done_for}
+use Rattle.hippo_engine.proofs.ShortLemmas.{takes_some, short, refused, done_for}
 
 -- what is kept does not hang on what is answered
 pub Keeps-ok : {A B : Type 0} (one : A) (other : B) (entry : Entry) (held : State) (before after : KeeperState) → Keeps entry (ok_of KeeperFault one) held before after → Keeps entry (ok_of KeeperFault other) held before after
@@ -52,7 +55,7 @@ Keeps-ok one other entry held before after keeps = record {
 }
 
 -- a question that is refused, or for which memory is short, has that effect
-pub refused_effect : (history : History) (world : World) (command : Command) (refusal : Refusal) (reply : Txt) → takes_memory command ≡ true
+pub refused_effect : (history : History) (world : World) (command : Command) (refusal : Refusal) (reply : Txt) → may_do_nothing command ≡ true
     → (judged history world command ≡ Err refusal) ⊎ (refusal ≡ Memory)
     → (reply ≡ refusal_line (who_commands command) refusal) ⊎ (reply ≡ refusal_line (who_commands command) Memory)
     → IsEffect history world command (only_reply world reply)
@@ -64,8 +67,8 @@ refused_effect history world command refusal reply takes (inr is) (inl said) =
     subst (λ (r : Txt). IsEffect history world command (only_reply world r)) (sym (said ∙ ap (λ (r : Refusal). refusal_line (who_commands command) r) is)) (short history world command takes)
 
 -- there are no watches
-no_alarms : (history : History) (held : HeldWorld) (entry : Entry) → alarms history (world_of held) entry ≡ []
-no_alarms history held entry = refl
+no_alarms : (history : History) (held : HeldWorld) (entry : Entry) → held.watches ≡ none_held watch_limit → alarms history (world_of held) entry ≡ []
+no_alarms history held entry none = ap (λ (watches : List (Option Audit)). alarms history (record (world_of held) { watches = watches }) entry) none
 
 -- the entry of a question is the next one
 next_is : (history : History) (held : State) (world : HeldWorld) (question : Question) → StandsFor held history
@@ -90,7 +93,7 @@ record SaysSo (new : Engine) (said : List ShownRow → Txt) (left : List ShownRo
   world : world_of new.world ≡ left rows
 
 module _ (command : Command) (deed : Deed) (question : Question) (said : List ShownRow → Txt) (left : List ShownRow → World) (old new : Engine) (before after : KeeperState) (steps : ℕ)
-    (takes : takes_memory command ≡ true) (sound : IsSound old.state)
+    (takes : may_do_nothing command ≡ true) (sound : IsSound old.state) (same_audits : KeepsAudits old.world new.world)
     (judged_is : (history : History) → StandsFor old.state history → judged history (world_of old.world) command ≡ Ok deed)
     (asks : IsQuestion (world_of old.world) deed question said left) where
   abbrev entry : Entry
@@ -103,21 +106,21 @@ module _ (command : Command) (deed : Deed) (question : Question) (said : List Sh
   abbrev shown : Effect
   shown = record { reply = new.reply; added = entry ∷ []; world = world_of new.world }
 
-  has_effect : (history : History) → StandsFor old.state history
+  has_effect : (history : History) → StandsFor old.state history → old.world.watches ≡ none_held watch_limit
       → SaysSo new said left (question_rows history (world_of old.world) question) ⊎ SaysShort command old new
       → IsEffect history (world_of old.world) command shown
-  has_effect history stands (inl so) =
+  has_effect history stands unwatched (inl so) =
       let rows : List ShownRow = question_rows history (world_of old.world) question in
       let next = next_is history old.state old.world question stands in
       let reply : new.reply ≡ said rows ++ alarms history (world_of old.world) (next_entry history (world_of old.world) (asked_by question)) =
-      so.reply ∙ sym (append-nil (said rows)) ∙ ap (λ (more : Txt). said rows ++ more) (sym (no_alarms history old.world (next_entry history (world_of old.world) (asked_by question)))) in
+      so.reply ∙ sym (append-nil (said rows)) ∙ ap (λ (more : Txt). said rows ++ more) (sym (no_alarms history old.world (next_entry history (world_of old.world) (asked_by question)) unwatched)) in
       let shown_is : shown ≡ asked history (world_of old.world) question (said rows) (left rows) = λ i. record { reply = reply i; added = next i ∷ []; world = so.world i } in
       inl (shown_is ∙ sym (effect_is history stands))
-  has_effect history stands (inr none) =
+  has_effect history stands unwatched (inr none) =
       let line : Txt = refusal_line (who_commands command) Memory in
       let next = next_is history old.state old.world question stands in
       let so : IsShort history (world_of old.world) line (Ok deed) shown = asks.short history line shown (record { said = none.said; kept = inr (λ i. next i ∷ []); same = none.same }) in
-      inr (takes, subst (λ (judgement : Checked Deed). IsShort history (world_of old.world) line judgement shown) (sym (judged_is history stands)) so)
+      inr ((takes_some command takes).0, subst (λ (judgement : Checked Deed). IsShort history (world_of old.world) line judgement shown) (sym (judged_is history stands)) so)
 
   -- it was kept and answered
   Carries-kept : (answer : Result (List ShownRow) EvalFault) → Asks entry (world_of old.world) question (ok_of KeeperFault answer) old.state new.state before after
@@ -129,13 +132,14 @@ module _ (command : Command) (deed : Deed) (question : Question) (said : List Sh
     idle = λ none. refl;
     carried = λ fine tells history holds. record {
       effect = shown;
-      is = has_effect history holds.stands (says (question_rows history (world_of old.world) question) (kept.rows history holds.stands));
+      is = has_effect history holds.stands holds.watches.none (says (question_rows history (world_of old.world) question) (kept.rows history holds.stands));
       reply = refl;
       world = refl;
       holds = Holds-more history entry old new before after holds (kept.added history holds.stands)
-          (JobsFit-more history entry new.world holds.jobs) tt (kept.keeps.kept tells);
+          (JobsFit-more history entry (kept.added history holds.stands).valid new.world (JobsFit-same history old.world new.world same_audits holds.jobs))
+          (WatchesStand-more history entry new.world (kept.added history holds.stands).valid (WatchesStand-same history old.world new.world same_audits holds.watches)) (kept.keeps.kept tells);
       kept = kept.keeps.kept tells;
-      counts = λ ample. none_taken refl refl;
+      counts = λ ample. none_taken refl (taken_of-same old.world new.world same_audits);
       refused = λ refusal is others. refl;
     };
     failed = λ fails. absurd (false≢true fails);
@@ -155,9 +159,9 @@ module _ (command : Command) (deed : Deed) (question : Question) (said : List Sh
       reply = none.said;
       world = none.same;
       holds = Holds-same history old new before after holds (subst (λ (held : State). StandsFor held history) (sym kept.same) holds.stands)
-          holds.jobs holds.watches (kept.keeps.same refl tells);
+          (JobsFit-same history old.world new.world same_audits holds.jobs) (WatchesStand-same history old.world new.world same_audits holds.watches) (kept.keeps.same refl tells);
       kept = kept.keeps.same refl tells;
-      counts = λ ample. none_taken refl refl;
+      counts = λ ample. none_taken refl (taken_of-same old.world new.world same_audits);
       refused = λ refusal is others. refl;
     };
     failed = λ fails. absurd (false≢true fails);
@@ -191,7 +195,7 @@ found_session false (Some one) session is = ap (λ (c : Checked Session). found 
     found (Ok one) = Some one
     found (Err refusal) = None
 
-module _ (session : ℕ) (statement : Stmt) (text : Txt) (asked_for : Asking) (old new : Engine) (before after : KeeperState) (steps : ℕ) (sound : IsSound old.state) where
+module _ (session : ℕ) (statement : Stmt) (text : Txt) (asked_for : Asking) (old new : Engine) (before after : KeeperState) (steps : ℕ) (sound : IsSound old.state) (same_audits : KeepsAudits old.world new.world) where
   -- a question that is not refused
   abbrev asks_it : Command
   asks_it = state session statement text
@@ -225,12 +229,12 @@ module _ (session : ℕ) (statement : Stmt) (text : Txt) (asked_for : Asking) (o
   Carries-question there judged_is (Ok answer) asks result replies =
       let at = found_session (session == 0) (session_at (world_of old.world) session) asked_for.asker.now there in
       subst (λ (r : Result (Unit {0}) EngineFault). Carries asks_it r old new before after steps steps) (sym replies.0)
-      (Carries-kept asks_it (deed_asked session asked_for) question is_said is_left old new before after steps refl sound judged_is (is_question asked_for.delivery) answer asks
+      (Carries-kept asks_it (deed_asked session asked_for) question is_said is_left old new before after steps refl sound same_audits judged_is (is_question asked_for.delivery) answer asks
       (λ rows answered. says at rows (replies.1 rows answered)))
   Carries-question there judged_is (Err KeeperMemory) asks result replies =
       subst (λ (r : Result (Unit {0}) EngineFault). Carries asks_it r old new before after steps steps) (sym replies.0.0)
-      (Carries-short asks_it (deed_asked session asked_for) question is_said is_left old new before after steps refl sound judged_is (is_question asked_for.delivery) asks
+      (Carries-short asks_it (deed_asked session asked_for) question is_said is_left old new before after steps refl sound same_audits judged_is (is_question asked_for.delivery) asks
       (record { said = replies.0.1; same = replies.1 }))
   Carries-question there judged_is (Err Failed) asks result replies =
       subst (λ (r : Result (Unit {0}) EngineFault). Carries asks_it r old new before after steps steps) (sym replies.0)
-      (Carries-failed asks_it (deed_asked session asked_for) question is_said is_left old new before after steps refl sound judged_is (is_question asked_for.delivery) asks)
+      (Carries-failed asks_it (deed_asked session asked_for) question is_said is_left old new before after steps refl sound same_audits judged_is (is_question asked_for.delivery) asks)

@@ -17,13 +17,13 @@ use Rattle.hippo_engine.specs.Effects.{asked}
 use Rattle.hippo_values.specs.Texts.{Txt}
 use Rattle.std.specs.List.{flat_map}
 use Rattle.hippo_report.specs.declared.format.Format.TheVariants as formats
-use Rattle.hippo_report.specs.declared.refusal.Refusal.TheVariants.{NoSession, SessionOpen, NotAuthorized, ConsoleOnly, SessionsOnly, Meaningless, KeyThere, KeyMissing, NoCursor, HistoryFull, MomentBack, BadRecord, BadField, NotBuilt}
+use Rattle.hippo_report.specs.declared.refusal.Refusal.TheVariants.{NoSession, SessionOpen, NotAuthorized, ConsoleOnly, SessionsOnly, Meaningless, KeyThere, KeyMissing, NoCursor, HistoryFull, MomentBack, BadRecord, BadField, NoJob, NotBuilt}
 use Rattle.hippo_report.specs.Cells.{answer_line}
 use Rattle.hippo_report.specs.Notices.{done_line, number_line}
 use Rattle.hippo_report.specs.Refusals.{refusal_line}
 use Rattle.hippo_world.specs.declared.cursors.Cursor.{Cursor}
 use Rattle.hippo_world.specs.Worlds.{World, opening, with_session, with_cursor, new_session}
-use Rattle.hippo_lines.specs.Forms.{logs_in, logs_out, fetches, closes, steps, loads}
+use Rattle.hippo_lines.specs.Forms.{logs_in, logs_out, fetches, closes, steps, drops, unwatches, loads}
 use Rattle.hippo_commands.specs.Commands.{set_clock, ask, state}
 use Rattle.hippo_engine.proofs.ExampleLines.{run, left, morning, clinic, entry, world_within, nurses_pair, reply_in, reply_after, world_left, console, patient, treatment, nurse, question, all_rows, asked_for, rows_after, ok, rows, text, no, console_no}
 
@@ -164,6 +164,15 @@ two_records_are_no_row = refl
 sessions_load_nothing : reply_after [] (ask 1 (loads (codes "x") [])) ≡ no ConsoleOnly
 sessions_load_nothing = refl
 
+sessions_step_no_job : reply_after [] (ask 1 (steps 1 1)) ≡ no ConsoleOnly
+sessions_step_no_job = refl
+
+jobs_that_did_not_begin_are_not_stepped : reply_after [] (ask 0 (steps 1 1)) ≡ console_no (NoJob 1)
+jobs_that_did_not_begin_are_not_stepped = refl
+
+jobs_that_did_not_begin_are_not_dropped : reply_after [] (ask 0 (drops 8)) ≡ console_no (NoJob 8)
+jobs_that_did_not_begin_are_not_dropped = refl
+
 -- what is not carried out yet comes before who may do it
-steps_are_not_built : reply_after [] (ask 1 (steps 1 1)) ≡ no NotBuilt
-steps_are_not_built = refl
+watches_are_not_built : reply_after [] (ask 1 (unwatches 1)) ≡ no NotBuilt
+watches_are_not_built = refl

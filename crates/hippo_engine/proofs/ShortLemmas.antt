@@ -1,11 +1,13 @@
 -- A line that takes memory may be answered by want of it.
-use Rattle.std.proofs.Common.{◌≡◌, inl, inr, refl, ap, sym, true, Option, Ok, Err, List, Some, None}
+use Rattle.std.proofs.Common.{◌≡◌, inl, inr, refl, ap, sym, true, false, Option, Ok, Err, List, Some, None}
+use Rattle.std.proofs.lemmas.Bool.{false≢true}
 use Rattle.std.specs.Prelude.{ℕ, int_lt, ok_or}
 use Rattle.hippo_model.specs.declared.audit.Audit.{Audit}
 use Rattle.hippo_model.specs.declared.audit.Pair.{Pair}
 use Rattle.hippo_model.specs.declared.entry.Act.{Act}
 use Rattle.hippo_model.specs.declared.entry.Entry.{Entry}
 use Rattle.hippo_model.specs.declared.name_fault.NameFault.{NameFault}
+use Rattle.hippo_model.specs.declared.statement.RawAudit.{RawAudit}
 use Rattle.hippo_model.specs.declared.statement.RawSelect.{RawSelect}
 use Rattle.hippo_model.specs.declared.statement.Stmt.{Stmt}
 use Rattle.hippo_model.specs.declared.statement.Stmt.TheVariants as stmt
@@ -18,11 +20,12 @@ use Rattle.hippo_catalog.specs.ChangesRefused.{change_refused}
 use Rattle.hippo_catalog.specs.ChangesWanted.{wanted_by}
 use Rattle.hippo_tables.specs.Finished.{finished}
 use Rattle.hippo_report.specs.declared.refusal.Refusal.{Refusal}
-use Rattle.hippo_report.specs.declared.refusal.Refusal.TheVariants.{Memory, BadSyntax, NoCursor, NoSuchQuery, MomentBack}
+use Rattle.hippo_report.specs.declared.refusal.Refusal.TheVariants.{Memory, BadSyntax, NoCursor, NoSuchQuery, MomentBack, JobLimit, NoJob}
 use Rattle.hippo_report.specs.Refusals.{refusal_line}
+use Rattle.hippo_audit_job.specs.Jobs.{OpenAudit}
 use Rattle.hippo_world.specs.declared.cursors.Cursor.{Cursor as HeldCursor}
 use Rattle.hippo_world.specs.declared.sessions.Session.{Session}
-use Rattle.hippo_world.specs.Worlds.{World, at_number}
+use Rattle.hippo_world.specs.Worlds.{World, at_number, free_number}
 use Rattle.hippo_lines.specs.Forms.{logs_in, logs_out, fetches, closes, steps, drops, unwatches, loads}
 use Rattle.hippo_commands.specs.Commands.{Command, nothing, wrong, ask, state, who_commands, takes_memory}
 use Rattle.hippo_commands.specs.Commands as commands
@@ -33,8 +36,9 @@ use Rattle.hippo_engine.specs.declared.asking.Handing.TheVariants.{Rows, Records
 use Rattle.hippo_engine.specs.Deeds.{Deed, Question}
 use Rattle.hippo_engine.specs.Deeds as deeds
 use Rattle.hippo_engine.specs.Checks.{Checked, ◌>>=◌, refused_if, by_console, open_session, may_log_in, meant, act_made, has_room, question_at}
-use Rattle.hippo_engine.specs.Judging.{judged, judged_login, judged_fetch, judged_close, judged_wanted, judged_change, insert_of, judged_load, text_between, question_in, delivery_for, deed_for, judged_question, audit_in}
-use Rattle.hippo_engine.specs.Effects.{only_reply, carried_out, effect_of, IsShort, IsEffect}
+use Rattle.hippo_engine.specs.Judging.{judged, judged_login, judged_fetch, judged_close, judged_wanted, judged_change, insert_of, judged_load, text_between, question_in, delivery_for, deed_for, judged_question, audit_in, judged_begin, judged_drop}
+use Rattle.hippo_engine.specs.Effects.{only_reply, carried_out, effect_of, IsShort, IsEffect, may_do_nothing}
+use Rattle.hippo_engine.specs.Ledgers.{steps_job}
 
 -- a judgement is no step of a job
 abbrev Stepless : Checked Deed → Type 0
@@ -101,35 +105,45 @@ close world number at =
     check {A = Session} (open_session world number) (λ session. ok_or (at_number session.cursors at) (NoCursor at) >>= λ cursor. Ok (deeds.close_cursor number session at))
     (λ session. check {A = HeldCursor} (ok_or (at_number session.cursors at) (NoCursor at)) (λ cursor. Ok (deeds.close_cursor number session at)) (λ cursor. tt))
 
--- no command that is carried out is a step of a job
-stepless : (history : History) (world : World) (command : Command) → Stepless (judged history world command)
-stepless history world nothing = tt
-stepless history world (wrong who refusal) = tt
-stepless history world (commands.set_clock moment) =
+begun : (history : History) (world : World) (number : ℕ) (written : RawAudit) → Stepless (judged_begin history world number written)
+begun history world number written =
+    check {A = Audit} (audit_in history number written) (λ audit. ok_or (free_number world.jobs) JobLimit >>= λ free. Ok (deeds.begin_audit free audit))
+    (λ audit. check {A = ℕ} (ok_or (free_number world.jobs) JobLimit) (λ free. Ok (deeds.begin_audit free audit)) (λ free. tt))
+
+dropped : (world : World) (number at : ℕ) → Stepless (judged_drop world number at)
+dropped world number at =
+    check {A = Unit {0}} (by_console number) (λ console. ok_or (at_number world.jobs at) (NoJob at) >>= λ job. Ok (deeds.drop_job at))
+    (λ console. check {A = OpenAudit} (ok_or (at_number world.jobs at) (NoJob at)) (λ job. Ok (deeds.drop_job at)) (λ job. tt))
+
+-- no other command that is carried out is a step of a job
+stepless : (history : History) (world : World) (command : Command) → steps_job command ≡ false → Stepless (judged history world command)
+stepless history world nothing other = tt
+stepless history world (wrong who refusal) other = tt
+stepless history world (commands.set_clock moment) other =
     check {A = Unit {0}} (refused_if (int_lt moment world.clock) (MomentBack world.clock)) (λ later. Ok (deeds.set_clock moment)) (λ later. tt)
-stepless history world (ask number (logs_in user purpose recipient)) =
+stepless history world (ask number (logs_in user purpose recipient)) other =
     login history world number user (record { purpose = purpose; recipient = recipient })
-stepless history world (ask number logs_out) = check {A = Session} (open_session world number) (λ session. Ok (deeds.log_out number)) (λ session. tt)
-stepless history world (ask number (fetches cursor count)) = fetch world number cursor count
-stepless history world (ask number (closes cursor)) = close world number cursor
-stepless history world (ask number (steps job count)) = tt
-stepless history world (ask number (drops job)) = tt
-stepless history world (ask number (unwatches watch)) = tt
-stepless history world (ask number (loads table text)) = load history world number table text
-stepless history world (state number (stmt.Select written start end) text) =
+stepless history world (ask number logs_out) other = check {A = Session} (open_session world number) (λ session. Ok (deeds.log_out number)) (λ session. tt)
+stepless history world (ask number (fetches cursor count)) other = fetch world number cursor count
+stepless history world (ask number (closes cursor)) other = close world number cursor
+stepless history world (ask number (steps job count)) other = absurd (false≢true (sym other))
+stepless history world (ask number (drops job)) other = dropped world number job
+stepless history world (ask number (unwatches watch)) other = tt
+stepless history world (ask number (loads table text)) other = load history world number table text
+stepless history world (state number (stmt.Select written start end) text) other =
     question history world Rows number written (text_between text start end)
-stepless history world (state number (stmt.Ask written start end) text) =
+stepless history world (state number (stmt.Ask written start end) text) other =
     question history world Cursor number written (text_between text start end)
-stepless history world (state number (stmt.Extract written start end) text) =
+stepless history world (state number (stmt.Extract written start end) text) other =
     question history world Records number written (text_between text start end)
-stepless history world (state number (stmt.Explain question) text) =
+stepless history world (state number (stmt.Explain question) text) other =
     check {A = Unit {0}} (by_console number) (λ console. ok_or (question_at history question) (NoSuchQuery question) >>= λ entry. Ok (deeds.explain entry))
     (λ console. check {A = Entry} (ok_or (question_at history question) (NoSuchQuery question)) (λ entry. Ok (deeds.explain entry)) (λ entry. tt))
-stepless history world (state number (stmt.Audit written) text) =
+stepless history world (state number (stmt.Audit written) text) other =
     check {A = Audit} (audit_in history number written) (λ audit. Ok (deeds.audit audit)) (λ audit. tt)
-stepless history world (state number (stmt.BeginAudit audit) text) = tt
-stepless history world (state number (stmt.Watch audit) text) = tt
-stepless history world (state number statement text) = change history world number statement
+stepless history world (state number (stmt.BeginAudit audit) text) other = begun history world number audit
+stepless history world (state number (stmt.Watch audit) text) other = tt
+stepless history world (state number statement text) other = change history world number statement
 
 short_of : (history : History) (world : World) (reply : Txt) (judgement : Checked Deed) → Stepless judgement → IsShort history world reply judgement (only_reply world reply)
 short_of history world reply (Ok (deeds.answer question)) none = record { said = refl; kept = inl refl; same = refl }
@@ -138,11 +152,27 @@ short_of history world reply (Ok (deeds.extract question)) none = record { said 
 short_of history world reply (Ok (deeds.step_job number job count)) none = absurd none
 short_of history world reply judgement none = refl
 
--- a command that takes memory may be answered by want of it, and nothing changes
-pub short : (history : History) (world : World) (command : Command) → takes_memory command ≡ true
+-- what may do nothing takes memory, and is no step
+pub takes_some : (command : Command) → may_do_nothing command ≡ true → (takes_memory command ≡ true) × (steps_job command ≡ false)
+takes_some (ask session (steps job count)) takes = absurd (false≢true takes)
+takes_some (ask session (logs_in user purpose recipient)) takes = (takes, refl)
+takes_some (ask session logs_out) takes = (takes, refl)
+takes_some (ask session (fetches cursor count)) takes = (takes, refl)
+takes_some (ask session (closes cursor)) takes = (takes, refl)
+takes_some (ask session (drops job)) takes = (takes, refl)
+takes_some (ask session (unwatches watch)) takes = (takes, refl)
+takes_some (ask session (loads table text)) takes = (takes, refl)
+takes_some nothing takes = (takes, refl)
+takes_some (wrong who refusal) takes = (takes, refl)
+takes_some (commands.set_clock moment) takes = (takes, refl)
+takes_some (state session statement text) takes = (takes, refl)
+
+-- a command that takes memory, and is no step, may be answered by want of it, and nothing changes
+pub short : (history : History) (world : World) (command : Command) → may_do_nothing command ≡ true
     → IsEffect history world command (only_reply world (refusal_line (who_commands command) Memory))
 short history world command takes =
-    inr (takes, short_of history world (refusal_line (who_commands command) Memory) (judged history world command) (stepless history world command))
+    let both = takes_some command takes in
+    inr (both.0, short_of history world (refusal_line (who_commands command) Memory) (judged history world command) (stepless history world command both.1))
 
 -- a command that is refused is answered by its refusal, and nothing changes
 pub refused : (history : History) (world : World) (command : Command) (refusal : Refusal) → judged history world command ≡ Err refusal

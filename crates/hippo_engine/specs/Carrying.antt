@@ -19,29 +19,28 @@ use Rattle.hippo_report.specs.declared.refusal.Refusal.{Refusal}
 use Rattle.hippo_report.specs.declared.refusal.Refusal.TheVariants.{NoSuchQuery}
 use Rattle.hippo_report.specs.Refusals.{refusal_line}
 use Rattle.hippo_world.specs.declared.worlds.World.{World as HeldWorld}
-use Rattle.hippo_world.specs.Holding.{world_of}
+use Rattle.hippo_values.specs.Limits.{watch_limit}
+use Rattle.hippo_world.specs.Holding.{world_of, KeepsAudits, JobsFit, WatchesFit, taken_of}
+use Rattle.hippo_world.specs.Worlds.{none_held}
 use Rattle.hippo_commands.specs.Commands.{Command, wrong}
 use Rattle.hippo_engine.specs.declared.engine.Engine.{Engine}
 use Rattle.hippo_engine.specs.declared.faults.EngineFault.{EngineFault}
 use Rattle.hippo_engine.specs.declared.faults.EngineFault.TheVariants.{Keeper, Write, Damaged}
 use Rattle.hippo_engine.specs.Judging.{judged}
 use Rattle.hippo_engine.specs.Effects.{Effect, only_reply, effect_of, IsEffect}
-use Rattle.hippo_engine.specs.Ledgers.{reads_kept, taken_of, Tallies}
+use Rattle.hippo_engine.specs.Ledgers.{reads_kept, Tallies}
 
--- what the open jobs hold is that of a history: no job is built yet
-abbrev pub JobsFit : History → HeldWorld → Type 0
-JobsFit history held = Unit {0}
-
--- what the watches hold is that of a history: no watch is built yet
-abbrev pub WatchesFit : History → HeldWorld → Type 0
-WatchesFit history held = Unit {0}
+-- what the watches hold is that of a history: no watch is set yet
+pub record WatchesStand (history : History) (held : HeldWorld) : Type 0 where
+  pub fit : WatchesFit history held
+  pub none : held.watches ≡ none_held watch_limit
 
 -- a keeper keeps a history, and an engine holds what it says
 pub record Holds (history : History) (engine : Engine) (keeper : KeeperState) : Type 0 where
   pub forms : map stored history ≡ keeper.kept
   pub stands : StandsFor engine.state history
   pub jobs : JobsFit history engine.world
-  pub watches : WatchesFit history engine.world
+  pub watches : WatchesStand history engine.world
 
 -- what carrying out asks of an engine and its keeper: there is a history for which the state stands, the keeper is
 -- started and neither spent nor closed, and where it tells what it keeps, both hold a history
@@ -84,15 +83,22 @@ abbrev pub shown : Engine → Effect
 shown engine = only_reply (world_of engine.world) engine.reply
 
 -- a command that neither adds an entry nor reads what is kept has its effect, whatever history the state stands for;
--- jobs and watches that fitted it still do, and no step is taken
+-- jobs and watches are the same
 pub record IsQuiet (command : Command) (old new : Engine) : Type 0 where
+  pub same : new.state ≡ old.state
+  pub effect : (history : History) → StandsFor old.state history
+      → IsEffect history (world_of old.world) command (shown new)
+  pub audits : KeepsAudits old.world new.world
+
+-- or jobs and watches that fitted the history still do, and no step is taken
+pub record AddsNothing (command : Command) (old new : Engine) : Type 0 where
   pub same : new.state ≡ old.state
   pub effect : (history : History) → StandsFor old.state history
       → IsEffect history (world_of old.world) command (shown new)
   pub jobs : (history : History) → StandsFor old.state history → JobsFit history old.world
       → JobsFit history new.world
-  pub watches : (history : History) → StandsFor old.state history → WatchesFit history old.world
-      → WatchesFit history new.world
+  pub watches : (history : History) → StandsFor old.state history → WatchesStand history old.world
+      → WatchesStand history new.world
   pub counts : (versions steps : ℕ) → Tallies command versions steps steps (taken_of old.world) (taken_of new.world)
 
 -- a command has its effect after a history: the engine shows the reply and the world, it and its keeper hold the

@@ -14,12 +14,12 @@ use Rattle.hippo_report.specs.declared.refusal.Refusal.TheVariants.{BadSyntax}
 use Rattle.hippo_report.specs.Notices.{number_line}
 use Rattle.hippo_world.specs.Worlds.{World}
 use Rattle.hippo_world.specs.Holding.{world_of}
-use Rattle.hippo_commands.specs.Commands.{Command, who_commands, takes_memory}
+use Rattle.hippo_commands.specs.Commands.{Command, who_commands}
 use Rattle.hippo_engine.specs.declared.engine.Engine.{Engine}
 use Rattle.hippo_engine.specs.Checks.{Checked, Refuses, ◌>>=◌, meant, has_room}
 use Rattle.hippo_engine.specs.Deeds.{Deed}
 use Rattle.hippo_engine.specs.Deeds as deeds
-use Rattle.hippo_engine.specs.Effects.{Effect, next_entry, effect_of}
+use Rattle.hippo_engine.specs.Effects.{Effect, next_entry, effect_of, may_do_nothing}
 use Rattle.hippo_engine.specs.Judging.{judged}
 
 -- what a statement asks for, by names and types
@@ -48,13 +48,13 @@ changed world entry = record { reply = number_line 0 (codes "ok") entry.seq; add
 -- a command of the console adds an entry by the rules, whatever history the state stands for
 pub record Changes (command : Command) (entry : Entry) (engine : Engine) : Type 0 where
   pub who : who_commands command ≡ Some 0
-  pub memory : takes_memory command ≡ true
+  pub memory : may_do_nothing command ≡ true
   pub adds : (history : History) → StandsFor engine.state history
       → effect_of history (world_of engine.world) command ≡ changed (world_of engine.world) entry
 
 -- a session's or the console's command is refused, whatever history the state stands for
 pub record IsRefused (command : Command) (session : ℕ) (refusal : Refusal) (engine : Engine) : Type 0 where
   pub who : who_commands command ≡ Some session
-  pub memory : takes_memory command ≡ true
+  pub memory : may_do_nothing command ≡ true
   pub refused : (history : History) → StandsFor engine.state history
       → Refuses (judged history (world_of engine.world) command) refusal

@@ -11,7 +11,7 @@ use Rattle.hippo_model.specs.declared.query.Query.{Query}
 use Rattle.hippo_values.specs.Texts.{Txt}
 use Rattle.hippo_world.specs.declared.cursors.Cursor.{Cursor}
 use Rattle.hippo_world.specs.declared.sessions.Session.{Session}
-use Rattle.hippo_world.specs.Worlds.{Job}
+use Rattle.hippo_audit_job.specs.Jobs.{OpenAudit}
 
 -- a question of a session: its text, and what that means
 pub record Question : Type 0 where
@@ -34,7 +34,7 @@ pub data Deed : Type 0 where
   hand_out : ℕ → Session → ℕ → Cursor → ℕ → Deed
   close_cursor : ℕ → Session → ℕ → Deed
   -- of the job at a number, so many entry numbers more
-  step_job : ℕ → Job → ℕ → Deed
+  step_job : ℕ → OpenAudit → ℕ → Deed
   drop_job : ℕ → Deed
   end_watch : ℕ → Deed
   change : Act → Deed

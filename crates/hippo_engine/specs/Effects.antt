@@ -1,5 +1,5 @@
 -- What is done for a line: its reply, the entries that it adds, and the world after it.
-use Rattle.std.specs.Prelude.{◌≡◌, ◌⊎◌, ◌≤◌, ℕ, ◌+◌, min, true, nat_lt, List, [], ◌∷◌, ◌++◌, flat_map, length, Option, Some, None, Ok, Err, if◌then◌else◌, codes, decimal}
+use Rattle.std.specs.Prelude.{◌≡◌, ◌⊎◌, ◌≤◌, ℕ, ◌+◌, Bool, true, false, nat_lt, List, [], ◌∷◌, ◌++◌, flat_map, length, Option, Some, None, Ok, Err, if◌then◌else◌, codes, decimal}
 use Rattle.std.specs.List.{enumerate_from}
 use Rattle.std.specs.Option.{option_map_or}
 use Rattle.hippo_values.specs.Texts.{Txt}
@@ -22,8 +22,10 @@ use Rattle.hippo_report.specs.Notices.{done_line, number_line}
 use Rattle.hippo_report.specs.Refusals.{refusal_line}
 use Rattle.hippo_world.specs.declared.cursors.Cursor.{Cursor}
 use Rattle.hippo_world.specs.declared.sessions.Session.{Session}
-use Rattle.hippo_world.specs.Worlds.{World, Job, with_at, with_session, with_cursor, new_session, new_cursor, rows_next, moved_on}
-use Rattle.hippo_commands.specs.Commands.{Command, who_commands, takes_memory}
+use Rattle.hippo_audit_job.specs.Jobs.{OpenAudit, step_end}
+use Rattle.hippo_world.specs.Worlds.{World, with_at, with_session, with_cursor, new_session, new_cursor, rows_next, moved_on}
+use Rattle.hippo_lines.specs.Forms.{steps}
+use Rattle.hippo_commands.specs.Commands.{Command, ask, who_commands, takes_memory}
 use Rattle.hippo_engine.specs.Deeds.{Deed, Question, asked_by}
 use Rattle.hippo_engine.specs.Deeds as deeds
 use Rattle.hippo_engine.specs.Checks.{Checked}
@@ -123,31 +125,27 @@ abbrev pub audited : History → World → Audit → Effect
 audited history world audit =
     only_reply world (listed 0 (flag_line world.format) (flags_between meaning history audit 0 (length history)))
 
--- the last number of a step
-abbrev pub step_end : Job → ℕ → ℕ
-step_end job count = min (job.place + count) job.length
-
 -- a job that has looked up to a number, with the flags that wait
-abbrev pub looked_upto : Job → ℕ → List Flag → Job
+abbrev pub looked_upto : OpenAudit → ℕ → List Flag → OpenAudit
 looked_upto job upto waiting = record job { place = upto; waiting = waiting }
 
 -- how far a job is, while numbers are left; else how many flags it has
-abbrev pub step_line : History → Job → ℕ → Txt
+abbrev pub step_line : History → OpenAudit → ℕ → Txt
 step_line history job upto =
     if nat_lt upto job.length then number_line 0 (codes "part") upto
     else number_line 0 (codes "end") (length (flags_between meaning history job.audit 0 job.length))
 
 -- the flags that a step writes: those that wait, and those that it finds
-abbrev pub step_flags : History → Job → ℕ → List Flag
+abbrev pub step_flags : History → OpenAudit → ℕ → List Flag
 step_flags history job upto = job.waiting ++ flags_between meaning history job.audit job.place upto
 
-abbrev pub with_job : World → ℕ → Option Job → World
+abbrev pub with_job : World → ℕ → Option OpenAudit → World
 with_job world number job = record world { jobs = with_at world.jobs number job }
 
 abbrev pub with_watch : World → ℕ → Option Audit → World
 with_watch world number audit = record world { watches = with_at world.watches number audit }
 
-abbrev pub stepped : History → World → ℕ → Job → ℕ → Effect
+abbrev pub stepped : History → World → ℕ → OpenAudit → ℕ → Effect
 stepped history world number job count =
     let upto : ℕ = step_end job count in
     record {
@@ -167,7 +165,7 @@ explained history world entry =
     (if nat_lt row_limit (length cells) then refusal_line (Some 0) TooManyRows else listed 0 denial_line cells)
 
 -- a job at its beginning
-abbrev pub new_job : History → Audit → Job
+abbrev pub new_job : History → Audit → OpenAudit
 new_job history audit = record { audit = audit; length = length history; place = 0; waiting = [] }
 
 -- what is done
@@ -215,7 +213,7 @@ pub record IsShortAnswer (history : History) (world : World) (reply : Txt) (ques
   pub same : effect.world ≡ world
 
 -- a reply that says that memory was short, and the job stands at some number up to the step's end
-pub record IsShortStep (history : History) (world : World) (reply : Txt) (number : ℕ) (job : Job) (count : ℕ)
+pub record IsShortStep (history : History) (world : World) (reply : Txt) (number : ℕ) (job : OpenAudit) (count : ℕ)
     (effect : Effect) : Type 0 where
   pub upto : ℕ
   pub from : job.place ≤ upto
@@ -231,6 +229,12 @@ IsShort history world reply (Ok (deeds.extract question)) effect = IsShortAnswer
 IsShort history world reply (Ok (deeds.step_job number job count)) effect =
     IsShortStep history world reply number job count effect
 IsShort history world reply judgement effect = effect ≡ only_reply world reply
+
+-- a command that takes memory and may be answered by want of it so that nothing changes, in any world: not a step, which
+-- leaves its job at some number up to the step's end
+abbrev pub may_do_nothing : Command → Bool
+may_do_nothing (ask session (steps job count)) = false
+may_do_nothing command = takes_memory command
 
 -- a line may be answered by want of memory, unless it takes none
 abbrev pub IsMemoryEffect : History → World → Command → Effect → Type 0

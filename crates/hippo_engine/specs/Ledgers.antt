@@ -3,7 +3,6 @@ use Rattle.std.specs.Prelude.{◌≡◌, ◌≤◌, ℕ, ◌+◌, ◌*◌, Bool,
 use Rattle.hippo_model.specs.declared.statement.Stmt.TheVariants as stmt
 use Rattle.hippo_lines.specs.Forms as requests
 use Rattle.hippo_commands.specs.Commands.{Command, ask, state}
-use Rattle.hippo_world.specs.declared.worlds.World.{World as HeldWorld}
 
 -- a statement that looks back over the history at once: an audit, or why cells of an answer were denied
 abbrev pub looks_back : Command → Bool
@@ -33,10 +32,6 @@ reads_kept command = looks_back command || steps_job command
 -- how many audits a line asks for, each of which may read all that is kept once
 abbrev pub audits_of : Command → ℕ
 audits_of command = if looks_back command || begins_job command then 1 else 0
-
--- how many steps each open job has taken, in the order of their numbers: no job is built yet
-abbrev pub taken_of : HeldWorld → List ℕ
-taken_of held = []
 
 -- a line over a history of so many versions takes no step; or at most one for each version, at once; or a job begins
 -- that has taken none, takes its next ones, at most one for each version in all, or is dropped

@@ -8,5 +8,6 @@ pub mod Changing
 pub mod Asking
 pub mod Explaining
 pub mod Auditing
+pub mod Jobs
 pub mod Runs
 pub mod EffectLaws

@@ -101,7 +101,8 @@ fn looked_over<P: Keeper, L: Ledger>(
     }
 }
 
-fn append_flags(
+/// A line for each flag, behind what is there.
+pub(crate) fn append_flags(
     alloc: Global,
     format: Format,
     flags: &[Flag],

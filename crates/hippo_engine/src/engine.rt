@@ -134,7 +134,11 @@ impl Engine {
             }
             Stmt::Explain(number) => self.explain(alloc, keeper, session, number, steps),
             Stmt::Audit(written) => self.audit(alloc, keeper, session, written, steps),
-            Stmt::BeginAudit(_) | Stmt::Watch(_) => {
+            Stmt::BeginAudit(written) => {
+                self.begin_audit(alloc, session, written);
+                Ok(())
+            }
+            Stmt::Watch(_) => {
                 self.refuse_unbuilt(session, statement);
                 Ok(())
             }
@@ -161,7 +165,7 @@ impl Engine {
             Command::Wrong { who, refusal } => self.refuse_whatever(who, &refusal),
             Command::SetClock { moment } => self.set_clock(moment),
             Command::Ask { session, request } => {
-                return self.ask(alloc, keeper, session, request);
+                return self.ask(alloc, keeper, session, request, steps);
             }
             Command::State {
                 session,

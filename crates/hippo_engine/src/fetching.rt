@@ -10,16 +10,18 @@ use hippo_report::{answer_lines, number_line};
 use hippo_values::Memory;
 use hippo_world::Cursor;
 
-fn append_part(session: u8, given: usize, out: &mut Reply) -> Result<(), Memory>
+/// Says how much is done, while there is more.
+pub(crate) fn append_part(session: u8, given: u64, out: &mut Reply) -> Result<(), Memory>
     ensures { OnOk result (out.new ≡ out.old ++ number_line session (codes "part") given) }
 {
-    number_line(session, "part", given as u64, out)
+    number_line(session, "part", given, out)
 }
 
-fn append_end(session: u8, total: usize, out: &mut Reply) -> Result<(), Memory>
+/// Says how much there was.
+pub(crate) fn append_end(session: u8, total: u64, out: &mut Reply) -> Result<(), Memory>
     ensures { OnOk result (out.new ≡ out.old ++ number_line session (codes "end") total) }
 {
-    number_line(session, "end", total as u64, out)
+    number_line(session, "end", total, out)
 }
 
 // How many rows were handed out, while there are more; else how many there are.
@@ -29,9 +31,9 @@ fn append_handed(session: u8, given: usize, total: usize, out: &mut Reply) -> Re
         else number_line session (codes "end") total)) }
 {
     if given < total {
-        append_part(session, given, out)
+        append_part(session, given as u64, out)
     } else {
-        append_end(session, total, out)
+        append_end(session, total as u64, out)
     }
 }
 

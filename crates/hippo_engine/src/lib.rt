@@ -8,6 +8,7 @@ mod engine;
 mod explaining;
 mod faults;
 mod fetching;
+mod jobs;
 pub mod laws;
 mod loading;
 mod plain;

@@ -8,7 +8,7 @@ ghost use Rattle.hippo_report.specs.Cells.{answer_line};
 ghost use Rattle.hippo_eval.specs.Answering.{IsAnswered};
 ghost use Rattle.hippo_typing.specs.Meanings.{meaning};
 ghost use Rattle.hippo_replay.specs.Standing.{StandsFor, IsNext, takes_no_memory};
-ghost use Rattle.hippo_world.specs.Holding.{world_of};
+ghost use Rattle.hippo_world.specs.Holding.{world_of, KeepsAudits};
 ghost use Rattle.hippo_commands.specs.Commands.{state};
 ghost use Rattle.hippo_engine.specs.declared.faults.EngineFault.TheVariants.{Write as WriteFailed};
 ghost use Rattle.hippo_engine.specs.Carrying.{AtWork, IsBacked, Carries};
@@ -211,9 +211,10 @@ fn hand_out(
     world: &mut World,
     reply: &mut Reply,
 )
-    ensures { (rows : List ShownRow) → IsAnswered row_limit rows answer
+    ensures said { (rows : List ShownRow) → IsAnswered row_limit rows answer
         → IsHandedOut session delivery rows reply.new (world_of world.old) (world_of world.new)
         ⊎ IsShort session reply.new (world_of world.old) (world_of world.new) }
+    ensures audits { KeepsAudits world.old world.new }
 {
     match answer {
         Ok(rows) => match delivery {
@@ -245,6 +246,7 @@ fn reply_to(
     reply: &mut Reply,
 ) -> Result<(), EngineFault>
     ensures said { Replies session delivery kept result reply.new (world_of world.old) (world_of world.new) }
+    ensures audits { KeepsAudits world.old world.new }
     ensures unwritten { result ≢ Bad WriteFailed }
 {
     match kept {

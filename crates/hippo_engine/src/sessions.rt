@@ -11,11 +11,12 @@ use crate::faults::EngineFault;
 use crate::fetching::print_next;
 use crate::replies::{refuse, refuse_for_memory, refuse_moment, say_done};
 use crate::session_checks::{check_login, open_cursor, open_session};
-use hippo_keeper::Keeper;
+use hippo_keeper::{Keeper, Steps};
 use hippo_lines::{RequestForm, WrittenName};
 use hippo_model::Pair;
 use hippo_values::{Memory, Moment, Name};
 use std::alloc::Global;
+use std::sync::ledger::Ledger;
 
 fn is_earlier(moment: &Moment, clock: &Moment) -> bool
     ensures { result ≡ int_lt moment.now clock.now }
@@ -118,17 +119,19 @@ impl Engine {
         }
     }
 
-    /// Does what a short word asks for in a session or at the console. Answers `Keeper` only where the keeper failed.
-    pub(crate) fn ask<P: Keeper>(
+    /// Does what a short word asks for in a session or at the console. Answers `Keeper` only where the keeper failed, and
+    /// `Damaged` only where it does not tell what it keeps. Each version that is read counts as a step.
+    pub(crate) fn ask<P: Keeper, L: Ledger>(
         &mut self,
         alloc: Global,
         keeper: &mut P,
         session: u8,
         asked: RequestForm<'_>,
+        steps: &mut Steps<L>,
     ) -> Result<(), EngineFault>
         requires at_work { AtWork self.old (P.state keeper.old) }
-        ensures carries { (steps : ℕ) → Carries (commands.ask session (request asked.entry)) result
-            self.old self.new (P.state keeper.old) (P.state keeper.new) steps steps }
+        ensures carries { Carries (commands.ask session (request asked.entry)) result self.old self.new
+            (P.state keeper.old) (P.state keeper.new) steps.old steps.new }
         ensures unwritten { result ≢ Err WriteFailed }
     {
         match asked {
@@ -140,8 +143,10 @@ impl Engine {
             RequestForm::Logout => self.log_out(session),
             RequestForm::Fetch { cursor, count } => self.fetch(session, cursor, count),
             RequestForm::Close { cursor } => self.close(session, cursor),
-            RequestForm::Step { .. } => self.refuse_unbuilt_request(session),
-            RequestForm::Drop { .. } => self.refuse_unbuilt_request(session),
+            RequestForm::Step { job, count } => {
+                return self.step_job(alloc, keeper, session, job, count, steps);
+            }
+            RequestForm::Drop { job } => self.drop_job(session, job),
             RequestForm::Unwatch { .. } => self.refuse_unbuilt_request(session),
             RequestForm::Load {
                 table,

@@ -14,14 +14,15 @@ use Rattle.hippo_model.specs.declared.entry.Entry.{Entry}
 use Rattle.hippo_model.specs.Versions.{is_version, versions}
 use Rattle.hippo_keeper.specs.Keeping.{KeeperState}
 use Rattle.hippo_world.specs.Worlds.{World}
-use Rattle.hippo_world.specs.Holding.{world_of}
+use Rattle.hippo_world.specs.Holding.{world_of, taken_of}
+use Rattle.hippo_world.proofs.AuditLemmas.{taken_of-opening}
 use Rattle.hippo_commands.specs.Commands.{Command, command_of}
 use Rattle.hippo_engine.specs.declared.engine.Engine.{Engine}
 use Rattle.hippo_engine.specs.declared.faults.EngineFault.{EngineFault}
 use Rattle.hippo_engine.specs.declared.faults.EngineFault.TheVariants.{Keeper, Damaged}
 use Rattle.hippo_engine.specs.Carrying.{Holds, is_carried, Carries, HasEffect, BreaksOff}
 use Rattle.hippo_engine.specs.Effects.{Effect, IsEffect, effect_of}
-use Rattle.hippo_engine.specs.Ledgers.{reads_kept, audits_of, taken_of, Tallies, RunSum}
+use Rattle.hippo_engine.specs.Ledgers.{reads_kept, audits_of, Tallies, RunSum}
 use Rattle.hippo_engine.specs.Runs.{IsRun, IsAmple, audits_in, replies, history_after, world_after}
 use Rattle.hippo_engine.proofs.LedgerLemmas.{RunSum-start, RunSum-line, RunSum-end}
 use Rattle.hippo_serve.specs.Keeping.{KeepsHistory}
@@ -108,7 +109,9 @@ served_none history reader left written engine keeper start steps handing holds 
   world = world;
   holds = subst (λ (h : History). Holds h engine keeper) (sym (append-nil history)) holds;
   kept = subst (λ (h : History). KeepsHistory h keeper) (sym (append-nil history)) kept;
-  sum = λ ample. subst (λ (h : History). RunSum start steps (versions h) 0 []) (sym (append-nil history)) (RunSum-start start steps (versions history) counted);
+  sum = λ ample.
+      subst (λ (taken : List ℕ). RunSum start steps (versions (history ++ [])) 0 taken) (sym (taken_of-opening engine.world _ _ _ world))
+      (subst (λ (h : History). RunSum start steps (versions h) 0 []) (sym (append-nil history)) (RunSum-start start steps (versions history) counted));
   written = λ bytes is. is ∙ ap Some (sym (append-nil bytes));
 }
 

@@ -1,5 +1,6 @@
 -- What a call with a line makes of a run.
 use Rattle.std.proofs.Common.{◌≡◌, ◌≢◌, ℕ, ◌≤◌, ◌++◌, ◌∷◌, [], true, false, inl, inr, Option, Some, None, IfNone, MatchOption, Result, Ok, Err, refl, sym, subst, ◌∙◌}
+use Rattle.hippo_values.specs.declared.moments.Moment.{Moment}
 use Rattle.hippo_values.specs.Texts.{Txt}
 use Rattle.hippo_io.specs.Lines.{LineText, lines}
 use Rattle.hippo_io.specs.Position.{Position}
@@ -7,16 +8,20 @@ use Rattle.hippo_io.specs.HandingOut.{HasHandedOut, input_limit}
 use Rattle.hippo_io.specs.Told.{Appends, AppendsFront}
 use Rattle.hippo_model.specs.Terms.{History}
 use Rattle.hippo_replay.specs.declared.state.State.{State}
-use Rattle.hippo_replay.specs.Standing.{StandsFor, IsSound}
+use Rattle.hippo_replay.specs.Standing.{IsSound}
 use Rattle.hippo_keeper.specs.declared.faults.KeeperFault.{KeeperFault as Fault}
 use Rattle.hippo_keeper.specs.Keeping.{KeeperState, IsReady, IsAfterCall}
 use Rattle.hippo_replay.proofs.KeeperLemmas.{IsAfterCall-none, IsReady-after}
 use Rattle.hippo_replay.proofs.Results.{well}
+use Rattle.hippo_report.specs.declared.format.Format.{Format}
+use Rattle.hippo_world.specs.Holding.{world_of}
+use Rattle.hippo_world.specs.Worlds.{opening}
 use Rattle.hippo_commands.specs.Commands.{Command, command_of, commanded}
 use Rattle.hippo_engine.specs.declared.engine.Engine.{Engine}
 use Rattle.hippo_engine.specs.declared.faults.EngineFault.{EngineFault}
 use Rattle.hippo_engine.specs.declared.faults.EngineFault.TheVariants.{Keeper, Write, Damaged as DamagedAt}
 use Rattle.hippo_engine.specs.Carrying.{AtWork, IsBacked, Carries}
+use Rattle.hippo_engine.proofs.CarryingLemmas.{Holds-opening}
 use Rattle.hippo_serve.specs.declared.endings.Ending.{Ending}
 use Rattle.hippo_serve.specs.declared.endings.Ending.TheVariants.{Served, Refused, KeeperFault, ReadFault, WriteFault, Damaged, NoMemory}
 use Rattle.hippo_serve.specs.Endings.{as_line_call}
@@ -29,13 +34,14 @@ some_line : (text : LineText) → Some text ≢ None
 some_line text e = cc
 
 -- an engine that begins with a state is at work where the keeper keeps what the state stands for
-pub AtWork-begun : (state : State) (engine : Engine) (keeper : KeeperState) → engine.state ≡ state → IsBacked state keeper → AtWork engine keeper
-AtWork-begun state engine keeper same backed = record {
+pub AtWork-begun : (state : State) (engine : Engine) (keeper : KeeperState) (clock : Moment) (limit : ℕ) (format : Format) → engine.state ≡ state
+    → world_of engine.world ≡ opening clock limit format → IsBacked state keeper → AtWork engine keeper
+AtWork-begun state engine keeper clock limit format same opens backed = record {
   sound = subst (λ (s : State). IsSound s) (sym same) backed.sound;
   ready = backed.ready;
   told = λ tells.
       let loaded = backed.told tells in
-      (loaded.history, record { forms = loaded.forms; stands = subst (λ (s : State). StandsFor s loaded.history) (sym same) loaded.stands; jobs = tt; watches = tt });
+      (loaded.history, Holds-opening loaded.history state engine keeper clock limit format same loaded.stands loaded.forms opens);
 }
 
 -- the keeper handed over what it did not keep, and that is said

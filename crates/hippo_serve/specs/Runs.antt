@@ -14,13 +14,13 @@ use Rattle.hippo_typing.specs.Meanings.{meaning}
 use Rattle.hippo_report.specs.declared.format.Format.TheVariants.{Text}
 use Rattle.hippo_replay.specs.Standing.{latest_moment}
 use Rattle.hippo_world.specs.Worlds.{World, opening}
-use Rattle.hippo_world.specs.Holding.{world_of}
+use Rattle.hippo_world.specs.Holding.{world_of, taken_of}
 use Rattle.hippo_commands.specs.Commands.{Command, command_of}
 use Rattle.hippo_engine.specs.declared.engine.Engine.{Engine}
 use Rattle.hippo_engine.specs.declared.faults.EngineFault.TheVariants.{Keeper, Write, Damaged as DamagedAt}
 use Rattle.hippo_engine.specs.Carrying.{Holds, Carries}
 use Rattle.hippo_engine.specs.Effects.{Effect, effect_of}
-use Rattle.hippo_engine.specs.Ledgers.{reads_kept, taken_of, RunSum}
+use Rattle.hippo_engine.specs.Ledgers.{reads_kept, RunSum}
 use Rattle.hippo_engine.specs.Runs.{IsRun, IsAmple, audits_in, replies, history_after, world_after}
 use Rattle.hippo_serve.specs.declared.endings.Ending.{Ending}
 use Rattle.hippo_serve.specs.declared.endings.Ending.TheVariants.{Served, KeeperFault, ReadFault, WriteFault, Damaged, TooMuch}

@@ -1,3 +1,4 @@
 mod WorldsExamples
 pub mod NumberLemmas
 pub mod HeldLemmas
+pub mod AuditLemmas

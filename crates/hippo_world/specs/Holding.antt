@@ -1,7 +1,10 @@
--- What the code's world holds, as the record of definitions: audit jobs and watches are not built yet.
-use Rattle.hippo_values.specs.Limits.{job_limit, watch_limit}
+-- What the code's world holds, as the record of definitions, and beside it.
+use Rattle.std.specs.Prelude.{◌≡◌, ℕ, List, map, option_map}
+use Rattle.hippo_model.specs.Terms.{History}
+use Rattle.hippo_audit_job.specs.Jobs.{open_audit}
 use Rattle.hippo_world.specs.declared.worlds.World.{World as HeldWorld}
-use Rattle.hippo_world.specs.Worlds.{World, none_held}
+use Rattle.hippo_world.specs.Auditing.{AreLooking, AreWatching, all_handed}
+use Rattle.hippo_world.specs.Worlds.{World}
 
 abbrev pub world_of : HeldWorld → World
 world_of held = record {
@@ -9,6 +12,23 @@ world_of held = record {
   limit = held.limit;
   format = held.format;
   sessions = held.sessions;
-  jobs = none_held job_limit;
-  watches = none_held watch_limit;
+  jobs = map (option_map open_audit) held.jobs;
+  watches = held.watches;
 }
+
+-- the jobs and watches are the same
+pub record KeepsAudits (old new : HeldWorld) : Type 0 where
+  pub jobs : new.jobs ≡ old.jobs
+  pub watches : new.watches ≡ old.watches
+
+-- what the open jobs hold is that of a history
+abbrev pub JobsFit : History → HeldWorld → Type 0
+JobsFit history held = AreLooking history held.jobs
+
+-- what the watches hold is that of a history
+abbrev pub WatchesFit : History → HeldWorld → Type 0
+WatchesFit history held = AreWatching history held.watches
+
+-- how many steps each open job has taken, in the order of their numbers
+abbrev pub taken_of : HeldWorld → List ℕ
+taken_of held = all_handed held.jobs

@@ -1,2 +1,3 @@
 pub mod Worlds
+pub mod Auditing
 pub mod Holding

@@ -4,20 +4,13 @@ use Rattle.std.specs.Option.{option_flatten}
 use Rattle.hippo_values.specs.declared.moments.Moment.{Moment}
 use Rattle.hippo_values.specs.declared.names.Name.{Name}
 use Rattle.hippo_model.specs.declared.audit.Audit.{Audit}
-use Rattle.hippo_model.specs.declared.audit.Flag.{Flag}
 use Rattle.hippo_model.specs.declared.audit.Pair.{Pair}
 use Rattle.hippo_model.specs.Terms.{ShownRow}
 use Rattle.hippo_report.specs.declared.format.Format.{Format}
+use Rattle.hippo_audit_job.specs.Jobs.{OpenAudit}
 use Rattle.hippo_values.specs.Limits.{session_limit, cursor_limit, job_limit, watch_limit}
 use Rattle.hippo_world.specs.declared.cursors.Cursor.{Cursor}
 use Rattle.hippo_world.specs.declared.sessions.Session.{Session}
-
--- an audit job: its audit, the history's length at its beginning, the last number looked at, and flags not yet written
-pub record Job : Type 0 where
-  pub audit : Audit
-  pub length : ℕ
-  pub place : ℕ
-  pub waiting : List Flag
 
 -- sessions, jobs and watches stand by their numbers, the first being number 1
 pub record World : Type 0 where
@@ -26,7 +19,7 @@ pub record World : Type 0 where
   pub limit : ℕ
   pub format : Format
   pub sessions : List (Option Session)
-  pub jobs : List (Option Job)
+  pub jobs : List (Option OpenAudit)
   pub watches : List (Option Audit)
 
 -- what stands at a number, if anything does

@@ -3,24 +3,28 @@ ghost use Rattle.std.specs.Prelude.{◌≡◌, Some, None, option_copied, IfOk, 
 ghost use Rattle.hippo_world.specs.declared.cursors.Cursor.{Cursor as KeptCursor};
 ghost use Rattle.hippo_world.specs.declared.sessions.Session.{Session as KeptSession};
 ghost use Rattle.hippo_world.specs.Worlds.{at_number, session_at, with_session, with_cursor, new_session, new_cursor, moved_on, opening};
-ghost use Rattle.hippo_world.specs.Holding.{world_of};
+ghost use Rattle.hippo_world.specs.Holding.{world_of, KeepsAudits};
 
+use crate::audit_jobs::AuditJob;
 use crate::cursors::Cursor;
 use crate::numbered::Numbered;
 use crate::sessions::Session;
-use hippo_lines::SESSION_LIMIT;
+use crate::watches::Watch;
+use hippo_lines::{JOB_LIMIT, SESSION_LIMIT, WATCH_LIMIT};
 use hippo_model::{Answer, Pair};
 use hippo_report::Format;
 use hippo_values::{Memory, Moment, Name};
 use std::alloc::Global;
 
-/// The clock, how many entries the history may have, the format of flags, and the open sessions.
-#[derive(Debug, Drop)]
+/// The clock, how many entries the history may have, the format of flags, and the open sessions, audit jobs and watches.
+#[derive(Drop)]
 pub struct World {
     pub clock: Moment,
     pub limit: u32,
     pub format: Format,
     pub sessions: Numbered<Session>,
+    pub jobs: Numbered<AuditJob>,
+    pub watches: Numbered<Watch>,
 }
 
 impl World {
@@ -29,11 +33,15 @@ impl World {
         ensures { IfOk result (λ world. world_of world ≡ opening clock limit format) }
     {
         let sessions = Numbered::none(alloc, usize::from(SESSION_LIMIT))?;
+        let jobs = Numbered::none(alloc, usize::from(JOB_LIMIT))?;
+        let watches = Numbered::none(alloc, usize::from(WATCH_LIMIT))?;
         Ok(World {
             clock,
             limit,
             format,
             sessions,
+            jobs,
+            watches,
         })
     }
 
@@ -55,6 +63,7 @@ impl World {
         ensures ok { OnOk result (world_of self.new
             ≡ with_session (world_of self.old) number (Some (new_session user pair))) }
         ensures err { OnErr result (self.new ≡ self.old) }
+        ensures audits { KeepsAudits self.old self.new }
     {
         let session = Session::new(alloc, user, pair)?;
         self.sessions.put(usize::from(number), Some(session));
@@ -63,7 +72,8 @@ impl World {
 
     /// Closes the session with a number, and its cursors.
     pub fn log_out(&mut self, number: u8)
-        ensures { world_of self.new ≡ with_session (world_of self.old) number None }
+        ensures closed { world_of self.new ≡ with_session (world_of self.old) number None }
+        ensures audits { KeepsAudits self.old self.new }
     {
         self.sessions.put(usize::from(number), None);
     }
@@ -74,6 +84,7 @@ impl World {
         ensures open { (session : KeptSession) → session_at (world_of self.old) number ≡ Some session
             → world_of self.new ≡ with_session (world_of self.old) number (Some (with_cursor session cursor held)) }
         ensures closed { session_at (world_of self.old) number ≡ None → self.new ≡ self.old }
+        ensures audits { KeepsAudits self.old self.new }
     {
         if let Some(mut session) = self.sessions.take(usize::from(number)) {
             session.put_cursor(cursor, held);
@@ -87,6 +98,7 @@ impl World {
             → world_of self.new
             ≡ with_session (world_of self.old) number (Some (with_cursor session cursor (Some (new_cursor answer)))) }
         ensures closed { session_at (world_of self.old) number ≡ None → self.new ≡ self.old }
+        ensures audits { KeepsAudits self.old self.new }
     {
         self.put_cursor(number, cursor, Some(Cursor::new(answer)));
     }
@@ -96,6 +108,7 @@ impl World {
         ensures open { (session : KeptSession) → session_at (world_of self.old) number ≡ Some session
             → world_of self.new ≡ with_session (world_of self.old) number (Some (with_cursor session cursor None)) }
         ensures closed { session_at (world_of self.old) number ≡ None → self.new ≡ self.old }
+        ensures audits { KeepsAudits self.old self.new }
     {
         self.put_cursor(number, cursor, None);
     }
@@ -111,6 +124,7 @@ impl World {
         ensures missing { (session : KeptSession) → session_at (world_of self.old) number ≡ Some session
             → at_number session.cursors cursor ≡ None → self.new ≡ self.old }
         ensures closed { session_at (world_of self.old) number ≡ None → self.new ≡ self.old }
+        ensures audits { KeepsAudits self.old self.new }
     {
         if let Some(mut session) = self.sessions.take(usize::from(number)) {
             session.move_on(cursor, count);

@@ -1,44 +1,42 @@
 -- What a short word asks for is done: nothing is added but by a record that is loaded.
 use Rattle.std.proofs.Common.{refl}
-use Rattle.hippo_lines.specs.Forms.{logs_in, logs_out, fetches, closes, steps, drops, unwatches}
+use Rattle.hippo_lines.specs.Forms.{logs_in, logs_out, fetches, closes, drops, unwatches}
 use Rattle.hippo_commands.specs.Commands.{ask}
-use Rattle.hippo_engine.proofs.CarryingLemmas.{Carries-quiet}
+use Rattle.hippo_engine.proofs.CarryingLemmas.{Carries-quiet, Carries-nothing}
 use Rattle.hippo_engine.proofs.engine.Engine.ask.Goals as goal
 
 pub returns-in-Login-clause-carries : goal.returns-in-Login-clause-carries
-returns-in-Login-clause-carries g c = λ count.
+returns-in-Login-clause-carries g c =
     rw c.in-Login.is
-    (Carries-quiet (ask c.args.session (logs_in c.in-Login.user c.in-Login.purpose c.in-Login.recipient)) c.args.self.now c.log_in.new.self (g.P.Keeper.state c.args.keeper.now) count c.requires.at_work c.log_in.ensures)
+    (Carries-quiet (ask c.args.session (logs_in c.in-Login.user c.in-Login.purpose c.in-Login.recipient)) c.args.self.now c.log_in.new.self (g.P.Keeper.state c.args.keeper.now) c.args.steps.now c.requires.at_work c.log_in.ensures)
 
 pub returns-in-Logout-clause-carries : goal.returns-in-Logout-clause-carries
-returns-in-Logout-clause-carries g c = λ count.
+returns-in-Logout-clause-carries g c =
     rw c.in-Logout.is
-    (Carries-quiet (ask c.args.session logs_out) c.args.self.now c.log_out.new.self (g.P.Keeper.state c.args.keeper.now) count c.requires.at_work c.log_out.ensures)
+    (Carries-quiet (ask c.args.session logs_out) c.args.self.now c.log_out.new.self (g.P.Keeper.state c.args.keeper.now) c.args.steps.now c.requires.at_work c.log_out.ensures)
 
 pub returns-in-Fetch-clause-carries : goal.returns-in-Fetch-clause-carries
-returns-in-Fetch-clause-carries g c = λ count.
+returns-in-Fetch-clause-carries g c =
     rw c.in-Fetch.is
-    (Carries-quiet (ask c.args.session (fetches c.in-Fetch.cursor c.in-Fetch.count)) c.args.self.now c.fetch.new.self (g.P.Keeper.state c.args.keeper.now) count c.requires.at_work c.fetch.ensures)
+    (Carries-quiet (ask c.args.session (fetches c.in-Fetch.cursor c.in-Fetch.count)) c.args.self.now c.fetch.new.self (g.P.Keeper.state c.args.keeper.now) c.args.steps.now c.requires.at_work c.fetch.ensures)
 
 pub returns-in-Close-clause-carries : goal.returns-in-Close-clause-carries
-returns-in-Close-clause-carries g c = λ count.
+returns-in-Close-clause-carries g c =
     rw c.in-Close.is
-    (Carries-quiet (ask c.args.session (closes c.in-Close.cursor)) c.args.self.now c.close.new.self (g.P.Keeper.state c.args.keeper.now) count c.requires.at_work c.close.ensures)
+    (Carries-quiet (ask c.args.session (closes c.in-Close.cursor)) c.args.self.now c.close.new.self (g.P.Keeper.state c.args.keeper.now) c.args.steps.now c.requires.at_work c.close.ensures)
 
 pub returns-in-Step-clause-carries : goal.returns-in-Step-clause-carries
-returns-in-Step-clause-carries g c = λ count.
-    rw c.in-Step.is
-    (Carries-quiet (ask c.args.session (steps c.in-Step.job c.in-Step.count)) c.args.self.now c.refuse_unbuilt_request.new.self (g.P.Keeper.state c.args.keeper.now) count c.requires.at_work (c.refuse_unbuilt_request.ensures (steps c.in-Step.job c.in-Step.count) refl))
+returns-in-Step-clause-carries g c = rw c.in-Step.is c.step_job.ensures.carries
 
 pub returns-in-Drop-clause-carries : goal.returns-in-Drop-clause-carries
-returns-in-Drop-clause-carries g c = λ count.
+returns-in-Drop-clause-carries g c =
     rw c.in-Drop.is
-    (Carries-quiet (ask c.args.session (drops c.in-Drop.job)) c.args.self.now c.refuse_unbuilt_request-in-Drop.new.self (g.P.Keeper.state c.args.keeper.now) count c.requires.at_work (c.refuse_unbuilt_request-in-Drop.ensures (drops c.in-Drop.job) refl))
+    (Carries-nothing (ask c.args.session (drops c.in-Drop.job)) c.args.self.now c.drop_job.new.self (g.P.Keeper.state c.args.keeper.now) c.args.steps.now c.requires.at_work c.drop_job.ensures)
 
 pub returns-in-Unwatch-clause-carries : goal.returns-in-Unwatch-clause-carries
-returns-in-Unwatch-clause-carries g c = λ count.
+returns-in-Unwatch-clause-carries g c =
     rw c.in-Unwatch.is
-    (Carries-quiet (ask c.args.session (unwatches c.in-Unwatch.watch)) c.args.self.now c.refuse_unbuilt_request-in-Unwatch.new.self (g.P.Keeper.state c.args.keeper.now) count c.requires.at_work (c.refuse_unbuilt_request-in-Unwatch.ensures (unwatches c.in-Unwatch.watch) refl))
+    (Carries-quiet (ask c.args.session (unwatches c.in-Unwatch.watch)) c.args.self.now c.refuse_unbuilt_request.new.self (g.P.Keeper.state c.args.keeper.now) c.args.steps.now c.requires.at_work (c.refuse_unbuilt_request.ensures (unwatches c.in-Unwatch.watch) refl))
 
 pub returns-in-Load-clause-carries : goal.returns-in-Load-clause-carries
-returns-in-Load-clause-carries g c = λ count. rw c.in-Load.is (c.load.ensures.carries count)
+returns-in-Load-clause-carries g c = rw c.in-Load.is (c.load.ensures.carries c.args.steps.now)

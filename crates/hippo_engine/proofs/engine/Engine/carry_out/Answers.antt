@@ -14,4 +14,4 @@ returns-in-Wrong-clause-carries g c =
     c.refuse_whatever.ensures)
 
 pub returns-in-Ask-clause-carries : goal.returns-in-Ask-clause-carries
-returns-in-Ask-clause-carries g c = rw c.in-Ask.is (c.ask.ensures.carries c.args.steps.now)
+returns-in-Ask-clause-carries g c = rw c.in-Ask.is c.ask.ensures.carries

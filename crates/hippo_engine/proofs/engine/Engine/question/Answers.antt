@@ -3,7 +3,6 @@ use Rattle.std.proofs.Common.{refl}
 use Rattle.hippo_world.specs.Holding.{world_of}
 use Rattle.hippo_commands.specs.Commands.{state}
 use Rattle.hippo_engine.specs.Asking.{statement_asked}
-use Rattle.hippo_engine.specs.Ledgers.{none_taken}
 use Rattle.hippo_engine.proofs.CarryingLemmas.{IsBacked-of, Carries-quiet}
 use Rattle.hippo_engine.proofs.QuestionLemmas.{refused_effect, Carries-question}
 use Rattle.hippo_engine.proofs.engine.Engine.question.Goals as goal
@@ -16,7 +15,7 @@ pub returns-in-Ok-clause-carries : goal.returns-in-Ok-clause-carries
 returns-in-Ok-clause-carries g c = λ steps.
     Carries-question c.args.session (statement_asked c.args.handing c.args.select.now c.args.start c.args.end) c.args.text.now c.in-Ok.asking c.args.self.now
     (record { state = c.keep_and_answer-kept.new.state; world = c.reply_to.new.world; reply = c.reply_to.new.reply })
-    (g.P.Keeper.state c.args.keeper.now) (g.P.Keeper.state c.keep_and_answer-kept.new.keeper) steps c.requires.at_work.sound c.in-Ok.ensures.asker c.in-Ok.ensures.found
+    (g.P.Keeper.state c.args.keeper.now) (g.P.Keeper.state c.keep_and_answer-kept.new.keeper) steps c.requires.at_work.sound c.reply_to.ensures.audits c.in-Ok.ensures.asker c.in-Ok.ensures.found
     c.keep_and_answer-kept.result (c.keep_and_answer-kept.ensures.asks c.args.session) c.reply_to.result c.reply_to.ensures.said
 
 pub returns-in-Err-clause-carries : goal.returns-in-Err-clause-carries
@@ -28,7 +27,5 @@ returns-in-Err-clause-carries g c = λ steps.
     (record {
       same = refl;
       effect = λ history stands. refused_effect history (world_of c.args.self.now.world) command c.in-Err.refusal c.refuse.new.reply refl (c.in-Err.ensures.found history stands) c.refuse.ensures.said;
-      jobs = λ history stands fit. fit;
-      watches = λ history stands fit. fit;
-      counts = λ versions steps. none_taken refl refl;
+      audits = record { jobs = refl; watches = refl };
     })

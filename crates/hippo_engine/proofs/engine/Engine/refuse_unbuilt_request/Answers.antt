@@ -3,7 +3,6 @@ use Rattle.hippo_report.specs.declared.refusal.Refusal.TheVariants.{NotBuilt}
 use Rattle.hippo_world.specs.Holding.{world_of}
 use Rattle.hippo_commands.specs.Commands.{ask}
 use Rattle.hippo_engine.specs.Judging.{deed_of}
-use Rattle.hippo_engine.specs.Ledgers.{none_taken}
 use Rattle.hippo_engine.proofs.ShortLemmas.{refused}
 use Rattle.hippo_engine.proofs.engine.Engine.refuse_unbuilt_request.Goals as goal
 
@@ -14,7 +13,5 @@ returns c = λ request unbuilt. record {
       rw c.refuse_unbuilt.ensures
       (refused history (world_of c.args.self.now.world) (ask c.args.session request) NotBuilt
       (ap (λ (built : Bool). if built then deed_of history (world_of c.args.self.now.world) (ask c.args.session request) else Err NotBuilt) unbuilt));
-  jobs = λ history stands fit. fit;
-  watches = λ history stands fit. fit;
-  counts = λ versions steps. none_taken refl refl;
+  audits = record { jobs = refl; watches = refl };
 }

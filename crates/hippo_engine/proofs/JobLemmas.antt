@@ -1,0 +1,373 @@
+-- From what is done to the audit jobs that a run holds to what the lines do that begin, step and drop them.
+use Rattle.std.proofs.Common.{◌≡◌, ◌∙◌, ◌⊎◌, ◌+◌, ◌<◌, ◌≤◌, ℕ, refl, sym, ap, subst, inl, inr, arith, Bool, true, false, List, [], ◌∷◌, ◌++◌, map, length, Option, Some, None, Result, Ok, Err}
+use Rattle.std.specs.Prelude.{◌==◌, not, nat_lt, codes, flat_map, if◌then◌else◌, ok_or, option_map, OnOk}
+use Rattle.std.proofs.lemmas.Bool.{false≢true}
+use Rattle.hippo_values.specs.Texts.{Txt}
+use Rattle.hippo_model.specs.declared.audit.Audit.{Audit}
+use Rattle.hippo_model.specs.declared.audit.Flag.{Flag}
+use Rattle.hippo_model.specs.declared.statement.RawAudit.{RawAudit}
+use Rattle.hippo_model.specs.declared.statement.Stmt.TheVariants as stmt
+use Rattle.hippo_model.specs.Audits.{flags_between}
+use Rattle.hippo_model.specs.Terms.{History}
+use Rattle.hippo_model.specs.Versions.{versions}
+use Rattle.hippo_keeper.specs.Keeping.{KeeperState}
+use Rattle.hippo_typing.specs.Meanings.{meaning}
+use Rattle.hippo_lines.specs.Forms as requests
+use Rattle.hippo_commands.specs.Commands.{Command, ask, state, who_commands}
+use Rattle.hippo_backlog.specs.Calls as reads
+use Rattle.hippo_backlog.specs.declared.faults.ReadFault.{ReadFault}
+use Rattle.hippo_backlog.specs.declared.faults.ReadFault.TheVariants as faults
+use Rattle.hippo_backlog.proofs.CallLemmas.{IsAfterCall-as}
+use Rattle.hippo_audit_job.specs.declared.past.Past.{Past}
+use Rattle.hippo_audit_job.specs.Examining.{IsPastOf, IsAuditOf}
+use Rattle.hippo_audit_job.specs.Jobs.{OpenAudit, open_audit, step_end, JobFits, LooksOver, HasStepped}
+use Rattle.hippo_audit_job.proofs.JobLemmas.{taken_within}
+use Rattle.hippo_combine.specs.Combining.{combine_terms}
+use Rattle.hippo_replay.specs.declared.state.State.{State}
+use Rattle.hippo_replay.specs.Standing.{StandsFor}
+use Rattle.hippo_report.specs.declared.format.Format.{Format}
+use Rattle.hippo_report.specs.declared.refusal.Refusal.{Refusal}
+use Rattle.hippo_report.specs.declared.refusal.Refusal.TheVariants as refusals
+use Rattle.hippo_report.specs.Flags.{flag_line}
+use Rattle.hippo_report.specs.Notices.{done_line, number_line}
+use Rattle.hippo_report.specs.Refusals.{refusal_line}
+use Rattle.hippo_world.specs.declared.worlds.World.{World as HeldWorld}
+use Rattle.hippo_world.specs.Auditing.{HeldJob, taken_by, HasBegun, LooksAt, AreLooking, all_handed}
+use Rattle.hippo_world.specs.Holding.{world_of, JobsFit, taken_of}
+use Rattle.hippo_world.specs.Worlds.{World, at_number, with_at, free_number}
+use Rattle.hippo_world.proofs.NumberLemmas.{put_back, put_again}
+use Rattle.hippo_world.proofs.HeldLemmas.{seen-at, seen-with, seen-free, StandsAt, held_stands, free_stands}
+use Rattle.hippo_world.proofs.AuditLemmas.{all_with, one_has, handed-parted, handed-with, LooksAt-begun, LooksAt-written, none_taken_yet}
+use Rattle.hippo_engine.specs.declared.engine.Engine.{Engine}
+use Rattle.hippo_engine.specs.declared.faults.EngineFault.{EngineFault}
+use Rattle.hippo_engine.specs.declared.faults.EngineFault.TheVariants as engine
+use Rattle.hippo_engine.specs.Auditing.{ended}
+use Rattle.hippo_engine.specs.Carrying.{WatchesStand, AtWork, as_call, is_carried, reply_room, shown, IsQuiet, AddsNothing, Carries}
+use Rattle.hippo_engine.specs.Changing.{IsRefused}
+use Rattle.hippo_engine.specs.Checks.{Checked, Finds, ◌>>=◌, by_console}
+use Rattle.hippo_engine.specs.Deeds.{Deed}
+use Rattle.hippo_engine.specs.Deeds as deeds
+use Rattle.hippo_engine.specs.Effects.{Effect, only_reply, carried_out, effect_of, stepped, step_flags, step_line, looked_upto, with_job, new_job, IsShort, IsShortStep, IsEffect}
+use Rattle.hippo_engine.specs.Jobs.{BeginsAt, FindsNone, BeginsJob, progress_line, step_text, SaysStep, TellsStep}
+use Rattle.hippo_engine.specs.Judging.{audit_in, judged}
+use Rattle.hippo_engine.specs.Ledgers.{job_begun, job_stepped, job_dropped}
+use Rattle.hippo_engine.proofs.AuditingLemmas.{ended_same, undamaged_end}
+use Rattle.hippo_engine.proofs.CarryingLemmas.{AddsNothing-quiet}
+use Rattle.hippo_engine.proofs.LengthLemmas.{console_only_fits}
+use Rattle.hippo_engine.proofs.LookingLemmas.{Carries-looked}
+use Rattle.hippo_engine.proofs.ShortLemmas.{refused, done_for}
+
+-- a command that is refused, whatever history the state stands for, and whose refusal is said
+pub quiet_refused : (command : Command) (session : ℕ) (refusal : Refusal) (old new : Engine) → who_commands command ≡ Some session
+    → ((history : History) → StandsFor old.state history → judged history (world_of old.world) command ≡ Err refusal)
+    → new.state ≡ old.state → new.world ≡ old.world → new.reply ≡ refusal_line (Some session) refusal → IsQuiet command old new
+quiet_refused command session refusal old new who refuses same_state same_world said = record {
+  same = same_state;
+  effect = λ history stands.
+      subst (λ (effect : Effect). IsEffect history (world_of old.world) command effect) (λ i. sym shown_is i)
+      (refused history (world_of old.world) command refusal (refuses history stands));
+  audits = record { jobs = ap (λ (held : HeldWorld). held.jobs) same_world; watches = ap (λ (held : HeldWorld). held.watches) same_world };
+}
+  where
+    line_is : new.reply ≡ refusal_line (who_commands command) refusal
+    line_is = said ∙ ap (λ (one : Option ℕ). refusal_line one refusal) (sym who)
+
+    shown_is : shown new ≡ only_reply (world_of old.world) (refusal_line (who_commands command) refusal)
+    shown_is = λ i. only_reply (world_of (same_world i)) (line_is i)
+
+-- the world with another job at a number, as it is seen
+world_with : (held : HeldWorld) (number : ℕ) (job : Option HeldJob) (jobs : List (Option HeldJob)) → jobs ≡ with_at held.jobs number job
+    → world_of (record held { jobs = jobs }) ≡ with_job (world_of held) number (option_map open_audit job)
+world_with held number job jobs is =
+    ap (λ (list : List (Option HeldJob)). world_of (record held { jobs = list })) is
+    ∙ ap (λ (list : List (Option OpenAudit)). record (world_of held) { jobs = list }) (seen-with open_audit held.jobs number job)
+
+-- ---- a job begins
+module _ (text : Txt) (written : RawAudit) (audit : Audit) (old new : Engine)
+    (means : (history : History) → StandsFor old.state history → audit_in history 0 written ≡ Ok audit)
+    (audit_is : (history : History) → StandsFor old.state history → IsAuditOf history audit) where
+  abbrev begins : Command
+  begins = state 0 (stmt.BeginAudit written) text
+
+  judged_begun : (history : History) → StandsFor old.state history → (found : Option ℕ) → free_number old.world.jobs ≡ found
+      → judged history (world_of old.world) begins ≡ (ok_or found refusals.JobLimit >>= λ number. Ok (deeds.begin_audit number audit))
+  judged_begun history stands found is =
+      ap (λ (checked : Checked Audit). checked >>= λ one. ok_or (free_number (world_of old.world).jobs) refusals.JobLimit >>= λ number. Ok (deeds.begin_audit number one)) (means history stands)
+      ∙ ap (λ (free : Option ℕ). ok_or free refusals.JobLimit >>= λ number. Ok (deeds.begin_audit number audit)) (seen-free open_audit old.world.jobs ∙ is)
+
+  pub AddsNothing-begun : (found : Option ℕ) → free_number old.world.jobs ≡ found → BeginsJob found audit old new → AddsNothing begins old new
+  AddsNothing-begun None is begun =
+      AddsNothing-quiet begins old new
+      (quiet_refused begins 0 refusals.JobLimit old new refl (λ history stands. judged_begun history stands None is) begun.state begun.world begun.reply)
+  AddsNothing-begun (Some number) is begun = record {
+    same = begun.state;
+    effect = λ history stands. inl (effect_is history stands ∙ sym (done_for history (world_of old.world) begins (deeds.begin_audit number audit) (judged_begun history stands (Some number) is)));
+    jobs = λ history stands fit.
+        subst (AreLooking history) (sym jobs_are)
+        (all_with (LooksAt history) old.world.jobs number (Some begun.job) fit (LooksAt-begun history audit begun.job stands.valid (audit_is history stands) (begun_over history stands)));
+    watches = λ history stands stand. subst (WatchesStand history) (sym begun.world) (record { fit = stand.fit; none = stand.none });
+    counts = λ versions steps. job_begun (all_handed there.front) (all_handed there.behind) refl refl (handed-parted old.world.jobs number None there)
+        (ap all_handed jobs_are ∙ handed-with old.world.jobs number None there (Some begun.job)
+        ∙ ap (λ (count : ℕ). all_handed there.front ++ count ∷ all_handed there.behind) (none_taken_yet audit old.state.count begun.job begun.begun));
+  }
+    where
+      there : StandsAt old.world.jobs number None
+      there = free_stands old.world.jobs number is
+
+      jobs_are : new.world.jobs ≡ with_at old.world.jobs number (Some begun.job)
+      jobs_are = ap (λ (held : HeldWorld). held.jobs) begun.world
+
+      begun_over : (history : History) → StandsFor old.state history → HasBegun audit (length history) begun.job
+      begun_over history stands = subst (λ (count : ℕ). HasBegun audit count begun.job) stands.count begun.begun
+
+      job_is : (history : History) → StandsFor old.state history → open_audit begun.job ≡ new_job history audit
+      job_is history stands = ap (λ (job : HeldJob). open_audit job) (begun_over history stands).is
+
+      effect_is : (history : History) → StandsFor old.state history
+          → shown new ≡ only_reply (with_job (world_of old.world) number (Some (new_job history audit))) (number_line 0 (codes "job") number)
+      effect_is history stands =
+          let worlds : world_of new.world ≡ with_job (world_of old.world) number (Some (new_job history audit)) =
+          ap world_of begun.world ∙ world_with old.world number (Some begun.job) (with_at old.world.jobs number (Some begun.job)) refl
+          ∙ ap (λ (job : OpenAudit). with_job (world_of old.world) number (Some job)) (job_is history stands) in
+          λ i. only_reply (worlds i) (begun.reply i)
+
+-- ---- a job is dropped
+module _ (number : ℕ) (old new : Engine) where
+  abbrev drops : Command
+  drops = ask 0 (requests.drops number)
+
+  judged_dropped : (history : History) (found : Option HeldJob) → at_number old.world.jobs number ≡ found
+      → judged history (world_of old.world) drops ≡ (ok_or (option_map open_audit found) (refusals.NoJob number) >>= λ job. Ok (deeds.drop_job number))
+  judged_dropped history found is =
+      ap (λ (one : Option OpenAudit). ok_or one (refusals.NoJob number) >>= λ job. Ok (deeds.drop_job number)) (seen-at open_audit old.world.jobs number ∙ ap (option_map open_audit) is)
+
+  -- there is none at the number
+  pub AddsNothing-missing : at_number old.world.jobs number ≡ None → new.state ≡ old.state → new.world ≡ record (old.world) { jobs = with_at old.world.jobs number None }
+      → new.reply ≡ refusal_line (Some 0) (refusals.NoJob number) → AddsNothing drops old new
+  AddsNothing-missing is same_state world_is said =
+      AddsNothing-quiet drops old new
+      (quiet_refused drops 0 (refusals.NoJob number) old new refl (λ history stands. judged_dropped history None is) same_state
+      (world_is ∙ ap (λ (jobs : List (Option HeldJob)). record (old.world) { jobs = jobs }) (put_again old.world.jobs number None is)) said)
+
+  pub AddsNothing-dropped : (job : HeldJob) → at_number old.world.jobs number ≡ Some job → new.state ≡ old.state → new.world ≡ record (old.world) { jobs = with_at old.world.jobs number None }
+      → new.reply ≡ done_line (Some 0) → AddsNothing drops old new
+  AddsNothing-dropped job is same_state world_is said = record {
+    same = same_state;
+    effect = λ history stands. inl (effect_is ∙ sym (done_for history (world_of old.world) drops (deeds.drop_job number) (judged_dropped history (Some job) is)));
+    jobs = λ history stands fit. subst (AreLooking history) (sym jobs_are) (all_with (LooksAt history) old.world.jobs number None fit tt);
+    watches = λ history stands stand. subst (WatchesStand history) (sym world_is) (record { fit = stand.fit; none = stand.none });
+    counts = λ versions steps. job_dropped (taken_by job) (all_handed there.front) (all_handed there.behind) refl refl (handed-parted old.world.jobs number (Some job) there)
+        (ap all_handed jobs_are ∙ handed-with old.world.jobs number (Some job) there None);
+  }
+    where
+      there : StandsAt old.world.jobs number (Some job)
+      there = held_stands old.world.jobs number job is
+
+      jobs_are : new.world.jobs ≡ with_at old.world.jobs number None
+      jobs_are = ap (λ (held : HeldWorld). held.jobs) world_is
+
+      effect_is : shown new ≡ only_reply (with_job (world_of old.world) number None) (done_line (Some 0))
+      effect_is =
+          let worlds : world_of new.world ≡ with_job (world_of old.world) number None = ap world_of world_is ∙ world_with old.world number None (with_at old.world.jobs number None) refl in
+          λ i. only_reply (worlds i) (said i)
+
+-- ---- a job looks on
+-- how far a job is, by its place or by whether it is at its end
+progress : (place upto found : ℕ) (count : ℕ → ℕ) → place ≤ upto → found ≡ count place
+    → (if place == upto then number_line 0 (codes "end") found else number_line 0 (codes "part") place)
+    ≡ (if nat_lt place upto then number_line 0 (codes "part") place else number_line 0 (codes "end") (count upto))
+progress place upto found count within is =
+    elim (place == upto) as (λ (same : Bool). (place == upto) ≡ same
+    → (if same then number_line 0 (codes "end") found else number_line 0 (codes "part") place)
+    ≡ (if nat_lt place upto then number_line 0 (codes "part") place else number_line 0 (codes "end") (count upto))) [
+      | true ↦ λ e.
+          let at : place ≡ upto = grind (arith, e) in
+          let none : nat_lt place upto ≡ false = grind (arith, e) in
+          ap (λ (n : ℕ). number_line 0 (codes "end") n) (is ∙ ap count at)
+          ∙ sym (ap (λ (test : Bool). if test then number_line 0 (codes "part") place else number_line 0 (codes "end") (count upto)) none)
+      | false ↦ λ e.
+          let more : nat_lt place upto ≡ true = grind (arith, e, within) in
+          sym (ap (λ (test : Bool). if test then number_line 0 (codes "part") place else number_line 0 (codes "end") (count upto)) more)
+    ] refl
+
+-- a job that was told of is the same, but that its flags may be written
+left_so : (looked : Result (Unit {0}) ReadFault) (format : Format) (job told : HeldJob) (reply : Txt) → TellsStep looked format job told reply
+    → (told ≡ record job { waiting = [] }) ⊎ (told ≡ job)
+left_so (Ok all) format job told reply (inl so) = inl so.0
+left_so (Ok all) format job told reply (inr short) = inr short.0
+left_so (Err faults.Memory) format job told reply so = inr so.0
+left_so (Err faults.Keeper) format job told reply so = inr so
+left_so (Err (faults.Damaged number)) format job told reply so = inr so
+
+-- a line that steps a job at a number, which has looked on, and was told of
+pub record StepsHeld (number count : ℕ) (past : Past) (looked : Result (Unit {0}) ReadFault) (old new : Engine) (before after : KeeperState) (steps steps' : ℕ) : Type 0 where
+  pub job : HeldJob
+  pub mid : HeldJob
+  pub told : HeldJob
+  pub there : at_number old.world.jobs number ≡ Some job
+  pub stepped : HasStepped combine_terms count past looked job mid before after steps steps'
+  pub tells : TellsStep looked old.world.format mid told new.reply
+  pub same : new.state ≡ old.state
+  pub world : new.world ≡ record (old.world) { jobs = with_at (with_at old.world.jobs number None) number (Some told) }
+
+module _ (number count : ℕ) (past : Past) (looked : Result (Unit {0}) ReadFault) (old new : Engine) (before after : KeeperState) (steps steps' : ℕ)
+    (held : StepsHeld number count past looked old new before after steps steps') where
+  abbrev steps_it : Command
+  steps_it = ask 0 (requests.steps number count)
+
+  abbrev world : World
+  world = world_of old.world
+
+  abbrev job : OpenAudit
+  job = open_audit held.job
+
+  abbrev upto : ℕ
+  upto = step_end job count
+
+  judged_is : (history : History) → judged history world steps_it ≡ Ok (deeds.step_job number job count)
+  judged_is history =
+      ap (λ (one : Option OpenAudit). ok_or one (refusals.NoJob number) >>= λ found. Ok (deeds.step_job number found count))
+      (seen-at open_audit old.world.jobs number ∙ ap (option_map open_audit) held.there)
+
+  done_so : (history : History) → effect_of history world steps_it ≡ stepped history world number job count
+  done_so history = done_for history world steps_it (deeds.step_job number job count) (judged_is history)
+
+  jobs_are : new.world.jobs ≡ with_at old.world.jobs number (Some held.told)
+  jobs_are = ap (λ (w : HeldWorld). w.jobs) held.world ∙ put_back old.world.jobs number None (Some held.told)
+
+  world_is : world_of new.world ≡ with_job world number (Some (open_audit held.told))
+  world_is = ap world_of held.world ∙ world_with old.world number (Some held.told) _ (put_back old.world.jobs number None (Some held.told))
+
+  place_there : StandsAt old.world.jobs number (Some held.job)
+  place_there = held_stands old.world.jobs number held.job held.there
+
+  same_taken : taken_by held.told ≡ taken_by held.mid
+  same_taken = elim (left_so looked old.world.format held.mid held.told new.reply held.tells) [
+    | inl is ↦ ap taken_by is
+    | inr is ↦ ap taken_by is
+  ]
+
+  module _ (history : History) (over : LooksOver combine_terms history looked held.job held.mid) where
+    told_looks : LooksAt history held.told
+    told_looks =
+        let mid_looks : LooksAt history held.mid = record { sound = held.stepped.looks.is_sound; fits = over.fits_still } in
+        elim (left_so looked old.world.format held.mid held.told new.reply held.tells) [
+          | inl is ↦ subst (LooksAt history) (sym is) (LooksAt-written history held.mid mid_looks)
+          | inr is ↦ subst (LooksAt history) (sym is) mid_looks
+        ]
+
+    -- memory was short, and the job stands between
+    short_step : held.told ≡ held.mid → new.reply ≡ refusal_line (Some 0) refusals.Memory → IsEffect history world steps_it (shown new)
+    short_step same said =
+        let line : Txt = refusal_line (Some 0) refusals.Memory in
+        let job_is : open_audit held.told ≡ looked_upto job held.mid.place (step_flags history job held.mid.place) =
+        ap (λ (one : HeldJob). open_audit one) same ∙ (λ i. record { audit = held.stepped.looks.same_audit i; length = held.stepped.looks.same_length i; place = held.mid.place; waiting = over.flags i }) in
+        let worlds : world_of new.world ≡ with_job world number (Some (looked_upto job held.mid.place (step_flags history job held.mid.place))) =
+        world_is ∙ ap (λ (one : OpenAudit). with_job world number (Some one)) job_is in
+        let so : IsShortStep history world line number job count (shown new) = record {
+          upto = held.mid.place;
+          from = held.stepped.looks.forward;
+          to = held.stepped.looks.limit;
+          is = λ i. only_reply (worlds i) (said i);
+        } in
+        inr (refl, subst (λ (judgement : Checked Deed). IsShort history world line judgement (shown new)) (sym (judged_is history)) so)
+
+    -- what was found is said
+    whole_step : held.mid.place ≡ upto → held.told ≡ record (held.mid) { waiting = [] } → new.reply ≡ step_text old.world.format held.mid → IsEffect history world steps_it (shown new)
+    whole_step place written said =
+        let looks = held.stepped.looks in
+        let job_is : open_audit held.told ≡ looked_upto job upto [] =
+        ap (λ (one : HeldJob). open_audit one) written ∙ (λ i. record { audit = looks.same_audit i; length = looks.same_length i; place = place i; waiting = [] }) in
+        let worlds : world_of new.world ≡ with_job world number (Some (looked_upto job upto [])) =
+        world_is ∙ ap (λ (one : OpenAudit). with_job world number (Some one)) job_is in
+        let flags : held.mid.waiting ≡ step_flags history job upto =
+        over.flags ∙ ap (λ (to : ℕ). held.job.waiting ++ flags_between meaning history held.job.audit held.job.place to) place in
+        let far : progress_line held.mid ≡ step_line history job upto =
+        progress held.mid.place held.mid.length held.mid.found (λ to. length (flags_between meaning history held.mid.audit 0 to)) looks.is_sound.within over.fits_still.flags
+        ∙ (λ i. if nat_lt (place i) (looks.same_length i) then number_line 0 (codes "part") (place i)
+        else number_line 0 (codes "end") (length (flags_between meaning history (looks.same_audit i) 0 (looks.same_length i)))) in
+        let reply : new.reply ≡ flat_map (flag_line old.world.format) (step_flags history job upto) ++ step_line history job upto =
+        said ∙ (λ i. flat_map (flag_line old.world.format) (flags i) ++ far i) in
+        inl ((λ i. only_reply (worlds i) (reply i)) ∙ sym (done_so history))
+
+    step_effect : is_carried (ended looked) ≡ true → IsEffect history world steps_it (shown new)
+    step_effect = by looked held.tells held.stepped.place_is
+      where
+        by : (answer : Result (Unit {0}) ReadFault) → TellsStep answer old.world.format held.mid held.told new.reply → OnOk answer (held.mid.place ≡ upto)
+            → is_carried (ended answer) ≡ true → IsEffect history world steps_it (shown new)
+        by (Ok all) (inl so) place fine = whole_step place so.0 so.1
+        by (Ok all) (inr short) place fine = short_step short.0 short.1
+        by (Err faults.Memory) so place fine = short_step so.0 so.1
+        by (Err faults.Keeper) so place fine = absurd (false≢true fine)
+        by (Err (faults.Damaged other)) so place fine = absurd (false≢true fine)
+
+  unrefused : (history : History) (refusal : Refusal) → judged history world steps_it ≡ Err refusal → ⊥
+  unrefused history refusal refuses = let both : ◌≡◌ {A = Checked Deed} (Ok (deeds.step_job number job count)) (Err refusal) = sym (judged_is history) ∙ refuses in absurd cc
+
+  -- `step` at the console
+  pub Carries-stepped : (result : Result (Unit {0}) EngineFault) → result ≡ ended looked → AtWork old before → ((history : History) → StandsFor old.state history → IsPastOf past history)
+      → Carries steps_it result old new before after steps steps'
+  Carries-stepped result ends at_work is_past =
+      subst (λ (r : Result (Unit {0}) EngineFault). Carries steps_it r old new before after steps steps') (sym ends)
+      (Carries-looked steps_it (ended looked) old new before after steps steps' refl at_work held.same
+      (IsAfterCall-as true false (reads.as_call looked) (as_call (ended looked)) before after (ended_same looked) held.stepped.looks.moves.is_after)
+      held.stepped.looks.moves.stays
+      (λ told history holds.
+      let looks : LooksAt history held.job = one_has (LooksAt history) old.world.jobs number (Some held.job) place_there holds.jobs in
+      let over : LooksOver combine_terms history looked held.job held.mid = held.stepped.looks.told told history holds.forms (is_past history holds.stands) looks.fits in
+      let few : taken_by held.mid ≤ versions history = taken_within combine_terms held.mid history (taken_by held.mid) over.fits_still refl in
+      record {
+        effect = step_effect history over;
+        jobs = subst (AreLooking history) (sym jobs_are) (all_with (LooksAt history) old.world.jobs number (Some held.told) holds.jobs (told_looks history over));
+        watches = subst (WatchesStand history) (sym held.world) (record { fit = holds.watches.fit; none = holds.watches.none });
+        counts = job_stepped (taken_by held.job) (taken_by held.told) (all_handed place_there.front) (all_handed place_there.behind) refl
+            (omega (arith, held.stepped.looks.moves.ledger, same_taken)) (omega (arith, few, same_taken))
+            (handed-parted old.world.jobs number (Some held.job) place_there)
+            (ap all_handed jobs_are ∙ handed-with old.world.jobs number (Some held.job) place_there (Some held.told));
+        refused = λ refusal refuses others. absurd (unrefused history refusal refuses);
+        adds = ap (λ (effect : Effect). effect.added) (done_so history);
+        undamaged = λ other e. undamaged_end looked other over.undamaged e;
+      }))
+
+-- ---- none is there
+-- a step of a job that is not there is refused
+pub missing_step : (number count : ℕ) (old new : Engine) → at_number old.world.jobs number ≡ None → new.state ≡ old.state
+    → new.world ≡ record (old.world) { jobs = with_at old.world.jobs number None } → new.reply ≡ refusal_line (Some 0) (refusals.NoJob number) → IsQuiet (ask 0 (requests.steps number count)) old new
+missing_step number count old new is same_state world_is said =
+    quiet_refused (ask 0 (requests.steps number count)) 0 (refusals.NoJob number) old new refl
+    (λ history stands. ap (λ (one : Option OpenAudit). ok_or one (refusals.NoJob number) >>= λ found. Ok (deeds.step_job number found count)) (seen-at open_audit old.world.jobs number ∙ ap (option_map open_audit) is))
+    same_state (world_is ∙ ap (λ (jobs : List (Option HeldJob)). record (old.world) { jobs = jobs }) (put_again old.world.jobs number None is)) said
+
+-- only the console may
+only_console : (session : ℕ) (refusal : Refusal) → by_console session ≡ Err refusal → refusal ≡ refusals.ConsoleOnly
+only_console session refusal refuses = only (not (session == 0)) refuses
+  where
+    refused_by : Checked (Unit {0}) → Refusal
+    refused_by (Ok all) = refusals.ConsoleOnly
+    refused_by (Err other) = other
+
+    only : (test : Bool) → ◌≡◌ {A = Checked (Unit {0})} (if test then Err refusals.ConsoleOnly else Ok tt) (Err refusal) → refusal ≡ refusals.ConsoleOnly
+    only true e = sym (ap refused_by e)
+    only false e = absurd cc
+
+pub not_console : (command : Command) (session : ℕ) (refusal : Refusal) (old new : Engine) → session < 256 → who_commands command ≡ Some session
+    → ((history : History) → (rest : Unit {0} → Checked Deed) × (judged history (world_of old.world) command ≡ (by_console session >>= rest)))
+    → by_console session ≡ Err refusal → new.state ≡ old.state → new.world ≡ old.world
+    → (length (refusal_line (Some session) refusal) ≤ reply_room → new.reply ≡ refusal_line (Some session) refusal) → IsQuiet command old new
+not_console command session refusal old new few who begins_so refuses same_state same_world said =
+    let fits : length (refusal_line (Some session) refusal) ≤ reply_room =
+    subst (λ (one : Refusal). length (refusal_line (Some session) one) ≤ reply_room) (sym (only_console session refusal refuses)) (console_only_fits (Some session) few) in
+    quiet_refused command session refusal old new who
+    (λ history stands. let so = begins_so history in so.1 ∙ ap (λ (console : Checked (Unit {0})). console >>= so.0) refuses) same_state same_world (said fits)
+
+-- an audit that is refused begins no job
+pub refused_begin : (text : Txt) (written : RawAudit) (session : ℕ) (refusal : Refusal) (engine : Engine) → ((history : History) → StandsFor engine.state history → Finds (λ audit. audit) (audit_in history session written) (Err refusal))
+    → IsRefused (state session (stmt.BeginAudit written) text) session refusal engine
+refused_begin text written session refusal engine refuses = record {
+  who = refl;
+  memory = refl;
+  refused = λ history stands. elim (refuses history stands) [
+    | inl is ↦ inl (ap (λ (checked : Checked Audit). checked >>= λ audit. ok_or (free_number (world_of engine.world).jobs) refusals.JobLimit >>= λ number. Ok (deeds.begin_audit number audit)) is)
+    | inr is ↦ inr is
+  ];
+}

@@ -1,0 +1,55 @@
+-- Audit jobs at the console: how one begins, and what a step of one does.
+use Rattle.std.specs.Prelude.{◌≡◌, ◌==◌, ◌⊎◌, ℕ, ◌++◌, [], flat_map, Option, Some, None, Result, Ok, Err, codes, if◌then◌else◌}
+use Rattle.hippo_values.specs.Texts.{Txt}
+use Rattle.hippo_model.specs.declared.audit.Audit.{Audit}
+use Rattle.hippo_backlog.specs.declared.faults.ReadFault.{ReadFault}
+use Rattle.hippo_backlog.specs.declared.faults.ReadFault.TheVariants as faults
+use Rattle.hippo_report.specs.declared.format.Format.{Format}
+use Rattle.hippo_report.specs.declared.refusal.Refusal.TheVariants.{JobLimit, Memory}
+use Rattle.hippo_report.specs.Flags.{flag_line}
+use Rattle.hippo_report.specs.Notices.{number_line}
+use Rattle.hippo_report.specs.Refusals.{refusal_line}
+use Rattle.hippo_world.specs.Auditing.{HeldJob, HasBegun}
+use Rattle.hippo_world.specs.Worlds.{with_at}
+use Rattle.hippo_engine.specs.declared.engine.Engine.{Engine}
+
+-- a job over all that is there begins at a number, which is said
+pub record BeginsAt (number : ℕ) (audit : Audit) (old new : Engine) : Type 0 where
+  pub job : HeldJob
+  pub begun : HasBegun audit old.state.count job
+  pub state : new.state ≡ old.state
+  pub world : new.world ≡ record (old.world) { jobs = with_at old.world.jobs number (Some job) }
+  pub reply : new.reply ≡ number_line 0 (codes "job") number
+
+-- no number is free for a job, and that is said
+pub record FindsNone (old new : Engine) : Type 0 where
+  pub state : new.state ≡ old.state
+  pub world : new.world ≡ old.world
+  pub reply : new.reply ≡ refusal_line (Some 0) JobLimit
+
+-- a job begins at the lowest number that is free, if there is one
+abbrev pub BeginsJob : Option ℕ → Audit → Engine → Engine → Type 0
+BeginsJob (Some number) audit old new = BeginsAt number audit old new
+BeginsJob None audit old new = FindsNone old new
+
+-- how far a job is, while numbers are left; else how many flags it found
+abbrev pub progress_line : HeldJob → Txt
+progress_line job =
+    if job.place == job.length then number_line 0 (codes "end") job.found
+    else number_line 0 (codes "part") job.place
+
+-- the flags of a job that wait, and how far it is
+abbrev pub step_text : Format → HeldJob → Txt
+step_text format job = flat_map (flag_line format) job.waiting ++ progress_line job
+
+-- what a step found is said, and no flag waits any more; or memory was short, and they wait
+abbrev pub SaysStep : Format → HeldJob → HeldJob → Txt → Type 0
+SaysStep format job told reply =
+    ((told ≡ record job { waiting = [] }) × (reply ≡ step_text format job))
+    ⊎ ((told ≡ job) × (reply ≡ refusal_line (Some 0) Memory))
+
+-- what is said of a step, by how it ended, and which flags wait behind it
+abbrev pub TellsStep : Result (Unit {0}) ReadFault → Format → HeldJob → HeldJob → Txt → Type 0
+TellsStep (Ok all) format job told reply = SaysStep format job told reply
+TellsStep (Err faults.Memory) format job told reply = (told ≡ job) × (reply ≡ refusal_line (Some 0) Memory)
+TellsStep (Err fault) format job told reply = told ≡ job

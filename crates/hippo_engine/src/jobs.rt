@@ -1,0 +1,210 @@
+//! Audit jobs at the console: one begins, looks on, or is dropped.
+ghost use Rattle.std.specs.Prelude.{◌≡◌, ◌≢◌, ◌++◌, bytes_eq, OnOk, Err as Bad};
+ghost use Rattle.std.specs.List.{IsDistinct};
+ghost use Rattle.hippo_values.specs.Texts.{Txt as Text};
+ghost use Rattle.hippo_model.specs.declared.statement.Stmt.TheVariants as stmt;
+ghost use Rattle.hippo_replay.specs.Standing.{IsSound};
+ghost use Rattle.hippo_lines.specs.Forms as requests;
+ghost use Rattle.hippo_commands.specs.Commands.{ask, state};
+ghost use Rattle.hippo_world.specs.Worlds.{free_number};
+ghost use Rattle.hippo_engine.specs.declared.faults.EngineFault.TheVariants.{Write as WriteFailed};
+ghost use Rattle.hippo_engine.specs.Auditing.{ended};
+ghost use Rattle.hippo_engine.specs.Carrying.{AtWork, AddsNothing, Carries};
+ghost use Rattle.hippo_engine.specs.Jobs.{BeginsJob, progress_line, step_text, SaysStep, TellsStep};
+
+use crate::auditing::{append_flags, audit_in};
+use crate::changes::check_console;
+use crate::engine::{Engine, Reply};
+use crate::faults::EngineFault;
+use crate::fetching::{append_end, append_part};
+use crate::replies::{refuse, refuse_for_memory, say_done, say_number};
+use hippo_audit_job::Past;
+use hippo_backlog::ReadFault;
+use hippo_keeper::{Keeper, Steps};
+use hippo_model::{Audit, RawAudit};
+use hippo_report::{Format, Refusal};
+use hippo_values::Memory;
+use hippo_world::AuditJob;
+use std::alloc::Global;
+use std::sync::ledger::Ledger;
+
+// How far a job is, while numbers are left; else how many flags it found.
+fn append_progress(job: &AuditJob, reply: &mut Reply) -> Result<(), Memory>
+    ensures { OnOk result (reply.new ≡ reply.old ++ progress_line job.now) }
+{
+    if job.at_end() {
+        append_end(0, job.flag_count(), reply)
+    } else {
+        append_part(0, job.place(), reply)
+    }
+}
+
+// Makes the reply to a step: the flags that wait, and how far the job is.
+fn print_step(
+    alloc: Global,
+    format: Format,
+    job: &AuditJob,
+    reply: &mut Reply,
+) -> Result<(), Memory>
+    ensures { OnOk result (reply.new ≡ step_text format job.now) }
+{
+    reply.clear();
+    append_flags(alloc, format, job.waiting().as_slice(), reply)?;
+    append_progress(job, reply)
+}
+
+// Says what a job found, so that no flag waits any more; or that memory was short, and they wait.
+fn say_step(alloc: Global, format: Format, job: &mut AuditJob, reply: &mut Reply)
+    ensures { SaysStep format job.old job.new reply.new }
+{
+    match print_step(alloc, format, job, reply) {
+        Ok(()) => job.written(),
+        Err(Memory) => refuse_for_memory(Some(0), reply),
+    }
+}
+
+// Tells how a step ended.
+fn tell_step(
+    alloc: Global,
+    format: Format,
+    looked: Result<(), ReadFault>,
+    job: &mut AuditJob,
+    reply: &mut Reply,
+) -> Result<(), EngineFault>
+    ensures ended { result ≡ ended looked }
+    ensures told { TellsStep looked format job.old job.new reply.new }
+{
+    match looked {
+        Ok(()) => {
+            say_step(alloc, format, job, reply);
+            Ok(())
+        }
+        Err(ReadFault::Memory) => {
+            refuse_for_memory(Some(0), reply);
+            Ok(())
+        }
+        Err(ReadFault::Keeper) => Err(EngineFault::Keeper),
+        Err(ReadFault::Damaged(number)) => Err(EngineFault::Damaged(number)),
+    }
+}
+
+impl Engine {
+    // A job begins at the lowest number that is free, over all that was asked so far. Takes no memory.
+    fn begin_job(&mut self, alloc: Global, audit: Audit)
+        requires differ { IsDistinct bytes_eq audit.tables }
+        ensures { BeginsJob (free_number self.old.world.jobs) audit self.old self.new }
+    {
+        match self.world.jobs.free() {
+            Some(number) => {
+                let job = AuditJob::begin(alloc, audit, self.state.count);
+                self.world.jobs.put(number, Some(job));
+                say_number(0, "job", number as u64, &mut self.reply);
+            }
+            None => {
+                drop(audit);
+                refuse(Some(0), &Refusal::JobLimit, &mut self.reply);
+            }
+        }
+    }
+
+    /// Begins an audit job of the console, whose number is said.
+    pub(crate) fn begin_audit(&mut self, alloc: Global, session: u8, written: &RawAudit)
+        requires sound { IsSound self.old.state }
+        ensures { (text : Text) → AddsNothing (state session (stmt.BeginAudit written.now) text) self.old self.new }
+    {
+        match audit_in(alloc, &self.state, session, written) {
+            Ok(audit) => self.begin_job(alloc, audit),
+            Err(refusal) => {
+                self.refuse_command(session, &refusal);
+                drop(refusal);
+            }
+        }
+    }
+
+    // Lets the job at a number look at so many further entries, and prints the flags that wait.
+    fn step_held<P: Keeper, L: Ledger>(
+        &mut self,
+        alloc: Global,
+        keeper: &mut P,
+        number: u8,
+        count: u32,
+        steps: &mut Steps<L>,
+    ) -> Result<(), EngineFault>
+        requires at_work { AtWork self.old (P.state keeper.old) }
+        ensures carries { Carries (ask 0 (requests.steps number count)) result self.old self.new
+            (P.state keeper.old) (P.state keeper.new) steps.old steps.new }
+        ensures unwritten { result ≢ Bad WriteFailed }
+    {
+        let at = usize::from(number);
+        match self.world.jobs.take(at) {
+            Some(mut job) => {
+                let past = Past {
+                    catalog: &self.state.catalog,
+                    book: &self.state.book,
+                    count: self.state.count,
+                };
+                let looked = job.step(keeper, alloc, u64::from(count), &past, steps);
+                let told = tell_step(alloc, self.world.format, looked, &mut job, &mut self.reply);
+                self.world.jobs.put(at, Some(job));
+                told
+            }
+            None => {
+                refuse(Some(0), &Refusal::NoJob(u64::from(number)), &mut self.reply);
+                Ok(())
+            }
+        }
+    }
+
+    /// Lets an audit job of the console look at so many further entries. The flags that it finds are printed, or they
+    /// wait where memory is short. Answers `Keeper` only where the keeper failed, and `Damaged` only where it does not
+    /// tell what it keeps. Each version that is read counts as a step.
+    pub(crate) fn step_job<P: Keeper, L: Ledger>(
+        &mut self,
+        alloc: Global,
+        keeper: &mut P,
+        session: u8,
+        number: u8,
+        count: u32,
+        steps: &mut Steps<L>,
+    ) -> Result<(), EngineFault>
+        requires at_work { AtWork self.old (P.state keeper.old) }
+        ensures carries { Carries (ask session (requests.steps number count)) result self.old self.new
+            (P.state keeper.old) (P.state keeper.new) steps.old steps.new }
+        ensures unwritten { result ≢ Bad WriteFailed }
+    {
+        match check_console(session) {
+            Ok(()) => self.step_held(alloc, keeper, number, count, steps),
+            Err(refusal) => {
+                refuse(Some(session), &refusal, &mut self.reply);
+                drop(refusal);
+                Ok(())
+            }
+        }
+    }
+
+    // Gives up the job at a number. Takes no memory.
+    fn drop_held(&mut self, number: u8)
+        ensures { AddsNothing (ask 0 (requests.drops number)) self.old self.new }
+    {
+        match self.world.jobs.take(usize::from(number)) {
+            Some(job) => {
+                drop(job);
+                say_done(Some(0), &mut self.reply);
+            }
+            None => refuse(Some(0), &Refusal::NoJob(u64::from(number)), &mut self.reply),
+        }
+    }
+
+    /// Gives up an audit job of the console. Takes no memory.
+    pub(crate) fn drop_job(&mut self, session: u8, number: u8)
+        ensures { AddsNothing (ask session (requests.drops number)) self.old self.new }
+    {
+        match check_console(session) {
+            Ok(()) => self.drop_held(number),
+            Err(refusal) => {
+                refuse(Some(session), &refusal, &mut self.reply);
+                drop(refusal);
+            }
+        }
+    }
+}

@@ -1,0 +1,155 @@
+-- Jobs and watches that are held of a history: when an entry is added, where nothing is held, and when one is put there.
+use Rattle.std.proofs.Common.{◌≡◌, ◌∙◌, sym, ap, subst, refl, ℕ, zero, suc, List, [], ◌∷◌, ◌++◌, map, length, Option, None, Some, true}
+use Rattle.std.specs.Prelude.{IfSome, option_map, filter_map, slice_set}
+use Rattle.std.specs.List.{AllByRecursion}
+use Rattle.std.proofs.lemmas.List.Elements.{filter_map-append}
+use Rattle.hippo_values.specs.Limits.{job_limit, watch_limit}
+use Rattle.hippo_values.specs.declared.moments.Moment.{Moment}
+use Rattle.hippo_model.specs.declared.audit.Audit.{Audit}
+use Rattle.hippo_model.specs.declared.entry.Entry.{Entry}
+use Rattle.hippo_model.specs.Terms.{History}
+use Rattle.hippo_model.specs.Validity.{is_valid}
+use Rattle.hippo_report.specs.declared.format.Format.{Format}
+use Rattle.hippo_typing.specs.Meanings.{meaning}
+use Rattle.hippo_audit_job.specs.Examining.{IsAuditOf}
+use Rattle.hippo_audit_job.specs.Jobs.{OpenAudit, open_audit}
+use Rattle.hippo_audit_job.proofs.JobLemmas.{IsAuditOf-longer, IsSound-new, JobFits-new, JobFits-grown}
+use Rattle.hippo_combine.specs.Combining.{combine_terms}
+use Rattle.hippo_world.specs.declared.worlds.World.{World as HeldWorld}
+use Rattle.hippo_world.specs.Auditing.{HeldJob, taken_by, HasBegun, LooksAt, AreLooking, AreWatching, all_handed}
+use Rattle.hippo_world.specs.Holding.{world_of, KeepsAudits, JobsFit, WatchesFit, taken_of}
+use Rattle.hippo_world.specs.Worlds.{World, at_number, with_at, none_held, opening}
+use Rattle.hippo_world.proofs.HeldLemmas.{StandsAt}
+
+module _ {A : Type 0} (P Q : A → Type 0) where
+  -- what each that is held has, so it has what follows from that
+  each_held : (follows : (one : A) → P one → Q one) (places : List (Option A)) → AllByRecursion (λ held. IfSome held P) places → AllByRecursion (λ held. IfSome held Q) places
+  each_held follows [] all = tt
+  each_held follows (None ∷ rest) all = (tt, each_held follows rest all.1)
+  each_held follows (Some one ∷ rest) all = (follows one all.0, each_held follows rest all.1)
+
+module _ {A : Type 0} (P : A → Type 0) where
+  set_there : (places : List (Option A)) (place : ℕ) (held : Option A) → AllByRecursion (λ held. IfSome held P) places → IfSome held P → AllByRecursion (λ held. IfSome held P) (slice_set places place held)
+  set_there [] place held all is = tt
+  set_there (first ∷ rest) zero held all is = (is, all.1)
+  set_there (first ∷ rest) (suc place) held all is = (all.0, set_there rest place held all.1 is)
+
+  -- what each that is held has, each has still once one that has it is put there, or nothing
+  pub all_with : (places : List (Option A)) (number : ℕ) (held : Option A) → AllByRecursion (λ held. IfSome held P) places → IfSome held P → AllByRecursion (λ held. IfSome held P) (with_at places number held)
+  all_with places zero held all is = all
+  all_with places (suc place) held all is = set_there places place held all is
+
+  one_of : (front behind : List (Option A)) (held : Option A) → AllByRecursion (λ held. IfSome held P) (front ++ held ∷ behind) → IfSome held P
+  one_of [] behind held all = all.0
+  one_of (first ∷ front) behind held all = one_of front behind held all.1
+
+  -- the one at a number has it
+  pub one_has : (places : List (Option A)) (number : ℕ) (held : Option A) → StandsAt places number held → AllByRecursion (λ held. IfSome held P) places → IfSome held P
+  one_has places number held there all =
+      one_of there.front there.behind held (subst (AllByRecursion (λ (held : Option A). IfSome held P)) there.whole all)
+
+module _ (history : History) (entry : Entry) (valid : is_valid meaning (history ++ entry ∷ []) ≡ true) where
+  looks_on : (job : HeldJob) → LooksAt history job → LooksAt (history ++ entry ∷ []) job
+  looks_on job looks = record { sound = looks.sound; fits = JobFits-grown combine_terms job history entry valid looks.sound looks.fits }
+
+  -- jobs that fit a history fit it with one entry more
+  pub JobsFit-more : (held : HeldWorld) → JobsFit history held → JobsFit (history ++ entry ∷ []) held
+  JobsFit-more held fit = each_held (LooksAt history) (LooksAt (history ++ entry ∷ [])) looks_on held.jobs fit
+
+  -- and so do watches
+  pub WatchesFit-more : (held : HeldWorld) → WatchesFit history held → WatchesFit (history ++ entry ∷ []) held
+  WatchesFit-more held fit =
+      each_held (IsAuditOf history) (IsAuditOf (history ++ entry ∷ [])) (λ audit is. IsAuditOf-longer history (entry ∷ []) valid audit is) held.watches fit
+
+module _ (history : History) (old new : HeldWorld) (keeps : KeepsAudits old new) where
+  -- jobs and watches that are the same fit still
+  pub JobsFit-same : JobsFit history old → JobsFit history new
+  JobsFit-same fit = subst (AreLooking history) (sym keeps.jobs) fit
+
+  pub WatchesFit-same : WatchesFit history old → WatchesFit history new
+  WatchesFit-same fit = subst (AreWatching history) (sym keeps.watches) fit
+
+-- jobs that are the same were handed as much
+pub taken_of-same : (old new : HeldWorld) → KeepsAudits old new → taken_of new ≡ taken_of old
+taken_of-same old new keeps = ap all_handed keeps.jobs
+
+-- nothing is held where nothing is seen
+none_there : (places : List (Option HeldJob)) (count : ℕ) → map (option_map open_audit) places ≡ none_held count → places ≡ none_held count
+none_there [] zero is = refl
+none_there [] (suc count) is = absurd cc
+none_there (first ∷ rest) zero is = absurd cc
+none_there (None ∷ rest) (suc count) is =
+    let later : map (option_map open_audit) rest ≡ none_held count = cc in
+    ap (λ (places : List (Option HeldJob)). None ∷ places) (none_there rest count later)
+none_there (Some job ∷ rest) (suc count) is = absurd cc
+
+none_look : (history : History) (count : ℕ) → AreLooking history (none_held count)
+none_look history zero = tt
+none_look history (suc count) = (tt, none_look history count)
+
+none_watch : (history : History) (count : ℕ) → AreWatching history (none_held count)
+none_watch history zero = tt
+none_watch history (suc count) = (tt, none_watch history count)
+
+none_handed : (count : ℕ) → all_handed (none_held count) ≡ []
+none_handed zero = refl
+none_handed (suc count) = none_handed count
+
+module _ (held : HeldWorld) (clock : Moment) (limit : ℕ) (format : Format) (opens : world_of held ≡ opening clock limit format) where
+  no_jobs : (count : ℕ) → (opening clock limit format).jobs ≡ none_held count → held.jobs ≡ none_held count
+  no_jobs count is = none_there held.jobs count (ap (λ (world : World). world.jobs) opens ∙ is)
+
+  -- no job is held where a run begins
+  pub JobsFit-opening : (history : History) → JobsFit history held
+  JobsFit-opening history = subst (AreLooking history) (sym (no_jobs job_limit refl)) (none_look history job_limit)
+
+  pub taken_of-opening : taken_of held ≡ []
+  taken_of-opening = ap all_handed (no_jobs job_limit refl) ∙ none_handed job_limit
+
+  -- nor any watch
+  pub none_watched : held.watches ≡ none_held watch_limit
+  none_watched = ap (λ (world : World). world.watches) opens
+
+  pub WatchesFit-opening : (history : History) → WatchesFit history held
+  WatchesFit-opening history = subst (AreWatching history) (sym none_watched) (none_watch history watch_limit)
+
+module _ (jobs : List (Option HeldJob)) (number : ℕ) (held : Option HeldJob) (there : StandsAt jobs number held) where
+  -- what was handed to the jobs before a number, to the one there, and to those behind it
+  pub handed-parted : all_handed jobs ≡ all_handed there.front ++ all_handed (held ∷ there.behind)
+  handed-parted = ap all_handed there.whole ∙ filter_map-append (option_map taken_by) there.front (held ∷ there.behind)
+
+  pub handed-with : (other : Option HeldJob) → all_handed (with_at jobs number other) ≡ all_handed there.front ++ all_handed (other ∷ there.behind)
+  handed-with other = ap all_handed (there.put other) ∙ filter_map-append (option_map taken_by) there.front (other ∷ there.behind)
+
+-- a job that has just begun over a valid history looks at it
+pub LooksAt-begun : (history : History) (audit : Audit) (job : HeldJob) → is_valid meaning history ≡ true → IsAuditOf history audit → HasBegun audit (length history) job → LooksAt history job
+LooksAt-begun history audit job valid is_audit begun = subst (LooksAt history) (sym begun.is) (record {
+  sound = IsSound-new combine_terms audit (length history) job.examiner is_audit.differ begun.unasked;
+  fits = JobFits-new combine_terms history audit job.examiner valid is_audit begun.unasked;
+})
+
+-- and was handed nothing
+pub none_taken_yet : (audit : Audit) (number : ℕ) (job : HeldJob) → HasBegun audit number job → taken_by job ≡ 0
+none_taken_yet audit number job begun = begun.unasked.none_handed (taken_by job) refl
+
+-- a job whose flags are written looks at the same history
+pub LooksAt-written : (history : History) (job : HeldJob) → LooksAt history job → LooksAt history (record job { waiting = [] })
+LooksAt-written history job looks = record {
+  sound = record {
+    tables = looks.sound.tables;
+    within = looks.sound.within;
+    counted = looks.sound.counted;
+    read = looks.sound.read;
+    ahead = looks.sound.ahead;
+    examiner_is = looks.sound.examiner_is;
+    asked = looks.sound.asked;
+  };
+  fits = record {
+    begun = looks.fits.begun;
+    audit_is = looks.fits.audit_is;
+    flags = looks.fits.flags;
+    split = looks.fits.split;
+    examiner_fits = looks.fits.examiner_fits;
+    once = looks.fits.once;
+  };
+}
