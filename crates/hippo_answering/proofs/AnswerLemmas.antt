@@ -40,7 +40,7 @@ same_tables tables history other here there name =
     ∙ is_some-map (table_at other) (schema_at other name)
 
 -- tables that are kept are created in each history that what is kept stands for
-are_created-AreKept : (tables : Tables) (names : List Name) (history : History) → AreKept tables names → StandsFor tables history → are_created history names ≡ true
+pub are_created-AreKept : (tables : Tables) (names : List Name) (history : History) → AreKept tables names → StandsFor tables history → are_created history names ≡ true
 are_created-AreKept tables names history kept stands =
     (λ i. list_all (λ name. same_tables tables history kept.history stands kept.stands name i) names) ∙ kept.created
 
@@ -49,7 +49,7 @@ first_schema None others schemas is rest = absurd cc
 first_schema (Some schema) others schemas is rest = λ i. Some schema ∷ rest i
 
 -- tables that are created have their schemas
-schemas_are : (history : History) (names : List Name) → are_created history names ≡ true → map (schema_at history) names ≡ map Some (schemas_at history names)
+pub schemas_are : (history : History) (names : List Name) → are_created history names ≡ true → map (schema_at history) names ≡ map Some (schemas_at history names)
 schemas_are history [] all = refl
 schemas_are history (name ∷ names) all =
     let both = and_parts (is_some (schema_at history name)) (are_created history names) all in

@@ -5,3 +5,4 @@ mod answers;
 mod asked;
 
 pub use answers::answer;
+pub use asked::{schemas_of, sets_of};

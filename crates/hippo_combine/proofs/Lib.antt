@@ -1,6 +1,6 @@
 mod HeldLemmas
 pub mod UnreadLemmas
 mod BringingLemmas
-mod PastLemmas
+pub mod PastLemmas
 mod SharingLemmas
 mod ExaminingLemmas

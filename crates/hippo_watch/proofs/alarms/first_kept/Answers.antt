@@ -1,0 +1,28 @@
+-- What is there is that of the history, and the same on both sides.
+use Rattle.std.proofs.Common.{List, Option}
+use Rattle.std.proofs.lemmas.Result.{IfOk-weaker}
+use Rattle.hippo_model.specs.declared.audit.SharedRow.{SharedRow}
+use Rattle.hippo_typing.specs.Meanings.{meaning}
+use Rattle.hippo_answering.specs.States.{context_of}
+use Rattle.hippo_examining.specs.Examining.{ServesFirst}
+use Rattle.hippo_watch.specs.Alarms.{ServesNow}
+use Rattle.hippo_watch.proofs.AlarmLemmas.{rows_same, those_of}
+use Rattle.hippo_watch.proofs.alarms.first_kept.Goals as goal
+
+pub shared_of-requires-clause-rows : goal.shared_of-requires-clause-rows
+shared_of-requires-clause-rows c =
+    rows_same c.args.tables.now c.args.query.now.tables c.args.audit.now.tables c.in_ok-query_sets.query_sets c.in_ok-audit_sets.audit_sets
+    c.requires.query c.requires.audit c.in_ok-query_sets.ensures.rows c.in_ok-audit_sets.ensures.rows
+
+pub returns : goal.returns
+returns c =
+    IfOk-weaker c.shared_of.result
+    (λ (found : Option (List SharedRow)). ServesFirst c.args.query.now c.args.audit.now c.in_ok-rules.rules c.in_ok-query_sets.query_sets c.in_ok-audit_sets.audit_sets _ found)
+    (ServesNow c.args.past.now c.args.tables.now c.args.moment c.args.pair.now c.args.query.now c.args.audit.now)
+    (λ found serves history present its names created.
+    serves meaning history (context_of c.args.pair.now c.args.moment)
+    (those_of c.args.past.now c.args.tables.now c.args.query.now c.args.audit.now c.in_ok-query_sets.query_sets c.in_ok-audit_sets.audit_sets
+    c.requires.query c.requires.audit c.in_ok-query_sets.ensures.rows c.in_ok-audit_sets.ensures.rows history present its names (context_of c.args.pair.now c.args.moment)
+    c.in_ok-schemas.schemas (c.in_ok-schemas.ensures history present.tables_are)
+    c.in_ok-rules.rules (c.in_ok-rules.ensures history present.past_is.book) _ (c.choices_at-choices.ensures history present.past_is.book)))
+    c.shared_of.ensures

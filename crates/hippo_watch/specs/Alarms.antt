@@ -1,0 +1,60 @@
+-- What an audit shares with a question that is asked now.
+use Rattle.std.specs.Prelude.{◌≡◌, ◌+◌, true, List, length, Option, Some}
+use Rattle.hippo_values.specs.Texts.{Txt}
+use Rattle.hippo_values.specs.declared.moments.Moment.{Moment}
+use Rattle.hippo_values.specs.declared.names.Name.{Name}
+use Rattle.hippo_model.specs.declared.audit.Audit.{Audit}
+use Rattle.hippo_model.specs.declared.audit.Pair.{Pair}
+use Rattle.hippo_model.specs.declared.audit.SharedRow.{SharedRow}
+use Rattle.hippo_model.specs.declared.entry.Act.TheVariants.{Asked}
+use Rattle.hippo_model.specs.declared.entry.Entry.{Entry}
+use Rattle.hippo_model.specs.declared.query.Query.{Query}
+use Rattle.hippo_model.specs.Columns.{names_all}
+use Rattle.hippo_model.specs.Terms.{History}
+use Rattle.hippo_model.specs.Audits.{shared}
+use Rattle.hippo_tables.specs.declared.tables.Tables.{Tables}
+use Rattle.hippo_tables.specs.Standing.{StandsFor}
+use Rattle.hippo_typing.specs.Meanings.{meaning}
+use Rattle.hippo_answering.specs.States.{are_created, context_of}
+use Rattle.hippo_audit_job.specs.declared.past.Past.{Past}
+use Rattle.hippo_audit_job.specs.Examining.{IsPastOf, IsAuditOf, first_serving}
+
+-- tables are those of some history
+pub record AreOfSome (tables : Tables) : Type 0 where
+  pub history : History
+  pub stands : StandsFor tables history
+
+-- names, policy, length and tables are those of a valid history
+pub record IsPresentOf (past : Past) (tables : Tables) (history : History) : Type 0 where
+  pub past_is : IsPastOf past history
+  pub tables_are : StandsFor tables history
+
+-- a question as the next entry
+abbrev pub asked_next : History → Moment → Name → Pair → Txt → Entry
+asked_next history moment user pair text = record {
+  seq = length history + 1;
+  moment = moment;
+  act = Asked user pair.purpose pair.recipient text;
+}
+
+-- the first virtual tuple that serves is found, of a query that names each audited column and whose tables are created
+abbrev pub ServesNow : Past → Tables → Moment → Pair → Query → Audit → Option (List SharedRow) → Type 0
+ServesNow past tables moment pair query audit found =
+    (history : History) → IsPresentOf past tables history → IsAuditOf history audit → names_all query audit ≡ true
+    → are_created history query.tables ≡ true
+    → found ≡ first_serving history (context_of pair moment) query audit
+
+-- an entry is a question that is asked next, and its text means this query
+pub record IsAskedNext (past : Past) (tables : Tables) (moment : Moment) (pair : Pair) (query : Query)
+    (history : History) (entry : Entry) : Type 0 where
+  pub present : IsPresentOf past tables history
+  pub user : Name
+  pub text : Txt
+  pub means : meaning history text ≡ Some query
+  pub is : entry ≡ asked_next history moment user pair text
+
+-- what an audit shares with each question that is asked next and means this query
+abbrev pub SharesNext : Past → Tables → Moment → Pair → Query → Audit → Option (List SharedRow) → Type 0
+SharesNext past tables moment pair query audit found =
+    (history : History) (entry : Entry) → IsAskedNext past tables moment pair query history entry
+    → IsAuditOf history audit → found ≡ shared meaning history audit entry
