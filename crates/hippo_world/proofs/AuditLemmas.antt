@@ -1,6 +1,6 @@
 -- Jobs and watches that are held of a history: when an entry is added, where nothing is held, and when one is put there.
 use Rattle.std.proofs.Common.{◌≡◌, ◌∙◌, sym, ap, subst, refl, ℕ, zero, suc, List, [], ◌∷◌, ◌++◌, map, length, Option, None, Some, true}
-use Rattle.std.specs.Prelude.{IfSome, option_map, filter_map, slice_set}
+use Rattle.std.specs.Prelude.{IfSome, option_map, slice_set}
 use Rattle.std.specs.List.{AllByRecursion}
 use Rattle.std.proofs.lemmas.List.Elements.{filter_map-append}
 use Rattle.hippo_values.specs.Limits.{job_limit, watch_limit}
@@ -12,13 +12,13 @@ use Rattle.hippo_model.specs.Validity.{is_valid}
 use Rattle.hippo_report.specs.declared.format.Format.{Format}
 use Rattle.hippo_typing.specs.Meanings.{meaning}
 use Rattle.hippo_audit_job.specs.Examining.{IsAuditOf}
-use Rattle.hippo_audit_job.specs.Jobs.{OpenAudit, open_audit}
+use Rattle.hippo_audit_job.specs.Jobs.{open_audit}
 use Rattle.hippo_audit_job.proofs.JobLemmas.{IsAuditOf-longer, IsSound-new, JobFits-new, JobFits-grown}
 use Rattle.hippo_combine.specs.Combining.{combine_terms}
 use Rattle.hippo_world.specs.declared.worlds.World.{World as HeldWorld}
 use Rattle.hippo_world.specs.Auditing.{HeldJob, taken_by, HasBegun, LooksAt, AreLooking, AreWatching, all_handed}
 use Rattle.hippo_world.specs.Holding.{world_of, KeepsAudits, JobsFit, WatchesFit, taken_of}
-use Rattle.hippo_world.specs.Worlds.{World, at_number, with_at, none_held, opening}
+use Rattle.hippo_world.specs.Worlds.{World, with_at, none_held, opening}
 use Rattle.hippo_world.proofs.HeldLemmas.{StandsAt}
 
 module _ {A : Type 0} (P Q : A → Type 0) where

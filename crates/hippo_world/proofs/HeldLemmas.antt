@@ -1,5 +1,5 @@
 -- What is held at numbers, seen through a function; and what stands before and behind a number.
-use Rattle.std.proofs.Common.{◌≡◌, ◌∙◌, ℕ, zero, suc, ◌+◌, List, [], ◌∷◌, ◌++◌, map, filter_map, replicate, Option, Some, None, slice_get, slice_set, unwrap_or, get_or, cond, true, refl, sym, ap, subst, arith}
+use Rattle.std.proofs.Common.{◌≡◌, ◌∙◌, ℕ, zero, suc, ◌+◌, List, [], ◌∷◌, ◌++◌, map, Option, Some, None, slice_get, slice_set, unwrap_or, get_or, cond, true, refl, ap, subst, arith}
 use Rattle.std.specs.Prelude.{option_map, is_none, nat_lt, position}
 use Rattle.std.specs.List.{position_or_len}
 use Rattle.std.proofs.lemmas.List.{length-map}
