@@ -3,7 +3,7 @@ use Rattle.std.proofs.Common.{◌≡◌, ◌+◌, ◌≤◌, ◌<◌, ◌^◌, �
 use Rattle.std.proofs.lemmas.Fmt.{length-decimal-le}
 use Rattle.hippo_values.specs.Texts.{Txt}
 use Rattle.hippo_values.specs.Dates.{day_text, time_text, moment_text}
-use Rattle.hippo_report.specs.declared.refusal.Refusal.TheVariants.{MomentBack, NoSession, SessionsOnly, NoCursor, Memory, NotBuilt}
+use Rattle.hippo_report.specs.declared.refusal.Refusal.TheVariants.{MomentBack, NoSession, SessionsOnly, ConsoleOnly, NoCursor, NoWatch, Memory, NotBuilt}
 use Rattle.hippo_report.specs.Notices.{done_line, number_line}
 use Rattle.hippo_report.specs.Refusals.{who_text, said_of, refusal_line}
 use Rattle.hippo_engine.specs.Carrying.{reply_room}
@@ -60,6 +60,12 @@ sessions_only_fits who is = plain_fits who (codes "25 SessionsOnly") is (omega a
 
 pub no_cursor_fits : (who : Option ℕ) (number : ℕ) → IsSomebody who → number < 2 ^ 64 → length (refusal_line who (NoCursor number)) ≤ reply_room
 no_cursor_fits who number is small = naming_fits who (codes "53 NoCursor") (decimal number) is (omega arith) (length-decimal_word number small)
+
+pub console_only_fits : (who : Option ℕ) → IsSomebody who → length (refusal_line who ConsoleOnly) ≤ reply_room
+console_only_fits who is = plain_fits who (codes "24 ConsoleOnly") is (omega arith)
+
+pub no_watch_fits : (who : Option ℕ) (number : ℕ) → IsSomebody who → number < 2 ^ 64 → length (refusal_line who (NoWatch number)) ≤ reply_room
+no_watch_fits who number is small = naming_fits who (codes "64 NoWatch") (decimal number) is (omega arith) (length-decimal_word number small)
 
 pub moment_back_fits : (who : Option ℕ) (moment : ℤ) → IsSomebody who → length (refusal_line who (MomentBack moment)) ≤ reply_room
 moment_back_fits who moment is =

@@ -14,3 +14,4 @@ mod QuestionLemmas
 mod LookingLemmas
 mod ExplainingLemmas
 mod AuditingLemmas
+mod WatchLemmas

@@ -18,11 +18,11 @@ use Rattle.hippo_catalog.specs.ChangesRefused.{change_refused}
 use Rattle.hippo_catalog.specs.ChangesWanted.{wanted_by}
 use Rattle.hippo_tables.specs.Finished.{finished}
 use Rattle.hippo_report.specs.declared.refusal.Refusal.{Refusal}
-use Rattle.hippo_report.specs.declared.refusal.Refusal.TheVariants.{Memory, BadSyntax, NoCursor, NoSuchQuery, MomentBack}
+use Rattle.hippo_report.specs.declared.refusal.Refusal.TheVariants.{Memory, BadSyntax, NoCursor, NoSuchQuery, NoWatch, WatchLimit, MomentBack}
 use Rattle.hippo_report.specs.Refusals.{refusal_line}
 use Rattle.hippo_world.specs.declared.cursors.Cursor.{Cursor as HeldCursor}
 use Rattle.hippo_world.specs.declared.sessions.Session.{Session}
-use Rattle.hippo_world.specs.Worlds.{World, at_number}
+use Rattle.hippo_world.specs.Worlds.{World, at_number, free_number}
 use Rattle.hippo_lines.specs.Forms.{logs_in, logs_out, fetches, closes, steps, drops, unwatches, loads}
 use Rattle.hippo_commands.specs.Commands.{Command, nothing, wrong, ask, state, who_commands, takes_memory}
 use Rattle.hippo_commands.specs.Commands as commands
@@ -114,7 +114,9 @@ stepless history world (ask number (fetches cursor count)) = fetch world number 
 stepless history world (ask number (closes cursor)) = close world number cursor
 stepless history world (ask number (steps job count)) = tt
 stepless history world (ask number (drops job)) = tt
-stepless history world (ask number (unwatches watch)) = tt
+stepless history world (ask number (unwatches watch)) =
+    check {A = Unit {0}} (by_console number) (λ console. ok_or (at_number world.watches watch) (NoWatch watch) >>= λ audit. Ok (deeds.end_watch watch))
+    (λ console. check {A = Audit} (ok_or (at_number world.watches watch) (NoWatch watch)) (λ audit. Ok (deeds.end_watch watch)) (λ audit. tt))
 stepless history world (ask number (loads table text)) = load history world number table text
 stepless history world (state number (stmt.Select written start end) text) =
     question history world Rows number written (text_between text start end)
@@ -128,7 +130,9 @@ stepless history world (state number (stmt.Explain question) text) =
 stepless history world (state number (stmt.Audit written) text) =
     check {A = Audit} (audit_in history number written) (λ audit. Ok (deeds.audit audit)) (λ audit. tt)
 stepless history world (state number (stmt.BeginAudit audit) text) = tt
-stepless history world (state number (stmt.Watch audit) text) = tt
+stepless history world (state number (stmt.Watch written) text) =
+    check {A = Audit} (audit_in history number written) (λ audit. ok_or (free_number world.watches) WatchLimit >>= λ free. Ok (deeds.watch free audit))
+    (λ audit. check {A = ℕ} (ok_or (free_number world.watches) WatchLimit) (λ free. Ok (deeds.watch free audit)) (λ free. tt))
 stepless history world (state number statement text) = change history world number statement
 
 short_of : (history : History) (world : World) (reply : Txt) (judgement : Checked Deed) → Stepless judgement → IsShort history world reply judgement (only_reply world reply)

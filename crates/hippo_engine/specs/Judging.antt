@@ -202,13 +202,11 @@ judged_statement history world number statement text = judged_change history wor
 -- what is carried out so far
 abbrev pub is_statement_built : Stmt → Bool
 is_statement_built (stmt.BeginAudit audit) = false
-is_statement_built (stmt.Watch audit) = false
 is_statement_built statement = true
 
 abbrev pub is_request_built : Request → Bool
 is_request_built (steps job count) = false
 is_request_built (drops job) = false
-is_request_built (unwatches watch) = false
 is_request_built request = true
 
 abbrev pub is_built : Command → Bool

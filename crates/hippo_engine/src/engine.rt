@@ -134,8 +134,12 @@ impl Engine {
             }
             Stmt::Explain(number) => self.explain(alloc, keeper, session, number, steps),
             Stmt::Audit(written) => self.audit(alloc, keeper, session, written, steps),
-            Stmt::BeginAudit(_) | Stmt::Watch(_) => {
+            Stmt::BeginAudit(_) => {
                 self.refuse_unbuilt(session, statement);
+                Ok(())
+            }
+            Stmt::Watch(written) => {
+                self.watch(alloc, session, written);
                 Ok(())
             }
             _ => self.change(alloc, keeper, session, statement),

@@ -142,7 +142,7 @@ impl Engine {
             RequestForm::Close { cursor } => self.close(session, cursor),
             RequestForm::Step { .. } => self.refuse_unbuilt_request(session),
             RequestForm::Drop { .. } => self.refuse_unbuilt_request(session),
-            RequestForm::Unwatch { .. } => self.refuse_unbuilt_request(session),
+            RequestForm::Unwatch { watch } => self.unwatch(session, watch),
             RequestForm::Load {
                 table,
                 record: text,
