@@ -45,12 +45,12 @@ use Rattle.hippo_report.specs.declared.refusal.Refusal.TheVariants as refusals
 use Rattle.hippo_report.specs.Flags.{flag_line}
 use Rattle.hippo_report.specs.Refusals.{refusal_line}
 use Rattle.hippo_world.specs.Worlds.{World}
-use Rattle.hippo_world.specs.Holding.{world_of, JobsFit, taken_of}
+use Rattle.hippo_world.specs.Holding.{world_of, JobsFit, taken_of, WatchesFit}
 use Rattle.hippo_engine.specs.declared.engine.Engine.{Engine}
 use Rattle.hippo_engine.specs.declared.faults.EngineFault.{EngineFault}
 use Rattle.hippo_engine.specs.declared.faults.EngineFault.TheVariants as engine
 use Rattle.hippo_engine.specs.Auditing.{HasFlags, FindsFlags, ended, told_flags, TellsFlags}
-use Rattle.hippo_engine.specs.Carrying.{WatchesStand, AtWork, as_call, is_carried, Carries}
+use Rattle.hippo_engine.specs.Carrying.{AtWork, as_call, is_carried, Carries}
 use Rattle.hippo_engine.specs.Changing.{IsRefused}
 use Rattle.hippo_engine.specs.Checks.{Checked, Finds, ◌>>=◌, by_console, meant}
 use Rattle.hippo_engine.specs.Deeds.{Deed}
@@ -216,7 +216,7 @@ Carries-audited text written audit session result old new before after steps ste
           (either history is done.flags_are fine (carried_said tells.found (IsSaid old.world.format tells.found new.reply) fine
           (subst (λ (r : Result (Unit {0}) EngineFault). OnOk r (IsSaid old.world.format tells.found new.reply)) tells.ended_so tells.said)));
       jobs = subst (JobsFit history) (sym same_world) holds.jobs;
-      watches = subst (WatchesStand history) (sym same_world) holds.watches;
+      watches = subst (WatchesFit history) (sym same_world) holds.watches;
       counts = at_once refl done.few (ap taken_of same_world);
       refused = λ refusal refuses others. absurd (unrefused history world text written audit is refusal refuses);
       adds = adds_none history world text written audit is;

@@ -21,8 +21,8 @@ use Rattle.hippo_world.specs.declared.worlds.World.{World as HeldWorld}
 use Rattle.hippo_world.specs.Worlds.{World, opening}
 use Rattle.hippo_report.specs.declared.format.Format.{Format}
 use Rattle.hippo_values.specs.declared.moments.Moment.{Moment}
-use Rattle.hippo_world.specs.Holding.{world_of, KeepsAudits, JobsFit}
-use Rattle.hippo_world.proofs.AuditLemmas.{WatchesFit-more, JobsFit-opening, WatchesFit-opening, none_watched, JobsFit-same, WatchesFit-same, taken_of-same}
+use Rattle.hippo_world.specs.Holding.{world_of, KeepsAudits, JobsFit, WatchesFit}
+use Rattle.hippo_world.proofs.AuditLemmas.{JobsFit-opening, WatchesFit-opening, JobsFit-same, WatchesFit-same, taken_of-same}
 use Rattle.hippo_commands.specs.Commands.{Command, nothing, wrong, ask, state, who_commands, may_want, IsCommand}
 use Rattle.hippo_commands.specs.Commands as commands
 use Rattle.hippo_engine.specs.declared.engine.Engine.{Engine}
@@ -30,7 +30,7 @@ use Rattle.hippo_engine.specs.declared.faults.EngineFault.{EngineFault}
 use Rattle.hippo_engine.specs.declared.faults.EngineFault.TheVariants.{Keeper, Write, Damaged}
 use Rattle.hippo_engine.specs.Effects.{Effect, only_reply, IsEffect, may_do_nothing}
 use Rattle.hippo_engine.specs.Ledgers.{Tallies, none_taken, at_once, job_begun, job_stepped, job_dropped}
-use Rattle.hippo_engine.specs.Carrying.{WatchesStand, Holds, AtWork, IsBacked, is_carried, shown, IsOfLine, IsQuiet, AddsNothing, BreaksOff, Carries}
+use Rattle.hippo_engine.specs.Carrying.{Holds, AtWork, IsBacked, is_carried, shown, IsOfLine, IsQuiet, AddsNothing, BreaksOff, Carries}
 use Rattle.hippo_engine.proofs.ShortLemmas.{short}
 
 -- the state of an engine that is at work is backed by its keeper
@@ -43,15 +43,6 @@ IsBacked-of engine keeper at_work = record {
       record { history = holds.0; forms = holds.1.forms; stands = holds.1.stands };
 }
 
--- watches that stand for a history stand for it with an entry behind
-pub WatchesStand-more : (history : History) (entry : Entry) (held : HeldWorld) → is_valid meaning (history ++ entry ∷ []) ≡ true → WatchesStand history held
-    → WatchesStand (history ++ entry ∷ []) held
-WatchesStand-more history entry held valid stand = record { fit = WatchesFit-more history entry valid held stand.fit; none = stand.none }
-
--- and where they are the same
-pub WatchesStand-same : (history : History) (old new : HeldWorld) → KeepsAudits old new → WatchesStand history old → WatchesStand history new
-WatchesStand-same history old new keeps stand = record { fit = WatchesFit-same history old new keeps stand.fit; none = keeps.watches ∙ stand.none }
-
 -- an engine with the state of a history that is kept holds it where a run begins
 pub Holds-opening : (history : History) (held : State) (engine : Engine) (keeper : KeeperState) (clock : Moment) (limit : ℕ) (format : Format) → engine.state ≡ held
     → StandsFor held history → map stored history ≡ keeper.kept → world_of engine.world ≡ opening clock limit format → Holds history engine keeper
@@ -59,10 +50,7 @@ Holds-opening history held engine keeper clock limit format same stands forms op
   forms = forms;
   stands = subst (λ (state : State). StandsFor state history) (sym same) stands;
   jobs = JobsFit-opening engine.world clock limit format opens history;
-  watches = record {
-    fit = WatchesFit-opening engine.world clock limit format opens history;
-    none = none_watched engine.world clock limit format opens;
-  };
+  watches = WatchesFit-opening engine.world clock limit format opens history;
 }
 
 -- a command that leaves jobs and watches alone
@@ -71,13 +59,13 @@ AddsNothing-quiet command old new quiet = record {
   same = quiet.same;
   effect = quiet.effect;
   jobs = λ history stands fit. JobsFit-same history old.world new.world quiet.audits fit;
-  watches = λ history stands stand. WatchesStand-same history old.world new.world quiet.audits stand;
+  watches = λ history stands stand. WatchesFit-same history old.world new.world quiet.audits stand;
   counts = λ versions steps. none_taken refl (taken_of-same old.world new.world quiet.audits);
 }
 
 -- nothing was added
 pub Holds-same : (history : History) (old new : Engine) (before after : KeeperState) → Holds history old before
-    → StandsFor new.state history → JobsFit history new.world → WatchesStand history new.world → KeepsSame before after
+    → StandsFor new.state history → JobsFit history new.world → WatchesFit history new.world → KeepsSame before after
     → Holds (history ++ []) new after
 Holds-same history old new before after holds stands jobs watches keeps =
     subst (λ (h : History). Holds h new after) (sym (append-nil history))
@@ -85,7 +73,7 @@ Holds-same history old new before after holds stands jobs watches keeps =
 
 -- an entry was added
 pub Holds-more : (history : History) (entry : Entry) (old new : Engine) (before after : KeeperState) → Holds history old before
-    → StandsFor new.state (history ++ entry ∷ []) → JobsFit (history ++ entry ∷ []) new.world → WatchesStand (history ++ entry ∷ []) new.world
+    → StandsFor new.state (history ++ entry ∷ []) → JobsFit (history ++ entry ∷ []) new.world → WatchesFit (history ++ entry ∷ []) new.world
     → HasKept (entry ∷ []) before after → Holds (history ++ entry ∷ []) new after
 Holds-more history entry old new before after holds stands jobs watches kept = record {
   forms = map-append stored history (entry ∷ []) ∙ ap (λ front. front ++ stored entry ∷ []) holds.forms ∙ sym kept.0;

@@ -22,13 +22,13 @@ use Rattle.hippo_report.specs.Notices.{number_line}
 use Rattle.hippo_report.specs.Refusals.{refusal_line}
 use Rattle.hippo_world.specs.declared.worlds.World.{World as HeldWorld}
 use Rattle.hippo_world.specs.Worlds.{World}
-use Rattle.hippo_world.specs.Holding.{world_of, JobsFit, taken_of}
-use Rattle.hippo_world.proofs.AuditLemmas.{JobsFit-more}
+use Rattle.hippo_world.specs.Holding.{world_of, JobsFit, taken_of, WatchesFit}
+use Rattle.hippo_world.proofs.AuditLemmas.{JobsFit-more, WatchesFit-more}
 use Rattle.hippo_commands.specs.Commands.{Command, state, who_commands}
 use Rattle.hippo_engine.specs.declared.engine.Engine.{Engine}
 use Rattle.hippo_engine.specs.declared.faults.EngineFault.{EngineFault}
 use Rattle.hippo_engine.specs.declared.faults.EngineFault.TheVariants.{Keeper}
-use Rattle.hippo_engine.specs.Carrying.{WatchesStand, IsQuiet, Carries}
+use Rattle.hippo_engine.specs.Carrying.{IsQuiet, Carries}
 use Rattle.hippo_engine.specs.Changing.{IsChange, FindsChange, Changes, IsRefused, changed}
 use Rattle.hippo_engine.specs.Checks.{Refuses, Checked, ◌>>=◌}
 use Rattle.hippo_engine.specs.Deeds.{Deed}
@@ -36,7 +36,7 @@ use Rattle.hippo_engine.specs.Deeds as deeds
 use Rattle.hippo_engine.specs.Effects.{Effect, only_reply, done, effect_of, carried_out, next_entry, IsEffect}
 use Rattle.hippo_engine.specs.Judging.{judged, judged_change}
 use Rattle.hippo_engine.specs.Ledgers.{none_taken}
-use Rattle.hippo_engine.proofs.CarryingLemmas.{WatchesStand-more, Holds-same, Holds-more}
+use Rattle.hippo_engine.proofs.CarryingLemmas.{Holds-same, Holds-more}
 use Rattle.hippo_engine.proofs.ShortLemmas.{short, refused}
 
 -- what a statement means is what is asked for
@@ -174,7 +174,7 @@ module _ (command : Command) (entry : Entry) (old new : Engine) (before after : 
       world = ap world_of world_is;
       holds = Holds-more history entry old new before after holds (records.ok history holds.stands)
           (JobsFit-more history entry (records.ok history holds.stands).valid new.world (subst (JobsFit history) (sym world_is) holds.jobs))
-          (WatchesStand-more history entry new.world (records.ok history holds.stands).valid (subst (WatchesStand history) (sym world_is) holds.watches)) (records.keeps.kept tells);
+          (WatchesFit-more history entry (records.ok history holds.stands).valid new.world (subst (WatchesFit history) (sym world_is) holds.watches)) (records.keeps.kept tells);
       kept = records.keeps.kept tells;
       counts = λ ample. none_taken refl (ap taken_of world_is);
       refused = λ refusal is others. refl;
@@ -199,7 +199,7 @@ module _ (command : Command) (entry : Entry) (old new : Engine) (before after : 
       reply = reply_is;
       world = ap world_of world_is;
       holds = Holds-same history old new before after holds (records.memory refl history holds.stands)
-          (subst (JobsFit history) (sym world_is) holds.jobs) (subst (WatchesStand history) (sym world_is) holds.watches) (records.keeps.same refl tells);
+          (subst (JobsFit history) (sym world_is) holds.jobs) (subst (WatchesFit history) (sym world_is) holds.watches) (records.keeps.same refl tells);
       kept = records.keeps.same refl tells;
       counts = λ ample. none_taken refl (ap taken_of world_is);
       refused = λ refusal is others. refl;

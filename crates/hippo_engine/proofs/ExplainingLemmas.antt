@@ -45,7 +45,7 @@ use Rattle.hippo_report.specs.declared.refusal.Refusal.{Refusal}
 use Rattle.hippo_report.specs.declared.refusal.Refusal.TheVariants as refusals
 use Rattle.hippo_report.specs.Refusals.{refusal_line}
 use Rattle.hippo_world.specs.Worlds.{World}
-use Rattle.hippo_world.specs.Holding.{world_of, JobsFit, taken_of}
+use Rattle.hippo_world.specs.Holding.{world_of, JobsFit, taken_of, WatchesFit}
 use Rattle.hippo_commands.specs.Commands.{Command, state}
 use Rattle.hippo_engine.specs.declared.engine.Engine.{Engine}
 use Rattle.hippo_engine.specs.declared.explaining.ExplainFault.TheVariants.{NoQuestion, Denials}
@@ -58,7 +58,7 @@ use Rattle.hippo_engine.specs.Changing.{IsRefused}
 use Rattle.hippo_engine.specs.Effects.{Effect, row_limit, only_reply, carried_out, effect_of, explained, listed, denial_line, IsEffect}
 use Rattle.hippo_engine.specs.Judging.{judged}
 use Rattle.hippo_engine.specs.Ledgers.{at_once}
-use Rattle.hippo_engine.specs.Carrying.{WatchesStand, AtWork, as_call, is_carried, Carries}
+use Rattle.hippo_engine.specs.Carrying.{AtWork, as_call, is_carried, Carries}
 use Rattle.hippo_engine.specs.Explaining.{number_in, IsFormOf, IsRead, HasRead, ReadsEntry, Explained, AreDenied, IsFound, HasExplained, ExplainsEntry, Explains, explained_line, ended, TellsCells}
 use Rattle.hippo_engine.specs.Explaining as explaining
 use Rattle.hippo_engine.proofs.LookingLemmas.{Carries-looked}
@@ -488,7 +488,7 @@ Carries-explained text number session result old new before after steps steps' c
           subst (λ (w : World). IsEffect history world (state 0 (stmt.Explain number) text) (only_reply w new.reply)) (ap world_of (sym same_world))
           (either history world done.found fine (carried_said tells.found (IsSaid number tells.found new.reply) fine (subst (λ (r : Result (Unit {0}) EngineFault). OnOk r (IsSaid number tells.found new.reply)) tells.ended_so tells.said)));
       jobs = subst (JobsFit history) (sym same_world) holds.jobs;
-      watches = subst (WatchesStand history) (sym same_world) holds.watches;
+      watches = subst (WatchesFit history) (sym same_world) holds.watches;
       counts = at_once refl done.few (ap taken_of same_world);
       refused = λ refusal is others. absurd (only_missing history world text number refusal is others);
       adds = adds_none history world text number;

@@ -3,7 +3,7 @@ use Rattle.std.proofs.Common.{◌≡◌, ◌+◌, ◌≤◌, ◌<◌, ◌^◌, �
 use Rattle.std.proofs.lemmas.Fmt.{length-decimal-le}
 use Rattle.hippo_values.specs.Texts.{Txt}
 use Rattle.hippo_values.specs.Dates.{day_text, time_text, moment_text}
-use Rattle.hippo_report.specs.declared.refusal.Refusal.TheVariants.{MomentBack, NoSession, SessionsOnly, ConsoleOnly, NoCursor, JobLimit, NoJob, Memory, NotBuilt}
+use Rattle.hippo_report.specs.declared.refusal.Refusal.TheVariants.{MomentBack, NoSession, SessionsOnly, ConsoleOnly, NoCursor, JobLimit, NoJob, NoWatch, Memory}
 use Rattle.hippo_report.specs.Notices.{done_line, number_line}
 use Rattle.hippo_report.specs.Refusals.{who_text, said_of, refusal_line}
 use Rattle.hippo_engine.specs.Carrying.{reply_room}
@@ -49,9 +49,6 @@ naming_fits who title detail is short small = omega (arith, length-naming (who_t
 pub memory_fits : (who : Option ℕ) → IsSomebody who → length (refusal_line who Memory) ≤ reply_room
 memory_fits who is = plain_fits who (codes "90 Memory") is (omega arith)
 
-pub not_built_fits : (who : Option ℕ) → IsSomebody who → length (refusal_line who NotBuilt) ≤ reply_room
-not_built_fits who is = plain_fits who (codes "99 NotBuilt") is (omega arith)
-
 pub no_session_fits : (who : Option ℕ) → IsSomebody who → length (refusal_line who NoSession) ≤ reply_room
 no_session_fits who is = plain_fits who (codes "20 NoSession") is (omega arith)
 
@@ -69,6 +66,8 @@ job_limit_fits who is = plain_fits who (codes "54 JobLimit") is (omega arith)
 
 pub no_job_fits : (who : Option ℕ) (number : ℕ) → IsSomebody who → number < 2 ^ 64 → length (refusal_line who (NoJob number)) ≤ reply_room
 no_job_fits who number is small = naming_fits who (codes "55 NoJob") (decimal number) is (omega arith) (length-decimal_word number small)
+pub no_watch_fits : (who : Option ℕ) (number : ℕ) → IsSomebody who → number < 2 ^ 64 → length (refusal_line who (NoWatch number)) ≤ reply_room
+no_watch_fits who number is small = naming_fits who (codes "64 NoWatch") (decimal number) is (omega arith) (length-decimal_word number small)
 
 pub moment_back_fits : (who : Option ℕ) (moment : ℤ) → IsSomebody who → length (refusal_line who (MomentBack moment)) ≤ reply_room
 moment_back_fits who moment is =

@@ -15,3 +15,4 @@ mod LookingLemmas
 mod ExplainingLemmas
 mod AuditingLemmas
 mod JobLemmas
+mod WatchLemmas

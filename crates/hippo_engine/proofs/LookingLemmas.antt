@@ -10,7 +10,7 @@ use Rattle.hippo_replay.specs.Loading.{KeepsSame}
 use Rattle.hippo_replay.specs.Standing.{StandsFor, IsSound}
 use Rattle.hippo_report.specs.declared.refusal.Refusal.{Refusal}
 use Rattle.hippo_report.specs.declared.refusal.Refusal.TheVariants.{NoSuchQuery}
-use Rattle.hippo_world.specs.Holding.{world_of, JobsFit, taken_of}
+use Rattle.hippo_world.specs.Holding.{world_of, JobsFit, taken_of, WatchesFit}
 use Rattle.hippo_commands.specs.Commands.{Command}
 use Rattle.hippo_engine.specs.declared.engine.Engine.{Engine}
 use Rattle.hippo_engine.specs.declared.faults.EngineFault.{EngineFault}
@@ -18,7 +18,7 @@ use Rattle.hippo_engine.specs.declared.faults.EngineFault.TheVariants.{Damaged}
 use Rattle.hippo_engine.specs.Judging.{judged}
 use Rattle.hippo_engine.specs.Effects.{effect_of, IsEffect}
 use Rattle.hippo_engine.specs.Ledgers.{reads_kept, Tallies}
-use Rattle.hippo_engine.specs.Carrying.{WatchesStand, Holds, AtWork, as_call, is_carried, shown, Carries}
+use Rattle.hippo_engine.specs.Carrying.{Holds, AtWork, as_call, is_carried, shown, Carries}
 use Rattle.hippo_engine.proofs.CarryingLemmas.{Holds-same}
 
 -- what is kept is the same, as both say it
@@ -29,7 +29,7 @@ KeepsSame-read before after keeps = record { same = keeps.same; stop = keeps.sto
 pub record HasLooked (history : History) (command : Command) (result : Result (Unit {0}) EngineFault) (old new : Engine) (steps steps' : ℕ) : Type 0 where
   pub effect : is_carried result ≡ true → IsEffect history (world_of old.world) command (shown new)
   pub jobs : JobsFit history new.world
-  pub watches : WatchesStand history new.world
+  pub watches : WatchesFit history new.world
   pub counts : Tallies command (versions history) steps steps' (taken_of old.world) (taken_of new.world)
   pub refused : (refusal : Refusal) → judged history (world_of old.world) command ≡ Err refusal → ((number : ℤ) → refusal ≢ NoSuchQuery number) → steps' ≡ steps
   pub adds : (effect_of history (world_of old.world) command).added ≡ []

@@ -1,5 +1,5 @@
 -- From keeping and answering a question to what carrying out its command does.
-use Rattle.std.proofs.Common.{◌≡◌, ◌⊎◌, ◌∙◌, ◌+◌, inl, inr, refl, sym, ap, subst, ℕ, Bool, true, false, List, [], ◌∷◌, ◌++◌, Option, Some, None, Result, Ok, Err, length, append-nil}
+use Rattle.std.proofs.Common.{◌≡◌, ◌⊎◌, ◌∙◌, ◌+◌, inl, inr, refl, sym, ap, subst, ℕ, Bool, true, false, List, [], ◌∷◌, ◌++◌, Option, Some, None, Result, Ok, Err, length, append-nil, IfOk}
 use Rattle.std.specs.Prelude.{◌==◌, ok_or}
 use Rattle.std.proofs.lemmas.Bool.{false≢true}
 use Rattle.hippo_values.specs.Texts.{Txt}
@@ -21,11 +21,10 @@ use Rattle.hippo_replay.proofs.KeeperLemmas.{IsAfterCall-as}
 use Rattle.hippo_replay.proofs.Results.{ok_of, err_of, well}
 use Rattle.hippo_world.specs.declared.sessions.Session.{Session}
 use Rattle.hippo_world.specs.declared.worlds.World.{World as HeldWorld}
-use Rattle.hippo_world.specs.Worlds.{World, session_at, none_held}
-use Rattle.hippo_world.specs.Holding.{world_of, KeepsAudits}
-use Rattle.hippo_world.proofs.AuditLemmas.{JobsFit-more, JobsFit-same, taken_of-same}
-use Rattle.hippo_values.specs.Limits.{watch_limit}
-use Rattle.hippo_model.specs.declared.audit.Audit.{Audit}
+use Rattle.hippo_world.specs.Worlds.{World, session_at}
+use Rattle.hippo_world.specs.Holding.{world_of, KeepsAudits, WatchesFit}
+use Rattle.hippo_values.specs.declared.memory.Memory.{Memory as NoMemory}
+use Rattle.hippo_world.proofs.AuditLemmas.{JobsFit-more, JobsFit-same, taken_of-same, WatchesFit-more, WatchesFit-same}
 use Rattle.hippo_commands.specs.Commands.{Command, state, who_commands}
 use Rattle.hippo_engine.specs.declared.engine.Engine.{Engine}
 use Rattle.hippo_engine.specs.declared.faults.EngineFault.{EngineFault}
@@ -36,12 +35,12 @@ use Rattle.hippo_engine.specs.declared.asking.Delivery.TheVariants as delivered
 use Rattle.hippo_engine.specs.Checks.{Checked, ◌>>=◌, refused_if, open_session}
 use Rattle.hippo_engine.specs.Deeds.{Deed, Question, asked_by}
 use Rattle.hippo_engine.specs.Judging.{deed_for, judged}
-use Rattle.hippo_engine.specs.Effects.{Effect, only_reply, next_entry, row_limit, question_rows, within_limit, alarms, asked, done, effect_of, IsShortAnswer, IsShort, IsEffect, may_do_nothing}
+use Rattle.hippo_engine.specs.Effects.{Effect, only_reply, next_entry, row_limit, question_rows, within_limit, asked, done, effect_of, IsShortAnswer, IsShort, IsEffect, may_do_nothing}
 use Rattle.hippo_engine.specs.Ledgers.{none_taken}
 use Rattle.hippo_engine.specs.Carrying.{Carries}
-use Rattle.hippo_engine.proofs.CarryingLemmas.{WatchesStand-more, WatchesStand-same, Holds-same, Holds-more}
-use Rattle.hippo_engine.specs.Asking.{question_of, deed_asked, entry_of, KeptAnswer, Asks, answer_said, world_left, Replies}
-use Rattle.hippo_engine.specs.Asking as asking
+use Rattle.hippo_engine.proofs.CarryingLemmas.{Holds-same, Holds-more}
+use Rattle.hippo_engine.specs.Asking.{question_of, deed_asked, entry_of, KeptAnswer, Asks, answer_said, world_left, HandsOut, Replies}
+use Rattle.hippo_engine.specs.Watching.{alarms_now}
 use Rattle.hippo_engine.proofs.ShortLemmas.{takes_some, short, refused, done_for}
 
 -- what is kept does not hang on what is answered
@@ -66,10 +65,6 @@ refused_effect history world command refusal reply takes (inl is) (inl said) =
 refused_effect history world command refusal reply takes (inr is) (inl said) =
     subst (λ (r : Txt). IsEffect history world command (only_reply world r)) (sym (said ∙ ap (λ (r : Refusal). refusal_line (who_commands command) r) is)) (short history world command takes)
 
--- there are no watches
-no_alarms : (history : History) (held : HeldWorld) (entry : Entry) → held.watches ≡ none_held watch_limit → alarms history (world_of held) entry ≡ []
-no_alarms history held entry none = ap (λ (watches : List (Option Audit)). alarms history (record (world_of held) { watches = watches }) entry) none
-
 -- the entry of a question is the next one
 next_is : (history : History) (held : State) (world : HeldWorld) (question : Question) → StandsFor held history
     → entry_of held world.clock question ≡ next_entry history (world_of world) (asked_by question)
@@ -87,9 +82,9 @@ record SaysShort (command : Command) (old new : Engine) : Type 0 where
   said : new.reply ≡ refusal_line (who_commands command) Memory
   same : world_of new.world ≡ world_of old.world
 
--- it says what is to be said of these rows
-record SaysSo (new : Engine) (said : List ShownRow → Txt) (left : List ShownRow → World) (rows : List ShownRow) : Type 0 where
-  reply : new.reply ≡ said rows
+-- it says what is to be said of these rows, and behind it what the watches say
+record SaysSo (new : Engine) (said : List ShownRow → Txt) (left : List ShownRow → World) (more : Txt) (rows : List ShownRow) : Type 0 where
+  reply : new.reply ≡ said rows ++ more
   world : world_of new.world ≡ left rows
 
 module _ (command : Command) (deed : Deed) (question : Question) (said : List ShownRow → Txt) (left : List ShownRow → World) (old new : Engine) (before after : KeeperState) (steps : ℕ)
@@ -106,17 +101,15 @@ module _ (command : Command) (deed : Deed) (question : Question) (said : List Sh
   abbrev shown : Effect
   shown = record { reply = new.reply; added = entry ∷ []; world = world_of new.world }
 
-  has_effect : (history : History) → StandsFor old.state history → old.world.watches ≡ none_held watch_limit
-      → SaysSo new said left (question_rows history (world_of old.world) question) ⊎ SaysShort command old new
+  has_effect : (history : History) → StandsFor old.state history
+      → SaysSo new said left (alarms_now history (world_of old.world) question) (question_rows history (world_of old.world) question) ⊎ SaysShort command old new
       → IsEffect history (world_of old.world) command shown
-  has_effect history stands unwatched (inl so) =
+  has_effect history stands (inl so) =
       let rows : List ShownRow = question_rows history (world_of old.world) question in
       let next = next_is history old.state old.world question stands in
-      let reply : new.reply ≡ said rows ++ alarms history (world_of old.world) (next_entry history (world_of old.world) (asked_by question)) =
-      so.reply ∙ sym (append-nil (said rows)) ∙ ap (λ (more : Txt). said rows ++ more) (sym (no_alarms history old.world (next_entry history (world_of old.world) (asked_by question)) unwatched)) in
-      let shown_is : shown ≡ asked history (world_of old.world) question (said rows) (left rows) = λ i. record { reply = reply i; added = next i ∷ []; world = so.world i } in
+      let shown_is : shown ≡ asked history (world_of old.world) question (said rows) (left rows) = λ i. record { reply = so.reply i; added = next i ∷ []; world = so.world i } in
       inl (shown_is ∙ sym (effect_is history stands))
-  has_effect history stands unwatched (inr none) =
+  has_effect history stands (inr none) =
       let line : Txt = refusal_line (who_commands command) Memory in
       let next = next_is history old.state old.world question stands in
       let so : IsShort history (world_of old.world) line (Ok deed) shown = asks.short history line shown (record { said = none.said; kept = inr (λ i. next i ∷ []); same = none.same }) in
@@ -124,7 +117,8 @@ module _ (command : Command) (deed : Deed) (question : Question) (said : List Sh
 
   -- it was kept and answered
   Carries-kept : (answer : Result (List ShownRow) EvalFault) → Asks entry (world_of old.world) question (ok_of KeeperFault answer) old.state new.state before after
-      → ((rows : List ShownRow) → IsAnswered row_limit rows answer → SaysSo new said left rows ⊎ SaysShort command old new)
+      → ((history : History) → StandsFor old.state history → WatchesFit history old.world → (rows : List ShownRow) → IsAnswered row_limit rows answer
+      → SaysSo new said left (alarms_now history (world_of old.world) question) rows ⊎ SaysShort command old new)
       → Carries {A = Unit {0}} command (Ok tt) old new before after steps steps
   Carries-kept answer kept says = record {
     call = IsAfterCall-as true false (ok_of KeeperFault answer) (well KeeperFault) before after refl kept.keeps.call;
@@ -132,12 +126,13 @@ module _ (command : Command) (deed : Deed) (question : Question) (said : List Sh
     idle = λ none. refl;
     carried = λ fine tells history holds. record {
       effect = shown;
-      is = has_effect history holds.stands holds.watches.none (says (question_rows history (world_of old.world) question) (kept.rows history holds.stands));
+      is = has_effect history holds.stands
+          (says history holds.stands holds.watches (question_rows history (world_of old.world) question) (kept.rows history holds.stands));
       reply = refl;
       world = refl;
       holds = Holds-more history entry old new before after holds (kept.added history holds.stands)
           (JobsFit-more history entry (kept.added history holds.stands).valid new.world (JobsFit-same history old.world new.world same_audits holds.jobs))
-          (WatchesStand-more history entry new.world (kept.added history holds.stands).valid (WatchesStand-same history old.world new.world same_audits holds.watches)) (kept.keeps.kept tells);
+          (WatchesFit-more history entry (kept.added history holds.stands).valid new.world (WatchesFit-same history old.world new.world same_audits holds.watches)) (kept.keeps.kept tells);
       kept = kept.keeps.kept tells;
       counts = λ ample. none_taken refl (taken_of-same old.world new.world same_audits);
       refused = λ refusal is others. refl;
@@ -159,7 +154,7 @@ module _ (command : Command) (deed : Deed) (question : Question) (said : List Sh
       reply = none.said;
       world = none.same;
       holds = Holds-same history old new before after holds (subst (λ (held : State). StandsFor held history) (sym kept.same) holds.stands)
-          (JobsFit-same history old.world new.world same_audits holds.jobs) (WatchesStand-same history old.world new.world same_audits holds.watches) (kept.keeps.same refl tells);
+          (JobsFit-same history old.world new.world same_audits holds.jobs) (WatchesFit-same history old.world new.world same_audits holds.watches) (kept.keeps.same refl tells);
       kept = kept.keeps.same refl tells;
       counts = λ ample. none_taken refl (taken_of-same old.world new.world same_audits);
       refused = λ refusal is others. refl;
@@ -215,26 +210,40 @@ module _ (session : ℕ) (statement : Stmt) (text : Txt) (asked_for : Asking) (o
   is_question delivered.Records = record { effect = λ history. refl; short = λ history reply result answer. answer }
   is_question (delivered.Cursor cursor) = record { effect = λ history. refl; short = λ history reply result answer. answer }
 
-  says : session_at (world_of old.world) session ≡ Some asked_for.asker.now → (rows : List ShownRow)
-      → asking.IsHandedOut session asked_for.delivery rows new.reply (world_of old.world) (world_of new.world) ⊎ asking.IsShort session new.reply (world_of old.world) (world_of new.world)
-      → SaysSo new is_said is_left rows ⊎ SaysShort asks_it old new
-  says there rows (inl out) = inl (record { reply = out.said; world = out.left asked_for.asker.now there })
-  says there rows (inr none) = inr (record { said = none.said; same = none.same })
+  says : session_at (world_of old.world) session ≡ Some asked_for.asker.now → (rows : List ShownRow) (alarms : Result Txt NoMemory) (more : Txt) → IfOk alarms (λ said. said ≡ more)
+      → HandsOut session asked_for.delivery rows alarms new.reply (world_of old.world) (world_of new.world)
+      → SaysSo new is_said is_left more rows ⊎ SaysShort asks_it old new
+  says there rows (Ok said) more is (inl out) =
+      inl (record { reply = out.said ∙ ap (λ (behind : Txt). is_said rows ++ behind) is; world = out.left asked_for.asker.now there })
+  says there rows (Ok said) more is (inr none) = inr (record { said = none.said; same = none.same })
+  says there rows (Err fault) more is none = inr (record { said = none.said; same = none.same })
+
+  -- what the watches say, of each history that the state stands for
+  abbrev AreAlarms : Result Txt NoMemory → Type 0
+  AreAlarms alarms =
+      IfOk alarms (λ said. (number : ℕ) (history : History) → StandsFor old.state history → WatchesFit history old.world
+      → said ≡ alarms_now history (world_of old.world) (question_of number asked_for))
+
+  of_history : (alarms : Result Txt NoMemory) → AreAlarms alarms → (history : History) → StandsFor old.state history → WatchesFit history old.world
+      → IfOk alarms (λ said. said ≡ alarms_now history (world_of old.world) question)
+  of_history (Ok said) are history stands fit = are session history stands fit
+  of_history (Err fault) are history stands fit = tt
 
   pub Carries-question : open_session (world_of old.world) session ≡ Ok asked_for.asker.now
       → ((history : History) → StandsFor old.state history → judged history (world_of old.world) asks_it ≡ Ok (deed_asked session asked_for))
       → (kept : KeptAnswer) → Asks (entry_of old.state old.world.clock question) (world_of old.world) question kept old.state new.state before after
-      → (result : Result (Unit {0}) EngineFault) → Replies session asked_for.delivery kept result new.reply (world_of old.world) (world_of new.world)
+      → (alarms : Result Txt NoMemory) → AreAlarms alarms
+      → (result : Result (Unit {0}) EngineFault) → Replies session asked_for.delivery alarms kept result new.reply (world_of old.world) (world_of new.world)
       → Carries asks_it result old new before after steps steps
-  Carries-question there judged_is (Ok answer) asks result replies =
+  Carries-question there judged_is (Ok answer) asks alarms are result replies =
       let at = found_session (session == 0) (session_at (world_of old.world) session) asked_for.asker.now there in
       subst (λ (r : Result (Unit {0}) EngineFault). Carries asks_it r old new before after steps steps) (sym replies.0)
       (Carries-kept asks_it (deed_asked session asked_for) question is_said is_left old new before after steps refl sound same_audits judged_is (is_question asked_for.delivery) answer asks
-      (λ rows answered. says at rows (replies.1 rows answered)))
-  Carries-question there judged_is (Err KeeperMemory) asks result replies =
+      (λ history stands fit rows answered. says at rows alarms (alarms_now history (world_of old.world) question) (of_history alarms are history stands fit) (replies.1 rows answered)))
+  Carries-question there judged_is (Err KeeperMemory) asks alarms are result replies =
       subst (λ (r : Result (Unit {0}) EngineFault). Carries asks_it r old new before after steps steps) (sym replies.0.0)
       (Carries-short asks_it (deed_asked session asked_for) question is_said is_left old new before after steps refl sound same_audits judged_is (is_question asked_for.delivery) asks
       (record { said = replies.0.1; same = replies.1 }))
-  Carries-question there judged_is (Err Failed) asks result replies =
+  Carries-question there judged_is (Err Failed) asks alarms are result replies =
       subst (λ (r : Result (Unit {0}) EngineFault). Carries asks_it r old new before after steps steps) (sym replies.0)
       (Carries-failed asks_it (deed_asked session asked_for) question is_said is_left old new before after steps refl sound same_audits judged_is (is_question asked_for.delivery) asks)

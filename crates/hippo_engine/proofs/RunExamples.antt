@@ -17,7 +17,7 @@ use Rattle.hippo_engine.specs.Effects.{asked}
 use Rattle.hippo_values.specs.Texts.{Txt}
 use Rattle.std.specs.List.{flat_map}
 use Rattle.hippo_report.specs.declared.format.Format.TheVariants as formats
-use Rattle.hippo_report.specs.declared.refusal.Refusal.TheVariants.{NoSession, SessionOpen, NotAuthorized, ConsoleOnly, SessionsOnly, Meaningless, KeyThere, KeyMissing, NoCursor, HistoryFull, MomentBack, BadRecord, BadField, NoJob, NotBuilt}
+use Rattle.hippo_report.specs.declared.refusal.Refusal.TheVariants.{NoSession, SessionOpen, NotAuthorized, ConsoleOnly, SessionsOnly, Meaningless, KeyThere, KeyMissing, NoCursor, HistoryFull, MomentBack, BadRecord, BadField, NoJob}
 use Rattle.hippo_report.specs.Cells.{answer_line}
 use Rattle.hippo_report.specs.Notices.{done_line, number_line}
 use Rattle.hippo_report.specs.Refusals.{refusal_line}
@@ -173,6 +173,5 @@ jobs_that_did_not_begin_are_not_stepped = refl
 jobs_that_did_not_begin_are_not_dropped : reply_after [] (ask 0 (drops 8)) ≡ console_no (NoJob 8)
 jobs_that_did_not_begin_are_not_dropped = refl
 
--- what is not carried out yet comes before who may do it
-watches_are_not_built : reply_after [] (ask 1 (unwatches 1)) ≡ no NotBuilt
-watches_are_not_built = refl
+sessions_end_no_watch : reply_after [] (ask 1 (unwatches 1)) ≡ no ConsoleOnly
+sessions_end_no_watch = refl

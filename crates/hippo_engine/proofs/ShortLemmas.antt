@@ -20,7 +20,7 @@ use Rattle.hippo_catalog.specs.ChangesRefused.{change_refused}
 use Rattle.hippo_catalog.specs.ChangesWanted.{wanted_by}
 use Rattle.hippo_tables.specs.Finished.{finished}
 use Rattle.hippo_report.specs.declared.refusal.Refusal.{Refusal}
-use Rattle.hippo_report.specs.declared.refusal.Refusal.TheVariants.{Memory, BadSyntax, NoCursor, NoSuchQuery, MomentBack, JobLimit, NoJob}
+use Rattle.hippo_report.specs.declared.refusal.Refusal.TheVariants.{Memory, BadSyntax, NoCursor, NoSuchQuery, NoWatch, WatchLimit, MomentBack, JobLimit, NoJob}
 use Rattle.hippo_report.specs.Refusals.{refusal_line}
 use Rattle.hippo_audit_job.specs.Jobs.{OpenAudit}
 use Rattle.hippo_world.specs.declared.cursors.Cursor.{Cursor as HeldCursor}
@@ -128,7 +128,9 @@ stepless history world (ask number (fetches cursor count)) other = fetch world n
 stepless history world (ask number (closes cursor)) other = close world number cursor
 stepless history world (ask number (steps job count)) other = absurd (false≢true (sym other))
 stepless history world (ask number (drops job)) other = dropped world number job
-stepless history world (ask number (unwatches watch)) other = tt
+stepless history world (ask number (unwatches watch)) other =
+    check {A = Unit {0}} (by_console number) (λ console. ok_or (at_number world.watches watch) (NoWatch watch) >>= λ audit. Ok (deeds.end_watch watch))
+    (λ console. check {A = Audit} (ok_or (at_number world.watches watch) (NoWatch watch)) (λ audit. Ok (deeds.end_watch watch)) (λ audit. tt))
 stepless history world (ask number (loads table text)) other = load history world number table text
 stepless history world (state number (stmt.Select written start end) text) other =
     question history world Rows number written (text_between text start end)
@@ -142,7 +144,9 @@ stepless history world (state number (stmt.Explain question) text) other =
 stepless history world (state number (stmt.Audit written) text) other =
     check {A = Audit} (audit_in history number written) (λ audit. Ok (deeds.audit audit)) (λ audit. tt)
 stepless history world (state number (stmt.BeginAudit audit) text) other = begun history world number audit
-stepless history world (state number (stmt.Watch audit) text) other = tt
+stepless history world (state number (stmt.Watch written) text) other =
+    check {A = Audit} (audit_in history number written) (λ audit. ok_or (free_number world.watches) WatchLimit >>= λ free. Ok (deeds.watch free audit))
+    (λ audit. check {A = ℕ} (ok_or (free_number world.watches) WatchLimit) (λ free. Ok (deeds.watch free audit)) (λ free. tt))
 stepless history world (state number statement text) other = change history world number statement
 
 short_of : (history : History) (world : World) (reply : Txt) (judgement : Checked Deed) → Stepless judgement → IsShort history world reply judgement (only_reply world reply)

@@ -8,7 +8,8 @@ use Rattle.hippo_model.specs.declared.statement.RawSelect.{RawSelect}
 use Rattle.hippo_model.specs.declared.statement.Stmt.{Stmt}
 use Rattle.hippo_model.specs.declared.statement.Stmt.TheVariants as stmt
 use Rattle.hippo_model.specs.Terms.{History, ShownRow}
-use Rattle.hippo_report.specs.declared.refusal.Refusal.TheVariants.{HistoryFull, Memory}
+use Rattle.hippo_values.specs.declared.memory.Memory.{Memory}
+use Rattle.hippo_report.specs.declared.refusal.Refusal.TheVariants.{HistoryFull, Memory as NoMemory}
 use Rattle.hippo_csv.specs.Records.{extract_line}
 use Rattle.hippo_report.specs.Cells.{answer_line}
 use Rattle.hippo_report.specs.Notices.{number_line}
@@ -91,7 +92,7 @@ pub record Asks (entry : Entry) (world : World) (question : Question) (result : 
 
 -- that memory was short, to a session
 abbrev pub short_line : ℕ → Txt
-short_line session = refusal_line (Some session) Memory
+short_line session = refusal_line (Some session) NoMemory
 
 -- where a question is not kept, memory was short, or the keeper failed
 abbrev pub IsUnkept : KeeperFault → ℕ → Result (Unit {0}) EngineFault → Txt → Type 0
@@ -112,10 +113,10 @@ world_left world number session (delivered.Cursor cursor) rows =
     if nat_lt row_limit (length rows) then world
     else with_session world number (Some (with_cursor session cursor (Some (new_cursor rows))))
 
--- an answer is handed out; or memory was short, and nothing changes
-pub record IsHandedOut (number : ℕ) (delivery : Delivery) (rows : List ShownRow) (reply : Txt)
+-- an answer is handed out, and behind it stands what the watches say; or memory was short, and nothing changes
+pub record IsHandedOut (number : ℕ) (delivery : Delivery) (rows : List ShownRow) (alarms reply : Txt)
     (old new : World) : Type 0 where
-  pub said : reply ≡ within_limit number rows (answer_said number delivery rows)
+  pub said : reply ≡ within_limit number rows (answer_said number delivery rows) ++ alarms
   pub left : (session : Session) → session_at old number ≡ Some session
       → new ≡ world_left old number session delivery rows
 
@@ -123,10 +124,17 @@ pub record IsShort (number : ℕ) (reply : Txt) (old new : World) : Type 0 where
   pub said : reply ≡ short_line number
   pub same : new ≡ old
 
--- the reply to a question, by what keeping and answering it came to
-abbrev pub Replies : ℕ → Delivery → KeptAnswer → Result (Unit {0}) EngineFault → Txt → World → World → Type 0
-Replies number delivery (Ok answer) result reply old new =
+-- the same, where memory may have been short for what the watches say
+abbrev pub HandsOut : ℕ → Delivery → List ShownRow → Result Txt Memory → Txt → World → World → Type 0
+HandsOut number delivery rows (Ok alarms) reply old new =
+    IsHandedOut number delivery rows alarms reply old new ⊎ IsShort number reply old new
+HandsOut number delivery rows (Err fault) reply old new = IsShort number reply old new
+
+-- the reply to a question, by what the watches say, and by what keeping and answering it came to
+abbrev pub Replies :
+    ℕ → Delivery → Result Txt Memory → KeptAnswer → Result (Unit {0}) EngineFault → Txt → World → World → Type 0
+Replies number delivery alarms (Ok answer) result reply old new =
     (result ≡ Ok tt) × ((rows : List ShownRow) → IsAnswered row_limit rows answer
-    → IsHandedOut number delivery rows reply old new ⊎ IsShort number reply old new)
-Replies number delivery (Err fault) result reply old new =
+    → HandsOut number delivery rows alarms reply old new)
+Replies number delivery alarms (Err fault) result reply old new =
     IsUnkept fault number result reply × (new ≡ old)

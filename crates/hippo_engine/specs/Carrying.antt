@@ -19,9 +19,7 @@ use Rattle.hippo_report.specs.declared.refusal.Refusal.{Refusal}
 use Rattle.hippo_report.specs.declared.refusal.Refusal.TheVariants.{NoSuchQuery}
 use Rattle.hippo_report.specs.Refusals.{refusal_line}
 use Rattle.hippo_world.specs.declared.worlds.World.{World as HeldWorld}
-use Rattle.hippo_values.specs.Limits.{watch_limit}
 use Rattle.hippo_world.specs.Holding.{world_of, KeepsAudits, JobsFit, WatchesFit, taken_of}
-use Rattle.hippo_world.specs.Worlds.{none_held}
 use Rattle.hippo_commands.specs.Commands.{Command, wrong}
 use Rattle.hippo_engine.specs.declared.engine.Engine.{Engine}
 use Rattle.hippo_engine.specs.declared.faults.EngineFault.{EngineFault}
@@ -30,17 +28,12 @@ use Rattle.hippo_engine.specs.Judging.{judged}
 use Rattle.hippo_engine.specs.Effects.{Effect, only_reply, effect_of, IsEffect}
 use Rattle.hippo_engine.specs.Ledgers.{reads_kept, Tallies}
 
--- what the watches hold is that of a history: no watch is set yet
-pub record WatchesStand (history : History) (held : HeldWorld) : Type 0 where
-  pub fit : WatchesFit history held
-  pub none : held.watches ≡ none_held watch_limit
-
 -- a keeper keeps a history, and an engine holds what it says
 pub record Holds (history : History) (engine : Engine) (keeper : KeeperState) : Type 0 where
   pub forms : map stored history ≡ keeper.kept
   pub stands : StandsFor engine.state history
   pub jobs : JobsFit history engine.world
-  pub watches : WatchesStand history engine.world
+  pub watches : WatchesFit history engine.world
 
 -- what carrying out asks of an engine and its keeper: there is a history for which the state stands, the keeper is
 -- started and neither spent nor closed, and where it tells what it keeps, both hold a history
@@ -97,8 +90,8 @@ pub record AddsNothing (command : Command) (old new : Engine) : Type 0 where
       → IsEffect history (world_of old.world) command (shown new)
   pub jobs : (history : History) → StandsFor old.state history → JobsFit history old.world
       → JobsFit history new.world
-  pub watches : (history : History) → StandsFor old.state history → WatchesStand history old.world
-      → WatchesStand history new.world
+  pub watches : (history : History) → StandsFor old.state history → WatchesFit history old.world
+      → WatchesFit history new.world
   pub counts : (versions steps : ℕ) → Tallies command versions steps steps (taken_of old.world) (taken_of new.world)
 
 -- a command has its effect after a history: the engine shows the reply and the world, it and its keeper hold the

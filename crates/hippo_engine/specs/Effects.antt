@@ -5,7 +5,6 @@ use Rattle.std.specs.Option.{option_map_or}
 use Rattle.hippo_values.specs.Texts.{Txt}
 use Rattle.hippo_model.specs.declared.audit.Audit.{Audit}
 use Rattle.hippo_model.specs.declared.audit.Flag.{Flag}
-use Rattle.hippo_model.specs.declared.audit.SharedRow.{SharedRow}
 use Rattle.hippo_model.specs.declared.entry.Act.{Act}
 use Rattle.hippo_model.specs.declared.entry.Entry.{Entry}
 use Rattle.hippo_model.specs.Terms.{History, ShownRow}
@@ -17,7 +16,8 @@ use Rattle.hippo_typing.specs.Meanings.{meaning}
 use Rattle.hippo_report.specs.declared.refusal.Refusal.TheVariants.{TooManyRows, Memory}
 use Rattle.hippo_csv.specs.Records.{extract_line}
 use Rattle.hippo_report.specs.Cells.{answer_line, denied_line}
-use Rattle.hippo_report.specs.Flags.{flag_line, tuple_text}
+use Rattle.hippo_report.specs.Flags.{flag_line}
+use Rattle.hippo_watch.specs.AlarmLines.{alarm_text}
 use Rattle.hippo_report.specs.Notices.{done_line, number_line}
 use Rattle.hippo_report.specs.Refusals.{refusal_line}
 use Rattle.hippo_world.specs.declared.cursors.Cursor.{Cursor}
@@ -68,15 +68,16 @@ within_limit number rows reply =
 -- what a watch says of an entry, where its audit flags it
 abbrev pub alarm_line : History → Entry → ℕ → Audit → Txt
 alarm_line history entry number audit =
-    let which : Txt = decimal number ++ (codes " " ++ decimal entry.seq) in
-    let says : List SharedRow → Txt = λ tuple. codes "0 alarm " ++ (which ++ (tuple_text tuple ++ codes "\n")) in
-    option_map_or says (shared meaning history audit entry) []
+    option_map_or (alarm_text number entry.seq) (shared meaning history audit entry) []
+
+-- what watches that are numbered from here on say of an entry
+abbrev pub alarms_from : History → Entry → ℕ → List (Option Audit) → Txt
+alarms_from history entry number watches =
+    flat_map (λ (at, held). option_map_or (alarm_line history entry at) held []) (enumerate_from number watches)
 
 -- what the watches say of an entry, in the order of their numbers
 abbrev pub alarms : History → World → Entry → Txt
-alarms history world entry =
-    flat_map (λ (number, held). option_map_or (alarm_line history entry number) held [])
-    (enumerate_from 1 world.watches)
+alarms history world entry = alarms_from history entry 1 world.watches
 
 -- a question is logged; its reply is followed by what the watches say of it
 abbrev pub asked : History → World → Question → Txt → World → Effect

@@ -1,5 +1,5 @@
 -- What is to be done for a command, or the first refusal that holds.
-use Rattle.std.specs.Prelude.{ℕ, ◌-◌, ℤ, Bool, true, false, int_lt, [], take, drop, length, slice_get, option_map, Ok, Err, ok_or, if◌then◌else◌}
+use Rattle.std.specs.Prelude.{ℕ, ◌-◌, ℤ, int_lt, [], take, drop, length, slice_get, option_map, Ok, Err, ok_or}
 use Rattle.std.specs.Option.{option_map_or}
 use Rattle.std.specs.Result.{result_map_both}
 use Rattle.hippo_values.specs.Texts.{Txt}
@@ -25,7 +25,7 @@ use Rattle.hippo_csv.specs.declared.faults.CsvFault.TheVariants as csv
 use Rattle.hippo_csv.specs.Records.{record_fields}
 use Rattle.hippo_csv.specs.Loading.{row_of_fields}
 use Rattle.hippo_report.specs.declared.refusal.Refusal.{Refusal}
-use Rattle.hippo_report.specs.declared.refusal.Refusal.TheVariants.{BadSyntax, MomentBack, Meaningless, CursorLimit, NoCursor, JobLimit, NoJob, NoSuchQuery, BadRecord, BadField, WatchLimit, NoWatch, Memory, NotBuilt}
+use Rattle.hippo_report.specs.declared.refusal.Refusal.TheVariants.{BadSyntax, MomentBack, Meaningless, CursorLimit, NoCursor, JobLimit, NoJob, NoSuchQuery, BadRecord, BadField, WatchLimit, NoWatch, Memory}
 use Rattle.hippo_world.specs.declared.sessions.Session.{Session}
 use Rattle.hippo_world.specs.Worlds.{World, at_number, free_number}
 use Rattle.hippo_commands.specs.Moments.{period_in}
@@ -199,20 +199,6 @@ judged_statement history world number (stmt.BeginAudit audit) text = judged_begi
 judged_statement history world number (stmt.Watch audit) text = judged_watch history world number audit
 judged_statement history world number statement text = judged_change history world number statement
 
--- what is carried out so far
-abbrev pub is_statement_built : Stmt → Bool
-is_statement_built (stmt.Watch audit) = false
-is_statement_built statement = true
-
-abbrev pub is_request_built : Request → Bool
-is_request_built (unwatches watch) = false
-is_request_built request = true
-
-abbrev pub is_built : Command → Bool
-is_built (ask number request) = is_request_built request
-is_built (state number statement text) = is_statement_built statement
-is_built command = true
-
 abbrev pub judged_request : History → World → ℕ → Request → Checked Deed
 judged_request history world number (logs_in user purpose recipient) =
     judged_login history world number user (record { purpose = purpose; recipient = recipient })
@@ -224,14 +210,10 @@ judged_request history world number (drops job) = judged_drop world number job
 judged_request history world number (unwatches watch) = judged_unwatch world number watch
 judged_request history world number (loads table text) = judged_load history world number table text
 
--- what is to be done once all is carried out
-abbrev pub deed_of : History → World → Command → Checked Deed
-deed_of history world nothing = Ok deeds.do_nothing
-deed_of history world (wrong who refusal) = Err refusal
-deed_of history world (commands.set_clock moment) = judged_clock world moment
-deed_of history world (ask number request) = judged_request history world number request
-deed_of history world (state number statement text) = judged_statement history world number statement text
-
 -- what is to be done for a command, or why not
 abbrev pub judged : History → World → Command → Checked Deed
-judged history world command = if is_built command then deed_of history world command else Err NotBuilt
+judged history world nothing = Ok deeds.do_nothing
+judged history world (wrong who refusal) = Err refusal
+judged history world (commands.set_clock moment) = judged_clock world moment
+judged history world (ask number request) = judged_request history world number request
+judged history world (state number statement text) = judged_statement history world number statement text

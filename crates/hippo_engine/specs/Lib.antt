@@ -6,6 +6,7 @@ pub mod Ledgers
 pub mod Carrying
 pub mod Changing
 pub mod Asking
+pub mod Watching
 pub mod Explaining
 pub mod Auditing
 pub mod Jobs

@@ -138,8 +138,8 @@ impl Engine {
                 self.begin_audit(alloc, session, written);
                 Ok(())
             }
-            Stmt::Watch(_) => {
-                self.refuse_unbuilt(session, statement);
+            Stmt::Watch(written) => {
+                self.watch(alloc, session, written);
                 Ok(())
             }
             _ => self.change(alloc, keeper, session, statement),

@@ -17,6 +17,7 @@ mod refusals;
 mod replies;
 mod session_checks;
 mod sessions;
+mod watches;
 
 pub use engine::{Engine, Reply};
 pub use faults::EngineFault;

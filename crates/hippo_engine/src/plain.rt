@@ -1,19 +1,15 @@
-//! What a line does that says nothing, is refused whatever the history, or is not carried out yet; and writing a reply.
+//! What a line does that says nothing or is refused whatever the history; and writing a reply.
 ghost use Rattle.std.specs.Prelude.{◌≡◌, ◌≢◌, true, false, Err, OnOk};
-ghost use Rattle.hippo_values.specs.Texts.{Txt as Text};
 ghost use Rattle.hippo_io.specs.Faults.{HasRisen};
 ghost use Rattle.hippo_io.specs.Told.{Appends, AppendsFront};
-ghost use Rattle.hippo_lines.specs.Forms.{Request};
-ghost use Rattle.hippo_commands.specs.Commands.{nothing, wrong, ask, state};
-ghost use Rattle.hippo_engine.specs.Judging.{is_statement_built, is_request_built};
+ghost use Rattle.hippo_commands.specs.Commands.{nothing, wrong};
 ghost use Rattle.hippo_engine.specs.declared.faults.EngineFault.TheVariants.{Write as WriteFailed};
 ghost use Rattle.hippo_engine.specs.Carrying.{IsOfLine, is_carried, IsQuiet};
 
 use crate::engine::Engine;
 use crate::faults::EngineFault;
-use crate::replies::{refuse, refuse_unbuilt};
+use crate::replies::refuse;
 use hippo_io::{Sink, write_whole};
-use hippo_model::Stmt;
 use hippo_report::Refusal;
 
 impl Engine {
@@ -30,22 +26,6 @@ impl Engine {
         ensures { IsQuiet (wrong who refusal.now) self.old self.new }
     {
         refuse(who, refusal, &mut self.reply);
-    }
-
-    /// A statement that is not carried out yet.
-    pub(crate) fn refuse_unbuilt(&mut self, session: u8, statement: &Stmt)
-        requires { is_statement_built statement.now ≡ false }
-        ensures { (text : Text) → IsQuiet (state session statement.now text) self.old self.new }
-    {
-        refuse_unbuilt(session, &mut self.reply);
-    }
-
-    /// What a short word asks for and is not carried out yet.
-    pub(crate) fn refuse_unbuilt_request(&mut self, session: u8)
-        ensures { (request : Request) → is_request_built request ≡ false
-            → IsQuiet (ask session request) self.old self.new }
-    {
-        refuse_unbuilt(session, &mut self.reply);
     }
 
     /// Writes the reply to the last line.

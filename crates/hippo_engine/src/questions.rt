@@ -1,32 +1,37 @@
 //! Questions: each is kept before it is answered.
-ghost use Rattle.std.specs.Prelude.{◌≡◌, ◌≢◌, ◌⊎◌, ℕ, ◌+◌, ◌<◌, ◌^◌, List, [], ◌∷◌, ◌++◌, true, Ok as Good, Err as Bad, IfOk, OnOk};
+ghost use Rattle.std.specs.Prelude.{◌≡◌, ◌≢◌, ◌⊎◌, ℕ, ◌+◌, ◌<◌, ◌≤◌, ◌^◌, List, [], ◌∷◌, ◌++◌, length, true, Some, Ok as Good, Err as Bad, IfOk, OnOk};
 ghost use Rattle.hippo_model.specs.declared.entry.Act.TheVariants.{Asked};
 ghost use Rattle.hippo_model.specs.Terms.{History, ShownRow};
 ghost use Rattle.hippo_model.specs.Validity.{may_follow};
 ghost use Rattle.hippo_csv.specs.Records.{extract_line};
+ghost use Rattle.hippo_report.specs.declared.refusal.Refusal.TheVariants.{TooManyRows as TooMany};
 ghost use Rattle.hippo_report.specs.Cells.{answer_line};
+ghost use Rattle.hippo_report.specs.Refusals.{refusal_line};
 ghost use Rattle.hippo_eval.specs.Answering.{IsAnswered};
 ghost use Rattle.hippo_typing.specs.Meanings.{meaning};
 ghost use Rattle.hippo_replay.specs.Standing.{StandsFor, IsNext, takes_no_memory};
+ghost use Rattle.hippo_world.specs.declared.sessions.Session.{Session as KeptSession};
+ghost use Rattle.hippo_world.specs.Worlds.{session_at};
 ghost use Rattle.hippo_world.specs.Holding.{world_of, KeepsAudits};
 ghost use Rattle.hippo_commands.specs.Commands.{state};
 ghost use Rattle.hippo_engine.specs.declared.faults.EngineFault.TheVariants.{Write as WriteFailed};
 ghost use Rattle.hippo_engine.specs.Carrying.{AtWork, IsBacked, Carries};
 ghost use Rattle.hippo_engine.specs.Effects.{row_limit, question_rows, listed};
 ghost use Rattle.hippo_engine.specs.Asking.{question_of, statement_asked, IsAnswerable, entry_of, Asks};
-ghost use Rattle.hippo_engine.specs.Asking.{short_line, IsUnkept, IsHandedOut, IsShort, Replies};
+ghost use Rattle.hippo_engine.specs.Asking.{short_line, answer_said, world_left, IsUnkept, IsHandedOut, IsShort, HandsOut, Replies};
 
 use crate::asking::{Asking, Delivery, Handing, asks};
 use crate::engine::{Engine, Reply};
 use crate::faults::EngineFault;
-use crate::replies::{refuse, say_number};
+use crate::replies::{refuse, refuse_for_memory};
+use crate::watches::alarms_of;
 use hippo_answering::answer;
 use hippo_csv::extract_lines;
 use hippo_eval::EvalFault;
 use hippo_keeper::{Keeper, KeeperFault};
 use hippo_model::{Act, Answer, CellRow, Entry, RawSelect};
 use hippo_replay::State;
-use hippo_report::{Refusal, answer_lines, number_line};
+use hippo_report::{Refusal, answer_lines, number_line, refusal_line};
 use hippo_values::{Duplicate, Memory, Moment, Txt};
 use hippo_world::{Session, World};
 use std::alloc::Global;
@@ -155,16 +160,6 @@ fn append_rows(session: u8, rows: &[CellRow], reply: &mut Reply) -> Result<(), M
     number_line(session, "end", rows.len() as u64, reply)
 }
 
-// Says the rows of an answer and how many they are, or that memory was short.
-fn say_rows(session: u8, rows: &Answer, reply: &mut Reply)
-    ensures { (reply.new ≡ listed session (answer_line session) rows.now) ⊎ (reply.new ≡ short_line session) }
-{
-    reply.clear();
-    if append_rows(session, rows.as_slice(), reply).is_err() {
-        refuse(Some(session), &Refusal::Memory, reply);
-    }
-}
-
 fn append_records(
     alloc: Global,
     session: u8,
@@ -177,14 +172,46 @@ fn append_records(
     number_line(session, "end", rows.len() as u64, reply)
 }
 
-// The same, of its rows as records.
-fn say_records(alloc: Global, session: u8, rows: &Answer, reply: &mut Reply)
-    ensures { (reply.new ≡ listed session (extract_line session) rows.now) ⊎ (reply.new ≡ short_line session) }
+// What is said of an answer: its rows, its rows as records, or the number of the cursor that is to hold it.
+fn append_answer(
+    alloc: Global,
+    session: u8,
+    delivery: Delivery,
+    rows: &[CellRow],
+    reply: &mut Reply,
+) -> Result<(), Memory>
+    ensures { OnOk result (reply.new ≡ reply.old ++ answer_said session delivery rows.now) }
+{
+    match delivery {
+        Delivery::Rows => append_rows(session, rows, reply),
+        Delivery::Records => append_records(alloc, session, rows, reply),
+        Delivery::Cursor(cursor) => number_line(session, "cursor", u64::from(cursor), reply),
+    }
+}
+
+// Makes the reply of an answer, and of what the watches say behind it.
+fn print_answer(
+    alloc: Global,
+    session: u8,
+    delivery: Delivery,
+    rows: &[CellRow],
+    alarms: &str,
+    reply: &mut Reply,
+) -> Result<(), Memory>
+    ensures { OnOk result (reply.new ≡ answer_said session delivery rows.now ++ alarms.now) }
 {
     reply.clear();
-    if append_records(alloc, session, rows.as_slice(), reply).is_err() {
-        refuse(Some(session), &Refusal::Memory, reply);
-    }
+    append_answer(alloc, session, delivery, rows, reply)?;
+    reply.append(alarms)
+}
+
+// The same where the answer has too many rows.
+fn print_too_many(session: u8, alarms: &str, reply: &mut Reply) -> Result<(), Memory>
+    ensures { OnOk result (reply.new ≡ refusal_line (Some session) TooMany ++ alarms.now) }
+{
+    reply.clear();
+    refusal_line(Some(session), &Refusal::TooManyRows, reply)?;
+    reply.append(alarms)
 }
 
 // What follows where a question is not kept.
@@ -201,38 +228,107 @@ fn say_unkept(session: u8, fault: KeeperFault, reply: &mut Reply) -> Result<(), 
     }
 }
 
+// Lets the cursor that is to hold an answer hold it; takes no memory.
+fn keep_answer(session: u8, delivery: Delivery, rows: Answer, world: &mut World)
+    ensures left { length rows ≤ row_limit → (asker : KeptSession)
+        → session_at (world_of world.old) session ≡ Some asker
+        → world_of world.new ≡ world_left (world_of world.old) session asker delivery rows }
+    ensures audits { KeepsAudits world.old world.new }
+{
+    match delivery {
+        Delivery::Rows => drop(rows),
+        Delivery::Records => drop(rows),
+        Delivery::Cursor(cursor) => world.open_cursor(session, cursor, rows),
+    }
+}
+
+// Hands out an answer that has not too many rows; or says that memory was short.
+fn hand_out_rows(
+    alloc: Global,
+    session: u8,
+    delivery: Delivery,
+    rows: Answer,
+    alarms: &str,
+    world: &mut World,
+    reply: &mut Reply,
+)
+    ensures said { length rows ≤ row_limit
+        → IsHandedOut session delivery rows alarms.now reply.new (world_of world.old) (world_of world.new)
+        ⊎ IsShort session reply.new (world_of world.old) (world_of world.new) }
+    ensures audits { KeepsAudits world.old world.new }
+{
+    match print_answer(alloc, session, delivery, rows.as_slice(), alarms, reply) {
+        Ok(()) => keep_answer(session, delivery, rows, world),
+        Err(Memory) => {
+            drop(rows);
+            refuse_for_memory(Some(session), reply);
+        }
+    }
+}
+
+// Says that an answer has too many rows; or that memory was short.
+fn say_too_many(session: u8, alarms: &str, reply: &mut Reply)
+    ensures { (reply.new ≡ refusal_line (Some session) TooMany ++ alarms.now) ⊎ (reply.new ≡ short_line session) }
+{
+    if print_too_many(session, alarms, reply).is_err() {
+        refuse_for_memory(Some(session), reply);
+    }
+}
+
 // Hands out an answer: says its rows, or opens a cursor over them; or says that they are too many, or that memory was
 // short.
+fn hand_out_answer(
+    alloc: Global,
+    session: u8,
+    delivery: Delivery,
+    answer: Result<Answer, EvalFault>,
+    alarms: &str,
+    world: &mut World,
+    reply: &mut Reply,
+)
+    ensures said { (rows : List ShownRow) → IsAnswered row_limit rows answer
+        → IsHandedOut session delivery rows alarms.now reply.new (world_of world.old) (world_of world.new)
+        ⊎ IsShort session reply.new (world_of world.old) (world_of world.new) }
+    ensures audits { KeepsAudits world.old world.new }
+{
+    match answer {
+        Ok(rows) => hand_out_rows(alloc, session, delivery, rows, alarms, world, reply),
+        Err(EvalFault::TooManyRows) => say_too_many(session, alarms, reply),
+        Err(EvalFault::Memory) => refuse_for_memory(Some(session), reply),
+    }
+}
+
+// Hands out an answer, with what the watches say.
 fn hand_out(
     alloc: Global,
     session: u8,
     delivery: Delivery,
     answer: Result<Answer, EvalFault>,
+    alarms: Result<Reply, Memory>,
     world: &mut World,
     reply: &mut Reply,
 )
     ensures said { (rows : List ShownRow) → IsAnswered row_limit rows answer
-        → IsHandedOut session delivery rows reply.new (world_of world.old) (world_of world.new)
-        ⊎ IsShort session reply.new (world_of world.old) (world_of world.new) }
+        → HandsOut session delivery rows alarms reply.new (world_of world.old) (world_of world.new) }
     ensures audits { KeepsAudits world.old world.new }
 {
-    match answer {
-        Ok(rows) => match delivery {
-            Delivery::Rows => {
-                say_rows(session, &rows, reply);
-                drop(rows);
-            }
-            Delivery::Records => {
-                say_records(alloc, session, &rows, reply);
-                drop(rows);
-            }
-            Delivery::Cursor(cursor) => {
-                say_number(session, "cursor", u64::from(cursor), reply);
-                world.open_cursor(session, cursor, rows);
-            }
-        },
-        Err(EvalFault::TooManyRows) => refuse(Some(session), &Refusal::TooManyRows, reply),
-        Err(EvalFault::Memory) => refuse(Some(session), &Refusal::Memory, reply),
+    match alarms {
+        Ok(alarms) => {
+            hand_out_answer(
+                alloc,
+                session,
+                delivery,
+                answer,
+                alarms.as_str(),
+                world,
+                reply,
+            );
+            drop(alarms);
+        }
+        Err(Memory) => {
+            drop(answer);
+            refuse_for_memory(Some(session), reply);
+        }
     }
 }
 
@@ -241,20 +337,24 @@ fn reply_to(
     alloc: Global,
     session: u8,
     delivery: Delivery,
+    alarms: Result<Reply, Memory>,
     kept: Result<Result<Answer, EvalFault>, KeeperFault>,
     world: &mut World,
     reply: &mut Reply,
 ) -> Result<(), EngineFault>
-    ensures said { Replies session delivery kept result reply.new (world_of world.old) (world_of world.new) }
+    ensures said { Replies session delivery alarms kept result reply.new (world_of world.old) (world_of world.new) }
     ensures audits { KeepsAudits world.old world.new }
     ensures unwritten { result ≢ Bad WriteFailed }
 {
     match kept {
         Ok(answer) => {
-            hand_out(alloc, session, delivery, answer, world, reply);
+            hand_out(alloc, session, delivery, answer, alarms, world, reply);
             Ok(())
         }
-        Err(fault) => say_unkept(session, fault, reply),
+        Err(fault) => {
+            drop(alarms);
+            say_unkept(session, fault, reply)
+        }
     }
 }
 
@@ -290,12 +390,14 @@ impl Engine {
         ) {
             Ok(asking) => {
                 let delivery = asking.delivery;
+                let alarms = alarms_of(alloc, &self.state, &self.world, &asking);
                 let kept = keep_and_answer(alloc, keeper, &mut self.state, &self.world, &asking);
                 drop(asking);
                 reply_to(
                     alloc,
                     session,
                     delivery,
+                    alarms,
                     kept,
                     &mut self.world,
                     &mut self.reply,

@@ -1,6 +1,6 @@
 //! Replies that are made anew, in a text that has room for them.
 ghost use Rattle.std.specs.Prelude.{◌≡◌, ◌⊎◌, ◌≤◌, Some, None, length};
-ghost use Rattle.hippo_report.specs.declared.refusal.Refusal.TheVariants.{Memory as NoMemory, NotBuilt as Unbuilt, MomentBack as IsBefore};
+ghost use Rattle.hippo_report.specs.declared.refusal.Refusal.TheVariants.{Memory as NoMemory, MomentBack as IsBefore};
 ghost use Rattle.hippo_report.specs.Notices.{done_line, number_line};
 ghost use Rattle.hippo_report.specs.Refusals.{refusal_line};
 ghost use Rattle.hippo_engine.specs.Carrying.{reply_room};
@@ -48,13 +48,6 @@ pub fn refuse(who: Option<u8>, refusal: &Refusal, reply: &mut Reply)
     if refusal_line(who, refusal, reply).is_err() {
         refuse_for_memory(who, reply);
     }
-}
-
-/// Makes the reply to a line of a session or of the console that is not carried out yet. Takes no memory.
-pub fn refuse_unbuilt(number: u8, reply: &mut Reply)
-    ensures { reply.new ≡ refusal_line (Some number) Unbuilt }
-{
-    refuse(Some(number), &Refusal::NotBuilt, reply);
 }
 
 /// Makes the reply to a line that would set the clock before this moment. Takes no memory.

@@ -147,7 +147,7 @@ impl Engine {
                 return self.step_job(alloc, keeper, session, job, count, steps);
             }
             RequestForm::Drop { job } => self.drop_job(session, job),
-            RequestForm::Unwatch { .. } => self.refuse_unbuilt_request(session),
+            RequestForm::Unwatch { watch } => self.unwatch(session, watch),
             RequestForm::Load {
                 table,
                 record: text,

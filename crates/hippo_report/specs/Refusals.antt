@@ -83,7 +83,6 @@ refusal_title (refusals.BadField name) = codes "62 BadField"
 refusal_title refusals.WatchLimit = codes "63 WatchLimit"
 refusal_title (refusals.NoWatch number) = codes "64 NoWatch"
 refusal_title refusals.Memory = codes "90 Memory"
-refusal_title refusals.NotBuilt = codes "99 NotBuilt"
 
 -- what a refusal names, if it names anything
 abbrev pub refusal_detail : Refusal → Option Txt

@@ -64,8 +64,6 @@ pub enum Refusal {
     NoWatch(u64),
     /// Want of memory.
     Memory,
-    /// The line is right, and is not carried out by this program yet.
-    NotBuilt,
 }
 
 /// What a refusal names.

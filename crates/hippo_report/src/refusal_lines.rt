@@ -97,7 +97,6 @@ fn refusal_title(refusal: &Refusal) -> &'static str
         Refusal::WatchLimit => "63 WatchLimit",
         Refusal::NoWatch(_) => "64 NoWatch",
         Refusal::Memory => "90 Memory",
-        Refusal::NotBuilt => "99 NotBuilt",
     }
 }
 
@@ -135,7 +134,6 @@ fn refusal_detail(refusal: &Refusal) -> Detail<'_>
         Refusal::WatchLimit => Detail::Nothing,
         Refusal::NoWatch(number) => Detail::Number(*number),
         Refusal::Memory => Detail::Nothing,
-        Refusal::NotBuilt => Detail::Nothing,
     }
 }
 

@@ -102,6 +102,13 @@ impl<T: Drop> Numbered<T> {
         }
     }
 
+    /// What each number holds, in their order.
+    pub fn as_slice(&self) -> &[Option<T>]
+        ensures { result.now ≡ self.now }
+    {
+        self.places.as_slice()
+    }
+
     /// The lowest number that holds nothing.
     pub fn free(&self) -> Option<usize>
         ensures { result ≡ free_number self.now }

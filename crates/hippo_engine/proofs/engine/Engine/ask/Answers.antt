@@ -2,7 +2,7 @@
 use Rattle.std.proofs.Common.{refl}
 use Rattle.hippo_lines.specs.Forms.{logs_in, logs_out, fetches, closes, drops, unwatches}
 use Rattle.hippo_commands.specs.Commands.{ask}
-use Rattle.hippo_engine.proofs.CarryingLemmas.{Carries-quiet, Carries-nothing}
+use Rattle.hippo_engine.proofs.CarryingLemmas.{Carries-nothing, Carries-quiet}
 use Rattle.hippo_engine.proofs.engine.Engine.ask.Goals as goal
 
 pub returns-in-Login-clause-carries : goal.returns-in-Login-clause-carries
@@ -36,7 +36,7 @@ returns-in-Drop-clause-carries g c =
 pub returns-in-Unwatch-clause-carries : goal.returns-in-Unwatch-clause-carries
 returns-in-Unwatch-clause-carries g c =
     rw c.in-Unwatch.is
-    (Carries-quiet (ask c.args.session (unwatches c.in-Unwatch.watch)) c.args.self.now c.refuse_unbuilt_request.new.self (g.P.Keeper.state c.args.keeper.now) c.args.steps.now c.requires.at_work (c.refuse_unbuilt_request.ensures (unwatches c.in-Unwatch.watch) refl))
+    (Carries-nothing (ask c.args.session (unwatches c.in-Unwatch.watch)) c.args.self.now c.unwatch.new.self (g.P.Keeper.state c.args.keeper.now) c.args.steps.now c.requires.at_work c.unwatch.ensures)
 
 pub returns-in-Load-clause-carries : goal.returns-in-Load-clause-carries
 returns-in-Load-clause-carries g c = rw c.in-Load.is (c.load.ensures.carries c.args.steps.now)

@@ -16,7 +16,8 @@ returns-in-Ok-clause-carries g c = λ steps.
     Carries-question c.args.session (statement_asked c.args.handing c.args.select.now c.args.start c.args.end) c.args.text.now c.in-Ok.asking c.args.self.now
     (record { state = c.keep_and_answer-kept.new.state; world = c.reply_to.new.world; reply = c.reply_to.new.reply })
     (g.P.Keeper.state c.args.keeper.now) (g.P.Keeper.state c.keep_and_answer-kept.new.keeper) steps c.requires.at_work.sound c.reply_to.ensures.audits c.in-Ok.ensures.asker c.in-Ok.ensures.found
-    c.keep_and_answer-kept.result (c.keep_and_answer-kept.ensures.asks c.args.session) c.reply_to.result c.reply_to.ensures.said
+    c.keep_and_answer-kept.result (c.keep_and_answer-kept.ensures.asks c.args.session)
+    c.alarms_of-alarms.result c.alarms_of-alarms.ensures c.reply_to.result c.reply_to.ensures.said
 
 pub returns-in-Err-clause-carries : goal.returns-in-Err-clause-carries
 returns-in-Err-clause-carries g c = λ steps.

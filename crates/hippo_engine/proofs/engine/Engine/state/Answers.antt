@@ -1,6 +1,6 @@
 use Rattle.hippo_model.specs.declared.statement.Stmt.TheVariants as stmt
 use Rattle.hippo_commands.specs.Commands.{state}
-use Rattle.hippo_engine.proofs.CarryingLemmas.{Carries-quiet, Carries-nothing}
+use Rattle.hippo_engine.proofs.CarryingLemmas.{Carries-nothing}
 use Rattle.hippo_engine.proofs.engine.Engine.state.Goals as goal
 
 pub returns-in_default-clause-carries : goal.returns-in_default-clause-carries
@@ -29,5 +29,6 @@ returns-in-BeginAudit-clause-carries g c =
 
 pub returns-in-Watch-clause-carries : goal.returns-in-Watch-clause-carries
 returns-in-Watch-clause-carries g c =
-    Carries-quiet (state c.args.session c.args.statement.now c.args.text.now) c.args.self.now c.refuse_unbuilt.new.self
-    (g.P.Keeper.state c.args.keeper.now) c.args.steps.now c.requires.at_work (c.refuse_unbuilt.ensures c.args.text.now)
+    rw c.in-Watch.is
+    (Carries-nothing (state c.args.session (stmt.Watch c.in-Watch.written) c.args.text.now) c.args.self.now c.watch.new.self
+    (g.P.Keeper.state c.args.keeper.now) c.args.steps.now c.requires.at_work (c.watch.ensures c.args.text.now))

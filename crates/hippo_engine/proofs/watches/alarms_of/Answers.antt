@@ -1,0 +1,12 @@
+-- Nothing stands before what is said.
+use Rattle.std.proofs.Common.{◌∙◌, ◌++◌, ap}
+use Rattle.hippo_values.specs.Texts.{Txt}
+use Rattle.hippo_world.specs.Holding.{world_of}
+use Rattle.hippo_engine.specs.Asking.{question_of}
+use Rattle.hippo_engine.specs.Watching.{alarms_now}
+use Rattle.hippo_engine.proofs.watches.alarms_of.Goals as goal
+
+pub returns : goal.returns
+returns c = λ session history stands fit.
+    c.in_ok-tell_watched.ensures session history stands fit
+    ∙ ap (λ (text : Txt). text ++ alarms_now history (world_of c.args.world.now) (question_of session c.args.asking.now)) c.in_ok-said.ensures

@@ -1,0 +1,60 @@
+-- What watches say of a question that is asked now, and when one is set or ended.
+use Rattle.std.specs.Prelude.{◌≡◌, ℕ, true, List, [], ◌++◌, Option, Some, IfSome, Result, Ok, ok_or}
+use Rattle.std.specs.Option.{option_map_or}
+use Rattle.hippo_values.specs.Texts.{Txt}
+use Rattle.hippo_values.specs.declared.moments.Moment.{Moment}
+use Rattle.hippo_model.specs.declared.audit.Audit.{Audit}
+use Rattle.hippo_model.specs.declared.audit.Pair.{Pair}
+use Rattle.hippo_model.specs.declared.entry.Entry.{Entry}
+use Rattle.hippo_model.specs.declared.query.Query.{Query}
+use Rattle.hippo_model.specs.Terms.{History}
+use Rattle.hippo_tables.specs.declared.tables.Tables.{Tables}
+use Rattle.hippo_audit_job.specs.declared.past.Past.{Past}
+use Rattle.hippo_audit_job.specs.Examining.{IsAuditOf}
+use Rattle.hippo_watch.specs.Alarms.{IsAskedNext}
+use Rattle.hippo_replay.specs.Standing.{StandsFor}
+use Rattle.hippo_report.specs.declared.refusal.Refusal.TheVariants.{NoWatch, WatchLimit}
+use Rattle.hippo_world.specs.Worlds.{World, at_number, free_number}
+use Rattle.hippo_world.specs.Holding.{world_of}
+use Rattle.hippo_world.specs.Auditing.{AreWatching}
+use Rattle.hippo_commands.specs.Commands.{Command, who_commands, takes_memory}
+use Rattle.hippo_engine.specs.declared.engine.Engine.{Engine}
+use Rattle.hippo_engine.specs.Checks.{Checked, ◌>>=◌, by_console}
+use Rattle.hippo_engine.specs.Deeds.{Deed, Question, asked_by}
+use Rattle.hippo_engine.specs.Deeds as deeds
+use Rattle.hippo_engine.specs.Effects.{alarm_line, alarms_from, alarms, next_entry}
+use Rattle.hippo_engine.specs.Judging.{judged}
+
+-- what stands at a watch's number says of a question that is asked now is added to a text
+abbrev pub AddsAlarm :
+    Past → Tables → Moment → Pair → Query → ℕ → Option Audit → Txt → Txt → Type 0
+AddsAlarm past tables moment pair query number held old new =
+    (history : History) (entry : Entry) → IsAskedNext past tables moment pair query history entry
+    → IfSome held (IsAuditOf history) → new ≡ old ++ option_map_or (alarm_line history entry number) held []
+
+-- what all watches say of it is added
+abbrev pub AddsAlarms : Past → Tables → Moment → Pair → Query → List (Option Audit) → Txt → Txt → Type 0
+AddsAlarms past tables moment pair query watches old new =
+    (history : History) (entry : Entry) → IsAskedNext past tables moment pair query history entry
+    → AreWatching history watches → new ≡ old ++ alarms_from history entry 1 watches
+
+-- what the watches of a world say of a question that is asked in it
+abbrev pub alarms_now : History → World → Question → Txt
+alarms_now history world question = alarms history world (next_entry history world (asked_by question))
+
+-- a watch stands at this number
+abbrev pub held_watch : World → ℕ → ℕ → Checked (Unit {0})
+held_watch world number at =
+    by_console number >>= λ _. ok_or (at_number world.watches at) (NoWatch at) >>= λ audit. Ok tt
+
+-- a number that is free, for a watch
+abbrev pub watch_set : World → Audit → Checked Deed
+watch_set world audit = ok_or (free_number world.watches) WatchLimit >>= λ free. Ok (deeds.watch free audit)
+
+-- a command of the console sets a watch where there is room for one, whatever history the state stands for
+pub record Watches (command : Command) (audit : Audit) (engine : Engine) : Type 0 where
+  pub who : who_commands command ≡ Some 0
+  pub memory : takes_memory command ≡ true
+  pub judged_so : (history : History) → StandsFor engine.state history
+      → judged history (world_of engine.world) command ≡ watch_set (world_of engine.world) audit
+  pub fits : (history : History) → StandsFor engine.state history → IsAuditOf history audit
