@@ -1,24 +1,22 @@
 -- The engine begins where the history ends.
 use Rattle.std.proofs.Common.{◌∙◌, sym, ap, subst}
 use Rattle.hippo_values.specs.declared.moments.Moment.{Moment}
-use Rattle.hippo_report.specs.declared.format.Format.TheVariants.{Text}
 use Rattle.hippo_replay.specs.declared.state.State.{State}
 use Rattle.hippo_replay.specs.Standing.{StandsFor}
 use Rattle.hippo_world.specs.Worlds.{opening}
-use Rattle.hippo_serve.specs.Runs.{entry_limit}
 use Rattle.hippo_serve.proofs.TurnLemmas.{AtWork-begun}
 use Rattle.hippo_serve.proofs.serving.serve.Goals as goal
 
 pub returns-in-Ok-open-clause-ends : goal.returns-in-Ok-open-clause-ends
 returns-in-Ok-open-clause-ends g c = λ some tells history stands keeps start counted.
-    c.serve_lines-ending.ensures.ends tells history
+    c.serve_lines-ending.ensures.ends tells c.args.setting history
     (record {
       forms = keeps.kept.forms;
       stands = subst (λ (state : State). StandsFor state history) (sym c.in-Ok-open.ensures.state) stands;
       jobs = tt;
       watches = tt;
     })
-    (c.in-Ok-open.ensures.world ∙ ap (λ (moment : Moment). opening moment entry_limit Text) stands.last) keeps start counted
+    (c.in-Ok-open.ensures.world ∙ ap (λ (moment : Moment). opening moment c.args.setting.limit c.args.setting.format) stands.last) keeps start counted
 
 pub serve_lines-ending-requires-clause-at_work : goal.serve_lines-ending-requires-clause-at_work
 serve_lines-ending-requires-clause-at_work g c =
