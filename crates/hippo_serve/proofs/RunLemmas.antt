@@ -25,6 +25,7 @@ use Rattle.hippo_engine.specs.Effects.{Effect, IsEffect, effect_of}
 use Rattle.hippo_engine.specs.Ledgers.{reads_kept, audits_of, Tallies, RunSum}
 use Rattle.hippo_engine.specs.Runs.{IsRun, IsAmple, audits_in, replies, history_after, world_after}
 use Rattle.hippo_engine.proofs.LedgerLemmas.{RunSum-start, RunSum-line, RunSum-end}
+use Rattle.hippo_words.specs.declared.calls.Setting.{Setting}
 use Rattle.hippo_serve.specs.Keeping.{KeepsHistory}
 use Rattle.hippo_serve.specs.Outside.{Told, Outside, telling, outside}
 use Rattle.hippo_serve.specs.Runs.{opening_after, IsReading, ForInput, StepsWithin, HasRun, HasReadAll, IsServed, IsCutOff, HasReadFront, IsUnwritten, KeepsBroken, IsBrokenOff, HasServed}
@@ -98,10 +99,10 @@ within_limit line taken same = not_above (λ more. differ (same.1 more))
 pub reading_none : (input : Txt) (reader : Position) (left : Option Txt) → left ≡ Some input → HasHandedOut input [] reader (Some input) → IsReading input reader left
 reading_none input reader left is handing = record { handed = []; handing = subst (λ (told : Option Txt). HasHandedOut input [] reader told) (sym is) handing }
 
-pub served_none : (history : History) (reader : Position) (left written : Option Txt) (engine : Engine) (keeper : KeeperState) (start steps : ℕ)
-    → ((input : Txt) → HasHandedOut input [] reader (Some input)) → Holds history engine keeper → world_of engine.world ≡ opening_after history → KeepsHistory history keeper
-    → steps ≡ start + versions history → HasServed history (telling left written start) reader engine (outside left written keeper steps)
-served_none history reader left written engine keeper start steps handing holds world kept counted = record {
+pub served_none : (setting : Setting) (history : History) (reader : Position) (left written : Option Txt) (engine : Engine) (keeper : KeeperState) (start steps : ℕ)
+    → ((input : Txt) → HasHandedOut input [] reader (Some input)) → Holds history engine keeper → world_of engine.world ≡ opening_after setting history → KeepsHistory history keeper
+    → steps ≡ start + versions history → HasServed setting history (telling left written start) reader engine (outside left written keeper steps)
+served_none setting history reader left written engine keeper start steps handing holds world kept counted = record {
   handed = [];
   effects = [];
   handing = λ input is. subst (λ (told : Option Txt). HasHandedOut input [] reader told) (sym is) (handing input);
@@ -123,8 +124,8 @@ held_after command old new before after steps steps' carries held tells =
     let done : HasEffect here.0 command old new before after steps steps' = carries.carried refl tells here.0 here.1 in
     (here.0 ++ done.effect.added, done.holds)
 
-module _ (history : History) (before : Told) (reader reader' : Position) (engine engine' : Engine) (left left' written written' : Option Txt) (keeper keeper' : KeeperState) (steps steps' : ℕ)
-    (served : HasServed history before reader engine (outside left written keeper steps)) where
+module _ (setting : Setting) (history : History) (before : Told) (reader reader' : Position) (engine engine' : Engine) (left left' written written' : Option Txt) (keeper keeper' : KeeperState) (steps steps' : ℕ)
+    (served : HasServed setting history before reader engine (outside left written keeper steps)) where
   abbrev here : History
   here = history_after history served.effects
 
@@ -132,7 +133,7 @@ module _ (history : History) (before : Told) (reader reader' : Position) (engine
   now = outside left' written' keeper' steps'
 
   -- so many steps as the lines so far are allowed
-  within_so_far : (after : Outside) → after.told.steps ≡ steps → StepsWithin history served.handed served.effects before after
+  within_so_far : (after : Outside) → after.told.steps ≡ steps → StepsWithin setting history served.handed served.effects before after
   within_so_far after same ample =
       let at_most : steps ≤ before.steps + versions here * (1 + audits_in served.handed) = RunSum-end before.steps steps (versions here) (audits_in served.handed) (taken_of engine.world) (served.sum ample) in
       subst (λ (n : ℕ). n ≤ before.steps + versions here * (1 + audits_in served.handed)) (sym same) at_most
@@ -156,8 +157,8 @@ module _ (history : History) (before : Told) (reader reader' : Position) (engine
       there_is : there ≡ here ++ done.effect.added
       there_is = history_after-append history served.effects done.effect
 
-      run_on : IsRun history (opening_after history) (served.handed ++ line ∷ []) longer
-      run_on = IsRun-append history (opening_after history) served.handed served.effects line done.effect served.run
+      run_on : IsRun history (opening_after setting history) (served.handed ++ line ∷ []) longer
+      run_on = IsRun-append history (opening_after setting history) served.handed served.effects line done.effect served.run
           (subst (λ (w : World). IsEffect here w (command_of line) done.effect) served.world done.is)
 
       holds_on : Holds there engine' keeper'
@@ -167,10 +168,10 @@ module _ (history : History) (before : Told) (reader reader' : Position) (engine
       kept_on = subst (λ (h : History). KeepsHistory h keeper') (sym there_is)
           (KeepsHistory-after here done.effect.added keeper keeper' done.holds.stands.valid served.kept done.kept)
 
-      sum_on : IsAmple history (opening_after history) (served.handed ++ line ∷ []) longer
+      sum_on : IsAmple history (opening_after setting history) (served.handed ++ line ∷ []) longer
           → RunSum before.steps steps' (versions there) (audits_in (served.handed ++ line ∷ [])) (taken_of engine'.world)
       sum_on ample =
-          let parts = IsAmple-front history (opening_after history) served.handed served.effects line done.effect served.run ample in
+          let parts = IsAmple-front history (opening_after setting history) served.handed served.effects line done.effect served.run ample in
           let tallies : Tallies (command_of line) (versions here) steps steps' (taken_of engine.world) (taken_of engine'.world) =
           done.counts (λ reads. subst (λ (w : World). done.effect ≡ effect_of here w (command_of line)) (sym served.world) (parts.1 reads)) in
           let more : versions here ≤ versions there = subst (λ (h : History). versions here ≤ versions h) (sym there_is) (versions-more here done.effect.added) in
@@ -179,13 +180,13 @@ module _ (history : History) (before : Told) (reader reader' : Position) (engine
           more (served.sum parts.0) tallies)
 
       -- the line has its reply
-      pub served_more : Appends written written' engine'.reply → HasServed history before reader' engine' now
+      pub served_more : Appends written written' engine'.reply → HasServed setting history before reader' engine' now
       served_more appends = record {
         handed = served.handed ++ line ∷ [];
         effects = longer;
         handing = handing;
         run = run_on;
-        world = done.world ∙ sym (world_after-append (opening_after history) served.effects done.effect);
+        world = done.world ∙ sym (world_after-append (opening_after setting history) served.effects done.effect);
         holds = holds_on;
         kept = kept_on;
         sum = sum_on;
@@ -195,7 +196,7 @@ module _ (history : History) (before : Told) (reader reader' : Position) (engine
       }
 
       -- its reply could not be written whole
-      pub unwritten : AppendsFront written written' engine'.reply → reader'.taken ≤ input_limit → IsUnwritten history before now
+      pub unwritten : AppendsFront written written' engine'.reply → reader'.taken ≤ input_limit → IsUnwritten setting history before now
       unwritten front limit = record {
         replied = served.handed ++ line ∷ [];
         effects = served.effects;
@@ -212,7 +213,7 @@ module _ (history : History) (before : Told) (reader reader' : Position) (engine
       }
 
     -- the keeper failed while it was to keep an entry, or while it was read
-    broken_at : BreaksOff here (command_of line) engine keeper keeper' → KeepsBroken history served.effects line keeper'
+    broken_at : BreaksOff here (command_of line) engine keeper keeper' → KeepsBroken setting history served.effects line keeper'
     broken_at breaks = elim breaks [
       | inl adding ↦ inl (record {
         entry = adding.entry;
@@ -227,7 +228,7 @@ module _ (history : History) (before : Told) (reader reader' : Position) (engine
       })
     ]
 
-    pub broken_off : Carries {A = Unit {0}} (command_of line) (Err Keeper) engine engine' keeper keeper' steps steps' → written' ≡ written → reader'.taken ≤ input_limit → IsBrokenOff history before now
+    pub broken_off : Carries {A = Unit {0}} (command_of line) (Err Keeper) engine engine' keeper keeper' steps steps' → written' ≡ written → reader'.taken ≤ input_limit → IsBrokenOff setting history before now
     broken_off carries same limit = record {
       replied = served.handed;
       effects = served.effects;
@@ -244,11 +245,11 @@ module _ (history : History) (before : Told) (reader reader' : Position) (engine
     undamaged number carries = carries.undamaged tells here served.holds number refl
 
   -- the input has ended, or was cut off, and nothing else has changed
-  abbrev ran : HasRun history served.handed served.effects before (outside left' written keeper steps)
+  abbrev ran : HasRun setting history served.handed served.effects before (outside left' written keeper steps)
   ran = record { run = served.run; kept = served.kept; bound = within_so_far (outside left' written keeper steps) refl }
 
   pub all_served : ForInput before (λ input. HasHandedOut input served.handed reader' left' × (served.handed ≡ lines input) × (left' ≡ Some [])) → reader'.taken ≤ input_limit
-      → IsServed history before (outside left' written keeper steps)
+      → IsServed setting history before (outside left' written keeper steps)
   all_served ended limit = record {
     replied = served.handed;
     effects = served.effects;
@@ -265,7 +266,7 @@ module _ (history : History) (before : Told) (reader reader' : Position) (engine
           let ended : drop reader'.taken input ≡ [] = drop_told (drop reader'.taken input) (sym handing.told ∙ nothing) in
           record { all = all; nothing = nothing; limit = omega (arith, limit, length-drop reader'.taken input, ap length ended) }
 
-  pub cut_off : (amount : ℕ → Type 0) → amount reader'.taken → ForInput before (λ input. HasGivenUp input served.handed reader' left') → IsCutOff amount history before (outside left' written keeper steps)
+  pub cut_off : (amount : ℕ → Type 0) → amount reader'.taken → ForInput before (λ input. HasGivenUp input served.handed reader' left') → IsCutOff amount setting history before (outside left' written keeper steps)
   cut_off amount is gives_up = record {
     replied = served.handed;
     effects = served.effects;

@@ -22,6 +22,7 @@ use Rattle.hippo_engine.specs.declared.faults.EngineFault.{EngineFault}
 use Rattle.hippo_engine.specs.declared.faults.EngineFault.TheVariants.{Keeper, Write, Damaged as DamagedAt}
 use Rattle.hippo_engine.specs.Carrying.{AtWork, IsBacked, Carries}
 use Rattle.hippo_engine.proofs.CarryingLemmas.{Holds-opening}
+use Rattle.hippo_words.specs.declared.calls.Setting.{Setting}
 use Rattle.hippo_serve.specs.declared.endings.Ending.{Ending}
 use Rattle.hippo_serve.specs.declared.endings.Ending.TheVariants.{Served, Refused, KeeperFault, ReadFault, WriteFault, Damaged, NoMemory}
 use Rattle.hippo_serve.specs.Endings.{as_line_call}
@@ -120,32 +121,32 @@ module _ (line : Option LineText) (result : Option Ending) (engine engine' : Eng
       (λ text is carries writes. tt)
       (λ text is number carries. (tt, tt))
 
-  module _ (history : History) (before : Told) (reader reader' : Position) (left left' : Option Txt)
-      (served : HasServed history before reader engine (outside left output keeper steps)) (limit : reader'.taken ≤ input_limit) (tells : keeper'.tells) where
+  module _ (setting : Setting) (history : History) (before : Told) (reader reader' : Position) (left left' : Option Txt)
+      (served : HasServed setting history before reader engine (outside left output keeper steps)) (limit : reader'.taken ≤ input_limit) (tells : keeper'.tells) where
     abbrev now : Outside
     now = outside left' output' keeper' steps'
 
     abbrev Ends : Option Ending → Type 0
-    Ends r = MatchOption r (HasServed history before reader' engine' now) (λ ending. LinesEnd ending history before now)
+    Ends r = MatchOption r (HasServed setting history before reader' engine' now) (λ ending. LinesEnd ending setting history before now)
 
     abbrev Handed : Option LineText → Type 0
     Handed l = ForInput before (λ input. MatchOption l (HasHandedOut input served.handed reader' left' × (served.handed ≡ lines input) × (left' ≡ Some []))
         (λ text. HasHandedOut input (served.handed ++ text ∷ []) reader' left'))
 
     -- at the end of the input nothing has changed
-    at_end : keeper' ≡ keeper → output' ≡ output → steps' ≡ steps → Handed None → IsServed history before now
+    at_end : keeper' ≡ keeper → output' ≡ output → steps' ≡ steps → Handed None → IsServed setting history before now
     at_end kept written counted handed =
-        subst (λ (k : KeeperState). IsServed history before (outside left' output' k steps')) (sym kept)
-        (subst (λ (o : Option Txt). IsServed history before (outside left' o keeper steps')) (sym written)
-        (subst (λ (n : ℕ). IsServed history before (outside left' output keeper n)) (sym counted)
-        (all_served history before reader reader' engine engine' left left' output output' keeper keeper' steps steps' served handed limit)))
+        subst (λ (k : KeeperState). IsServed setting history before (outside left' output' k steps')) (sym kept)
+        (subst (λ (o : Option Txt). IsServed setting history before (outside left' o keeper steps')) (sym written)
+        (subst (λ (n : ℕ). IsServed setting history before (outside left' output keeper n)) (sym counted)
+        (all_served setting history before reader reader' engine engine' left left' output output' keeper keeper' steps steps' served handed limit)))
 
     pub served_by_turn : Handed line → Ends result
     served_by_turn handed = by_line Ends
         (λ is. at_end (same is) (end is).2 (end is).3 (subst Handed is handed))
-        (λ text is carries writes. served_more history before reader reader' engine engine' left left' output output' keeper keeper' steps steps' served text (subst Handed is handed) tells (Ok tt) carries refl writes)
-        (λ text is carries writes. broken_off history before reader reader' engine engine' left left' output output' keeper keeper' steps steps' served text (subst Handed is handed) tells carries writes limit)
-        (λ text is carries writes. unwritten history before reader reader' engine engine' left left' output output' keeper keeper' steps steps' served text (subst Handed is handed) tells (Err Write) carries refl writes limit)
+        (λ text is carries writes. served_more setting history before reader reader' engine engine' left left' output output' keeper keeper' steps steps' served text (subst Handed is handed) tells (Ok tt) carries refl writes)
+        (λ text is carries writes. broken_off setting history before reader reader' engine engine' left left' output output' keeper keeper' steps steps' served text (subst Handed is handed) tells carries writes limit)
+        (λ text is carries writes. unwritten setting history before reader reader' engine engine' left left' output output' keeper keeper' steps steps' served text (subst Handed is handed) tells (Err Write) carries refl writes limit)
         (λ text is number carries.
-        let never = undamaged history before reader reader' engine engine' left left' output output' keeper keeper' steps steps' served text (subst Handed is handed) tells number carries in
+        let never = undamaged setting history before reader reader' engine engine' left left' output output' keeper keeper' steps steps' served text (subst Handed is handed) tells number carries in
         (absurd never, absurd never))

@@ -1,5 +1,5 @@
 pub mod Endings
-pub mod Jobs
+pub mod Asking
 pub mod Saying
 pub mod Keeping
 pub mod Outside

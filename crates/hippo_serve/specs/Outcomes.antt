@@ -10,6 +10,7 @@ use Rattle.hippo_typing.specs.Meanings.{meaning}
 use Rattle.hippo_replay.specs.Loading.{KeepsFound}
 use Rattle.hippo_replay.specs.declared.faults.LoadFault.{LoadFault}
 use Rattle.hippo_replay.specs.declared.faults.LoadFault.TheVariants.{Keeper, Damaged as DamagedAt, Memory}
+use Rattle.hippo_words.specs.declared.calls.Setting.{Setting}
 use Rattle.hippo_serve.specs.declared.endings.Ending.{Ending}
 use Rattle.hippo_serve.specs.declared.endings.Ending.TheVariants.{Served, Refused, KeeperFault, ReadFault, WriteFault, Damaged, NoMemory, TooMuch}
 use Rattle.hippo_serve.specs.Saying.{damaged_line, entries_line, Says}
@@ -48,17 +49,17 @@ pub record BeginsDamaged (name : Txt) (before after : Outside) : Type 0 where
   pub written : AppendsFront before.told.written after.told.written (damaged_line place)
 
 -- how a run ends; unread and unwritten say that source and sink are as before
-abbrev pub RunEnds : Ending → Type 0 → Type 0 → Txt → Outside → Outside → Type 0
-RunEnds Served unread unwritten name before after = FromFound name IsServed before after
-RunEnds Refused unread unwritten name before after = ⊥
-RunEnds KeeperFault unread unwritten name before after =
-    (unread × unwritten × IsIdle name before after) ⊎ FromFound name IsBrokenOff before after
-RunEnds ReadFault unread unwritten name before after = FromFound name IsReadCut before after
-RunEnds WriteFault unread unwritten name before after =
-    (unread × BeginsDamaged name before after) ⊎ FromFound name IsUnwritten before after
-RunEnds Damaged unread unwritten name before after = SaysDamaged name before after
-RunEnds NoMemory unread unwritten name before after = IsIdle name before after
-RunEnds TooMuch unread unwritten name before after = FromFound name HasTooMuch before after
+abbrev pub RunEnds : Ending → Type 0 → Type 0 → Setting → Txt → Outside → Outside → Type 0
+RunEnds Served unread unwritten setting name before after = FromFound name (IsServed setting) before after
+RunEnds Refused unread unwritten setting name before after = ⊥
+RunEnds KeeperFault unread unwritten setting name before after =
+    (unread × unwritten × IsIdle name before after) ⊎ FromFound name (IsBrokenOff setting) before after
+RunEnds ReadFault unread unwritten setting name before after = FromFound name (IsReadCut setting) before after
+RunEnds WriteFault unread unwritten setting name before after =
+    (unread × BeginsDamaged name before after) ⊎ FromFound name (IsUnwritten setting) before after
+RunEnds Damaged unread unwritten setting name before after = SaysDamaged name before after
+RunEnds NoMemory unread unwritten setting name before after = IsIdle name before after
+RunEnds TooMuch unread unwritten setting name before after = FromFound name (HasTooMuch setting) before after
 
 -- a history is kept, and survives a stop; there was one step for each version in it
 pub record WasLoaded (history : History) (before : Told) (after : Outside) : Type 0 where

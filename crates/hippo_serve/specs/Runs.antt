@@ -11,7 +11,6 @@ use Rattle.hippo_model.specs.Validity.{may_follow}
 use Rattle.hippo_model.specs.Versions.{versions}
 use Rattle.hippo_keeper.specs.Keeping.{KeeperState}
 use Rattle.hippo_typing.specs.Meanings.{meaning}
-use Rattle.hippo_report.specs.declared.format.Format.TheVariants.{Text}
 use Rattle.hippo_replay.specs.Standing.{latest_moment}
 use Rattle.hippo_world.specs.Worlds.{World, opening}
 use Rattle.hippo_world.specs.Holding.{world_of, taken_of}
@@ -22,18 +21,15 @@ use Rattle.hippo_engine.specs.Carrying.{Holds, Carries}
 use Rattle.hippo_engine.specs.Effects.{Effect, effect_of}
 use Rattle.hippo_engine.specs.Ledgers.{reads_kept, RunSum}
 use Rattle.hippo_engine.specs.Runs.{IsRun, IsAmple, audits_in, replies, history_after, world_after}
+use Rattle.hippo_words.specs.declared.calls.Setting.{Setting}
 use Rattle.hippo_serve.specs.declared.endings.Ending.{Ending}
 use Rattle.hippo_serve.specs.declared.endings.Ending.TheVariants.{Served, KeeperFault, ReadFault, WriteFault, Damaged, TooMuch}
 use Rattle.hippo_serve.specs.Keeping.{KeepsHistory, KeepsEither}
 use Rattle.hippo_serve.specs.Outside.{Told, Outside}
 
--- how many entries a history may have
-abbrev pub entry_limit : ℕ
-entry_limit = 4000000
-
 -- the world in which a run over a history begins
-abbrev pub opening_after : History → World
-opening_after history = opening (latest_moment history) entry_limit Text
+abbrev pub opening_after : Setting → History → World
+opening_after setting history = opening (latest_moment history) setting.limit setting.format
 
 -- what holds of whatever input was told
 abbrev pub ForInput : Told → (Txt → Type 0) → Type 0
@@ -41,9 +37,9 @@ ForInput before holds = (input : Txt) → before.left ≡ Some input → holds i
 
 -- where memory was ample, what is kept was read once by loading, and at most once for each audit that was asked for:
 -- a step is one version that was read
-abbrev pub StepsWithin : History → List LineText → List Effect → Told → Outside → Type 0
-StepsWithin history replied effects before after =
-    IsAmple history (opening_after history) replied effects
+abbrev pub StepsWithin : Setting → History → List LineText → List Effect → Told → Outside → Type 0
+StepsWithin setting history replied effects before after =
+    IsAmple history (opening_after setting history) replied effects
     → after.told.steps ≤ before.steps + versions (history_after history effects) * (1 + audits_in replied)
 
 -- so many bytes of the input were taken, and the others are left: all at status 0, and more than are read just at 8
@@ -60,11 +56,11 @@ pub record IsReading (input : Txt) (reader : Position) (left : Option Txt) : Typ
   pub handing : HasHandedOut input handed reader left
 
 -- lines have had their effects from a history on, and what the last one left is kept, and survives a stop
-pub record HasRun (history : History) (replied : List LineText) (effects : List Effect)
+pub record HasRun (setting : Setting) (history : History) (replied : List LineText) (effects : List Effect)
     (before : Told) (after : Outside) : Type 0 where
-  pub run : IsRun history (opening_after history) replied effects
+  pub run : IsRun history (opening_after setting history) replied effects
   pub kept : KeepsHistory (history_after history effects) after.keeper
-  pub bound : StepsWithin history replied effects before after
+  pub bound : StepsWithin setting history replied effects before after
 
 -- these are all lines of the input, and nothing of it is left
 pub record HasReadAll (replied : List LineText) (input : Txt) (left : Option Txt) : Type 0 where
@@ -73,10 +69,10 @@ pub record HasReadAll (replied : List LineText) (input : Txt) (left : Option Txt
   pub limit : length input ≤ input_limit
 
 -- every line has its reply
-pub record IsServed (history : History) (before : Told) (after : Outside) : Type 0 where
+pub record IsServed (setting : Setting) (history : History) (before : Told) (after : Outside) : Type 0 where
   pub replied : List LineText
   pub effects : List Effect
-  pub ran : HasRun history replied effects before after
+  pub ran : HasRun setting history replied effects before after
   pub read : ForInput before (λ input. HasReadAll replied input after.told.left)
   pub written : Appends before.written after.told.written (replies effects)
 
@@ -90,20 +86,21 @@ pub record HasReadWhole (amount : ℕ → Type 0) (replied : List LineText) (inp
   pub whole : replied ≡ whole_lines input (min taken input_limit)
 
 -- just the lines that were read whole have their replies
-pub record IsCutOff (amount : ℕ → Type 0) (history : History) (before : Told) (after : Outside) : Type 0 where
+pub record IsCutOff (amount : ℕ → Type 0) (setting : Setting) (history : History) (before : Told) (after : Outside)
+    : Type 0 where
   pub replied : List LineText
   pub effects : List Effect
-  pub ran : HasRun history replied effects before after
+  pub ran : HasRun setting history replied effects before after
   pub read : ForInput before (λ input. HasReadWhole amount replied input after.told.left)
   pub written : Appends before.written after.told.written (replies effects)
 
 -- the source failed within the limit
-abbrev pub IsReadCut : History → Told → Outside → Type 0
-IsReadCut history before after = IsCutOff (λ taken. taken ≤ input_limit) history before after
+abbrev pub IsReadCut : Setting → History → Told → Outside → Type 0
+IsReadCut setting history before after = IsCutOff (λ taken. taken ≤ input_limit) setting history before after
 
 -- more bytes were taken than are read
-abbrev pub HasTooMuch : History → Told → Outside → Type 0
-HasTooMuch history before after = IsCutOff (λ taken. input_limit < taken) history before after
+abbrev pub HasTooMuch : Setting → History → Told → Outside → Type 0
+HasTooMuch setting history before after = IsCutOff (λ taken. input_limit < taken) setting history before after
 
 -- these are the first lines of the input; some of its bytes were taken, within the limit, and the others are left
 pub record HasReadFront (first : List LineText) (input : Txt) (left : Option Txt) : Type 0 where
@@ -115,19 +112,19 @@ pub record HasReadFront (first : List LineText) (input : Txt) (left : Option Txt
   pub limit : taken ≤ input_limit
 
 -- the lines have their replies but the last, of whose reply a front is written; it has had its effect all the same
-pub record IsUnwritten (history : History) (before : Told) (after : Outside) : Type 0 where
+pub record IsUnwritten (setting : Setting) (history : History) (before : Told) (after : Outside) : Type 0 where
   pub replied : List LineText
   pub effects : List Effect
   pub last : Effect
   pub front : ℕ
-  pub ran : HasRun history replied (effects ++ last ∷ []) before after
+  pub ran : HasRun setting history replied (effects ++ last ∷ []) before after
   pub read : ForInput before (λ input. HasReadFront replied input after.told.left)
   pub written : Appends before.written after.told.written (replies effects ++ take front last.reply)
 
 -- what the rules add for a line behind some effects
-abbrev pub added_next : History → List Effect → LineText → History
-added_next history effects line =
-    let world : World = world_after (opening_after history) effects in
+abbrev pub added_next : Setting → History → List Effect → LineText → History
+added_next setting history effects line =
+    let world : World = world_after (opening_after setting history) effects in
     (effect_of (history_after history effects) world (command_of line)).added
 
 -- a history is kept, or that with the one entry that the rules add to it
@@ -145,44 +142,44 @@ pub record KeepsRead (history added : History) (line : LineText) (keeper : Keepe
 
 -- the keeper failed at a line behind some effects: while it was to keep the entry that the rules add for the line, or
 -- while it was read
-abbrev pub KeepsBroken : History → List Effect → LineText → KeeperState → Type 0
-KeepsBroken history effects line keeper =
+abbrev pub KeepsBroken : Setting → History → List Effect → LineText → KeeperState → Type 0
+KeepsBroken setting history effects line keeper =
     let here : History = history_after history effects in
-    let added : History = added_next history effects line in
+    let added : History = added_next setting history effects line in
     KeepsOrAdds here added keeper ⊎ KeepsRead here added line keeper
 
 -- the lines have their replies, and nothing is written of the next one's; what they left is kept, or that with the one
 -- entry that the rules add for the next line
-pub record IsBrokenOff (history : History) (before : Told) (after : Outside) : Type 0 where
+pub record IsBrokenOff (setting : Setting) (history : History) (before : Told) (after : Outside) : Type 0 where
   pub replied : List LineText
   pub effects : List Effect
   pub next : LineText
-  pub run : IsRun history (opening_after history) replied effects
-  pub kept : KeepsBroken history effects next after.keeper
-  pub bound : reads_kept (command_of next) ≡ false → StepsWithin history replied effects before after
+  pub run : IsRun history (opening_after setting history) replied effects
+  pub kept : KeepsBroken setting history effects next after.keeper
+  pub bound : reads_kept (command_of next) ≡ false → StepsWithin setting history replied effects before after
   pub read : ForInput before (λ input. HasReadFront (replied ++ next ∷ []) input after.told.left)
   pub written : Appends before.written after.told.written (replies effects)
 
 -- how a run over lines ends
-abbrev pub LinesEnd : Ending → History → Told → Outside → Type 0
-LinesEnd Served history before after = IsServed history before after
-LinesEnd KeeperFault history before after = IsBrokenOff history before after
-LinesEnd ReadFault history before after = IsReadCut history before after
-LinesEnd WriteFault history before after = IsUnwritten history before after
-LinesEnd TooMuch history before after = HasTooMuch history before after
-LinesEnd ending history before after = ⊥
+abbrev pub LinesEnd : Ending → Setting → History → Told → Outside → Type 0
+LinesEnd Served setting history before after = IsServed setting history before after
+LinesEnd KeeperFault setting history before after = IsBrokenOff setting history before after
+LinesEnd ReadFault setting history before after = IsReadCut setting history before after
+LinesEnd WriteFault setting history before after = IsUnwritten setting history before after
+LinesEnd TooMuch setting history before after = HasTooMuch setting history before after
+LinesEnd ending setting history before after = ⊥
 
 -- so far the lines that were handed out have their replies, and the engine and its keeper hold what the last one left
-pub record HasServed (history : History) (before : Told) (reader : Position) (engine : Engine)
+pub record HasServed (setting : Setting) (history : History) (before : Told) (reader : Position) (engine : Engine)
     (now : Outside) : Type 0 where
   pub handed : List LineText
   pub effects : List Effect
   pub handing : ForInput before (λ input. HasHandedOut input handed reader now.told.left)
-  pub run : IsRun history (opening_after history) handed effects
-  pub world : world_of engine.world ≡ world_after (opening_after history) effects
+  pub run : IsRun history (opening_after setting history) handed effects
+  pub world : world_of engine.world ≡ world_after (opening_after setting history) effects
   pub holds : Holds (history_after history effects) engine now.keeper
   pub kept : KeepsHistory (history_after history effects) now.keeper
-  pub sum : IsAmple history (opening_after history) handed effects
+  pub sum : IsAmple history (opening_after setting history) handed effects
       → RunSum before.steps now.told.steps (versions (history_after history effects)) (audits_in handed)
       (taken_of engine.world)
   pub written : Appends before.written now.told.written (replies effects)

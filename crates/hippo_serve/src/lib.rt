@@ -2,13 +2,11 @@
 #![tactic(auto)]
 
 mod endings;
-mod jobs;
 mod laws;
 mod printing;
 mod serving;
 mod top;
 
 pub use endings::Ending;
-pub use jobs::Job;
 pub use laws::{next_run, next_run_in_memory};
 pub use top::hippo_top;

@@ -9,7 +9,9 @@ use crate::endings::Ending;
 use hippo_io::{Failed, Sink, write_whole};
 use itoa::Buffer;
 
-const USAGE: &str = "usage: hippo run|check\n";
+const USAGE: &str =
+    "usage: hippo run|check|drill|load [--store NAME] [--history N] [--size N] [--number N] \
+      [--format text|json|csv] [--table NAME] [--moment MOMENT]\n";
 
 // Writes words, a number and a line feed.
 fn write_numbered<K: Sink>(sink: &mut K, words: &str, number: u64) -> Result<(), Failed>

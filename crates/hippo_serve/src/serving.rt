@@ -7,16 +7,16 @@ ghost use Rattle.hippo_model.specs.Terms.{History};
 ghost use Rattle.hippo_model.specs.Versions.{versions};
 ghost use Rattle.hippo_keeper.specs.Keeping.{IsAfterCall};
 ghost use Rattle.hippo_commands.specs.Commands.{commanded};
-ghost use Rattle.hippo_report.specs.declared.format.Format.TheVariants.{Text};
 ghost use Rattle.hippo_replay.specs.Standing.{StandsFor};
 ghost use Rattle.hippo_world.specs.Holding.{world_of};
 ghost use Rattle.hippo_world.specs.Worlds.{opening};
 ghost use Rattle.hippo_engine.specs.Carrying.{Holds, AtWork, IsBacked};
+ghost use Rattle.hippo_words.specs.declared.calls.Setting.{Setting};
 ghost use Rattle.hippo_serve.specs.declared.endings.Ending.TheVariants.{Served, Refused, ReadFault, WriteFault, NoMemory};
 ghost use Rattle.hippo_serve.specs.Endings.{status_of, as_call, as_line_call};
 ghost use Rattle.hippo_serve.specs.Keeping.{KeepsHistory};
 ghost use Rattle.hippo_serve.specs.Outside.{Told, telling, outside};
-ghost use Rattle.hippo_serve.specs.Runs.{entry_limit, opening_after, HasTaken, IsReading, LinesEnd, HasServed, Turn};
+ghost use Rattle.hippo_serve.specs.Runs.{opening_after, HasTaken, IsReading, LinesEnd, HasServed, Turn};
 
 use crate::endings::Ending;
 use crate::printing::say_damaged;
@@ -24,13 +24,10 @@ use hippo_engine::{Engine, EngineFault};
 use hippo_io::{Line, LineFault, LineReader, Sink, Source};
 use hippo_keeper::{Keeper, Steps};
 use hippo_replay::State;
-use hippo_report::Format;
 use hippo_values::Memory;
+use hippo_words::Setting;
 use std::alloc::Global;
 use std::sync::ledger::Ledger;
-
-// How many entries a history may have.
-const ENTRY_LIMIT: u32 = 4_000_000;
 
 // Carries out a line and writes its reply; answers how the run ends, where it does.
 fn carry_out<K: Sink, P: Keeper, L: Ledger>(
@@ -82,13 +79,13 @@ fn serve_line<S: Source, K: Sink, P: Keeper, L: Ledger>(
     ensures read { (input : List ℕ) → IsReading input reader.old (S.left source.old) →
         MatchOption result (IsReading input reader.new (S.left source.new))
         (λ ending. HasTaken (status_of ending) input (S.left source.new)) }
-    ensures served { (P.state keeper.new).tells → (history : History) (before : Told) →
-        HasServed history before reader.old engine.old
+    ensures served { (P.state keeper.new).tells → (setting : Setting) (history : History) (before : Told) →
+        HasServed setting history before reader.old engine.old
         (outside (S.left source.old) (K.written sink.old) (P.state keeper.old) steps.old) →
         MatchOption result
-        (HasServed history before reader.new engine.new
+        (HasServed setting history before reader.new engine.new
         (outside (S.left source.new) (K.written sink.new) (P.state keeper.new) steps.new))
-        (λ ending. LinesEnd ending history before
+        (λ ending. LinesEnd ending setting history before
         (outside (S.left source.new) (K.written sink.new) (P.state keeper.new) steps.new)) }
     ensures read_fault { result ≡ Some ReadFault → HasRisen (S.faults source.old) (S.faults source.new) }
     ensures write_fault { result ≡ Some WriteFault → HasRisen (K.faults sink.old) (K.faults sink.new) }
@@ -119,10 +116,11 @@ fn serve_lines<S: Source, K: Sink, P: Keeper, L: Ledger>(
     ensures call { IsAfterCall true false (as_call result) (P.state keeper.old) (P.state keeper.new) }
     ensures read { (input : List ℕ) → S.left source.old ≡ Some input →
         HasTaken (status_of result) input (S.left source.new) }
-    ensures ends { (P.state keeper.new).tells → (history : History) → Holds history engine.old (P.state keeper.old) →
-        world_of engine.old.world ≡ opening_after history → KeepsHistory history (P.state keeper.old) →
+    ensures ends { (P.state keeper.new).tells → (setting : Setting) (history : History) →
+        Holds history engine.old (P.state keeper.old) →
+        world_of engine.old.world ≡ opening_after setting history → KeepsHistory history (P.state keeper.old) →
         (start : ℕ) → steps.old ≡ start + versions history →
-        LinesEnd result history (telling (S.left source.old) (K.written sink.old) start)
+        LinesEnd result setting history (telling (S.left source.old) (K.written sink.old) start)
         (outside (S.left source.new) (K.written sink.new) (P.state keeper.new) steps.new) }
     ensures read_fault { result ≡ ReadFault → HasRisen (S.faults source.old) (S.faults source.new) }
     ensures write_fault { result ≡ WriteFault → HasRisen (K.faults sink.old) (K.faults sink.new) }
@@ -137,16 +135,18 @@ fn serve_lines<S: Source, K: Sink, P: Keeper, L: Ledger>(
 }
 
 // An engine over a state.
-fn open(alloc: Global, state: State) -> Result<Engine, Memory>
+fn open(alloc: Global, setting: Setting, state: State) -> Result<Engine, Memory>
     ensures state { IfOk result (λ engine. engine.state ≡ state) }
-    ensures world { IfOk result (λ engine. world_of engine.world ≡ opening state.last entry_limit Text) }
+    ensures world { IfOk result (λ engine.
+        world_of engine.world ≡ opening state.last setting.limit setting.format) }
 {
-    Engine::new(alloc, state, ENTRY_LIMIT, Format::Text)
+    Engine::new(alloc, state, setting.limit, setting.format)
 }
 
 /// Serves all lines over a state that was loaded from the keeper. Want of memory comes before anything is read.
 pub fn serve<S: Source, K: Sink, P: Keeper, L: Ledger>(
     alloc: Global,
+    setting: Setting,
     state: State,
     source: &mut S,
     keeper: &mut P,
@@ -162,7 +162,7 @@ pub fn serve<S: Source, K: Sink, P: Keeper, L: Ledger>(
         HasTaken (status_of result) input (S.left source.new) }
     ensures ends { result ≢ NoMemory → (P.state keeper.new).tells → (history : History) → StandsFor state history →
         KeepsHistory history (P.state keeper.old) → (start : ℕ) → steps.old ≡ start + versions history →
-        LinesEnd result history (telling (S.left source.old) (K.written sink.old) start)
+        LinesEnd result setting history (telling (S.left source.old) (K.written sink.old) start)
         (outside (S.left source.new) (K.written sink.new) (P.state keeper.new) steps.new) }
     ensures read_fault { result ≡ ReadFault → HasRisen (S.faults source.old) (S.faults source.new) }
     ensures write_fault { result ≡ WriteFault → HasRisen (K.faults sink.old) (K.faults sink.new) }
@@ -173,7 +173,7 @@ pub fn serve<S: Source, K: Sink, P: Keeper, L: Ledger>(
         drop(state);
         return Ending::NoMemory;
     };
-    match open(alloc, state) {
+    match open(alloc, setting, state) {
         Ok(mut engine) => {
             let ending = serve_lines(alloc, &mut engine, &mut reader, source, keeper, sink, steps);
             drop(engine);

@@ -1,25 +1,26 @@
 //! The top call: what the words ask for is done over a keeper, and the call has its exit status.
-ghost use Rattle.std.specs.Prelude.{◌≡◌, ◌≢◌, ◌⊎◌, ℕ, List, [], ◌∷◌, Option, Some, None, true, false, Any};
+ghost use Rattle.std.specs.Prelude.{◌≡◌, ◌≢◌, ◌⊎◌, ℕ, List, [], ◌∷◌, Option, Some, true, false, Any};
 ghost use Rattle.hippo_io.specs.Faults.{HasRisen};
 ghost use Rattle.hippo_io.specs.Told.{Appends, AppendsFront};
 ghost use Rattle.hippo_keeper.specs.Keeping.{IsReady, IsAfterCall};
+ghost use Rattle.hippo_words.specs.declared.calls.Setting.{Setting};
+ghost use Rattle.hippo_words.specs.declared.calls.Job.TheVariants.{Run, Check};
 ghost use Rattle.hippo_serve.specs.declared.endings.Ending.TheVariants.{Served, Refused, ReadFault, WriteFault, Damaged, NoMemory, TooMuch};
-ghost use Rattle.hippo_serve.specs.declared.jobs.Job.TheVariants.{Run, Check};
 ghost use Rattle.hippo_serve.specs.Endings.{status_of, as_call};
-ghost use Rattle.hippo_serve.specs.Jobs.{job_of};
+ghost use Rattle.hippo_serve.specs.Asking.{job_of, store_of, is_refused};
 ghost use Rattle.hippo_serve.specs.Outcomes.{FromFound, IsIdle, BeginsDamaged, SaysDamaged, IsCounted, BeginsCount, RunEnds, CheckEnds, Stops};
 ghost use Rattle.hippo_serve.specs.Outside.{Outside, outside};
 ghost use Rattle.hippo_serve.specs.Runs.{HasTaken, IsServed, IsBrokenOff, IsReadCut, IsUnwritten, HasTooMuch};
 ghost use Rattle.hippo_serve.specs.Saying.{usage};
 
 use crate::endings::Ending;
-use crate::jobs::{Job, job_of};
 use crate::printing::{refuse, say_damaged, say_entries};
 use crate::serving::serve;
 use hippo_io::{Sink, Source};
 use hippo_keeper::{Keeper, Steps};
 use hippo_replay::{LoadFault, State, load};
 use hippo_values::Txt;
+use hippo_words::{Job, Setting, call_of};
 use std::alloc::Global;
 use std::sync::ledger::Ledger;
 
@@ -49,6 +50,7 @@ fn count_of(state: State) -> u64
 fn run<S: Source, K: Sink, P: Keeper, L: Ledger>(
     alloc: Global,
     store: &str,
+    setting: Setting,
     source: &mut S,
     sink: &mut K,
     keeper: &mut P,
@@ -59,7 +61,7 @@ fn run<S: Source, K: Sink, P: Keeper, L: Ledger>(
     ensures call { IsAfterCall (P.state keeper.new).started (P.state keeper.new).closed (as_call result)
         (P.state keeper.old) (P.state keeper.new) }
     ensures ends { (P.state keeper.new).tells →
-        RunEnds result (source.new ≡ source.old) (sink.new ≡ sink.old) store.now
+        RunEnds result (source.new ≡ source.old) (sink.new ≡ sink.old) setting store.now
         (outside (S.left source.old) (K.written sink.old) (P.state keeper.old) steps.old)
         (outside (S.left source.new) (K.written sink.new) (P.state keeper.new) steps.new) }
     ensures damaged { result ≡ Damaged → (P.state keeper.new).tells → source.new ≡ source.old }
@@ -73,7 +75,7 @@ fn run<S: Source, K: Sink, P: Keeper, L: Ledger>(
     ensures unfailed_write { result ≢ WriteFault → K.faults sink.new ≡ K.faults sink.old }
 {
     match load(keeper, alloc, store, steps) {
-        Ok(state) => serve(alloc, state, source, keeper, sink, steps),
+        Ok(state) => serve(alloc, setting, state, source, keeper, sink, steps),
         Err(fault) => stop(fault, sink),
     }
 }
@@ -108,12 +110,13 @@ fn check<K: Sink, P: Keeper, L: Ledger>(
 }
 
 /// Runs the program: `words` are those behind its name, `source` is its input, `sink` its output, and `keeper`, which
-/// must be neither started nor spent nor closed, keeps its history. Answers the exit status.
+/// must be neither started nor spent nor closed, keeps its history in the store that the words name, or in memory.
+/// Answers the exit status.
 ///
 /// - 0: for `run` the input was read to its end, and every line has its reply; for `check` the line `entries N` is
 ///   written, with N the number of kept entries.
-/// - 2: exactly where the words are neither the one word `run` nor `check`; the usage line is written, and nothing is
-///   read.
+/// - 2: exactly where the words are not those of a job that is carried out (see [`call_of`]; `load` and `drill` are not
+///   yet); the usage line is written, and nothing is read.
 /// - 3: the keeper failed; the lines before have their replies, and the next one's entry is kept or not.
 /// - 4: the source failed; just the lines that were read whole have their replies.
 /// - 5: the sink failed; what was written is a front of what was to be written.
@@ -133,66 +136,70 @@ pub fn hippo_top<S: Source, K: Sink, P: Keeper, L: Ledger>(
     requires ready { IsReady false (P.state keeper.old) }
     ensures status { Any (λ status. result ≡ status) (0 ∷ 2 ∷ 3 ∷ 4 ∷ 5 ∷ 6 ∷ 7 ∷ 8 ∷ []) }
 
-    // Words that are not those of a job are refused, and nothing is read or kept.
-    ensures refused { job_of words.now ≡ None → ((result ≡ 2) ⊎ (result ≡ 5))
+    // Words that ask for no job that is carried out are refused, and nothing is read or kept.
+    ensures refused { is_refused words.now ≡ true → ((result ≡ 2) ⊎ (result ≡ 5) ⊎ (result ≡ 7))
         × (source.new ≡ source.old) × (keeper.new ≡ keeper.old) × (steps.new ≡ steps.old) }
-    ensures accepted { job_of words.now ≢ None → result ≢ 2 }
+    ensures accepted { is_refused words.now ≡ false → result ≢ 2 }
     ensures usage { result ≡ 2 → Appends (K.written sink.old) (K.written sink.new) usage }
-    ensures usage_cut { job_of words.now ≡ None → result ≡ 5 →
+    ensures usage_cut { is_refused words.now ≡ true → result ≡ 5 →
         AppendsFront (K.written sink.old) (K.written sink.new) usage }
 
     // What a run comes to, where the keeper tells, from what a start may find; of an input and an output that are told,
     // which lines were read, and what is written.
-    ensures served { job_of words.now ≡ Some Run → result ≡ 0 → (P.state keeper.new).tells →
-        FromFound [] IsServed
+    ensures served { (setting : Setting) → job_of words.now ≡ Some (Run setting) → result ≡ 0 →
+        (P.state keeper.new).tells → FromFound (store_of words.now) (IsServed setting)
         (outside (S.left source.old) (K.written sink.old) (P.state keeper.old) steps.old)
         (outside (S.left source.new) (K.written sink.new) (P.state keeper.new) steps.new) }
-    ensures keeper_cut { job_of words.now ≡ Some Run → result ≡ 3 → (P.state keeper.new).tells →
+    ensures keeper_cut { (setting : Setting) → job_of words.now ≡ Some (Run setting) → result ≡ 3 →
+        (P.state keeper.new).tells →
         let before : Outside = outside (S.left source.old) (K.written sink.old) (P.state keeper.old) steps.old in
         let after : Outside = outside (S.left source.new) (K.written sink.new) (P.state keeper.new) steps.new in
-        ((source.new ≡ source.old) × (sink.new ≡ sink.old) × IsIdle [] before after)
-        ⊎ FromFound [] IsBrokenOff before after }
-    ensures read_cut { result ≡ 4 → (P.state keeper.new).tells →
-        FromFound [] IsReadCut
+        ((source.new ≡ source.old) × (sink.new ≡ sink.old) × IsIdle (store_of words.now) before after)
+        ⊎ FromFound (store_of words.now) (IsBrokenOff setting) before after }
+    ensures read_cut { (setting : Setting) → job_of words.now ≡ Some (Run setting) → result ≡ 4 →
+        (P.state keeper.new).tells → FromFound (store_of words.now) (IsReadCut setting)
         (outside (S.left source.old) (K.written sink.old) (P.state keeper.old) steps.old)
         (outside (S.left source.new) (K.written sink.new) (P.state keeper.new) steps.new) }
-    ensures write_cut { job_of words.now ≡ Some Run → result ≡ 5 → (P.state keeper.new).tells →
+    ensures write_cut { (setting : Setting) → job_of words.now ≡ Some (Run setting) → result ≡ 5 →
+        (P.state keeper.new).tells →
         let before : Outside = outside (S.left source.old) (K.written sink.old) (P.state keeper.old) steps.old in
         let after : Outside = outside (S.left source.new) (K.written sink.new) (P.state keeper.new) steps.new in
-        ((source.new ≡ source.old) × BeginsDamaged [] before after) ⊎ FromFound [] IsUnwritten before after }
-    ensures too_much { result ≡ 8 → (P.state keeper.new).tells →
-        FromFound [] HasTooMuch
+        ((source.new ≡ source.old) × BeginsDamaged (store_of words.now) before after)
+        ⊎ FromFound (store_of words.now) (IsUnwritten setting) before after }
+    ensures too_much { (setting : Setting) → job_of words.now ≡ Some (Run setting) → result ≡ 8 →
+        (P.state keeper.new).tells → FromFound (store_of words.now) (HasTooMuch setting)
         (outside (S.left source.old) (K.written sink.old) (P.state keeper.old) steps.old)
         (outside (S.left source.new) (K.written sink.new) (P.state keeper.new) steps.new) }
 
     // Of an input that is told, a run takes all where it ends with 0, and more than are read just where it ends with 8,
     // whatever the keeper.
-    ensures taken { job_of words.now ≡ Some Run → (input : List ℕ) → S.left source.old ≡ Some input →
-        HasTaken result input (S.left source.new) }
+    ensures taken { (setting : Setting) → job_of words.now ≡ Some (Run setting) → (input : List ℕ) →
+        S.left source.old ≡ Some input → HasTaken result input (S.left source.new) }
 
     // A check reads nothing and keeps what it finds.
     ensures counted { job_of words.now ≡ Some Check → result ≡ 0 → (P.state keeper.new).tells →
-        FromFound [] IsCounted
+        FromFound (store_of words.now) IsCounted
         (outside (S.left source.old) (K.written sink.old) (P.state keeper.old) steps.old)
         (outside (S.left source.new) (K.written sink.new) (P.state keeper.new) steps.new) }
     ensures count_cut { job_of words.now ≡ Some Check → result ≡ 5 → (P.state keeper.new).tells →
         let before : Outside = outside (S.left source.old) (K.written sink.old) (P.state keeper.old) steps.old in
         let after : Outside = outside (S.left source.new) (K.written sink.new) (P.state keeper.new) steps.new in
-        BeginsDamaged [] before after ⊎ FromFound [] BeginsCount before after }
+        BeginsDamaged (store_of words.now) before after ⊎ FromFound (store_of words.now) BeginsCount before after }
     ensures uncounted { job_of words.now ≡ Some Check → result ≡ 3 → (P.state keeper.new).tells →
         sink.new ≡ sink.old }
     ensures uncut { job_of words.now ≡ Some Check → (result ≢ 4) × (result ≢ 8) }
     ensures unread { job_of words.now ≡ Some Check → source.new ≡ source.old }
-    ensures same { job_of words.now ≡ Some Check → (P.state keeper.new).tells → IsIdle []
+    ensures same { job_of words.now ≡ Some Check → (P.state keeper.new).tells → IsIdle (store_of words.now)
         (outside (S.left source.old) (K.written sink.old) (P.state keeper.old) steps.old)
         (outside (S.left source.new) (K.written sink.new) (P.state keeper.new) steps.new) }
 
     // Either finds damage, where the keeper tells, or no memory, before it reads.
-    ensures damaged { result ≡ 6 → (P.state keeper.new).tells → (source.new ≡ source.old) × SaysDamaged []
+    ensures damaged { result ≡ 6 → (P.state keeper.new).tells →
+        (source.new ≡ source.old) × SaysDamaged (store_of words.now)
         (outside (S.left source.old) (K.written sink.old) (P.state keeper.old) steps.old)
         (outside (S.left source.new) (K.written sink.new) (P.state keeper.new) steps.new) }
     ensures nothing { result ≡ 7 → (source.new ≡ source.old) × (sink.new ≡ sink.old) × ((P.state keeper.new).tells →
-        IsIdle []
+        IsIdle (store_of words.now)
         (outside (S.left source.old) (K.written sink.old) (P.state keeper.old) steps.old)
         (outside (S.left source.new) (K.written sink.new) (P.state keeper.new) steps.new)) }
 
@@ -206,9 +213,16 @@ pub fn hippo_top<S: Source, K: Sink, P: Keeper, L: Ledger>(
     ensures unfailed_read { result ≢ 4 → S.faults source.new ≡ S.faults source.old }
     ensures unfailed_write { result ≢ 5 → K.faults sink.new ≡ K.faults sink.old }
 {
-    match job_of(words) {
-        Some(Job::Run) => run(alloc, "", source, sink, keeper, steps).status(),
-        Some(Job::Check) => check(alloc, "", sink, keeper, steps).status(),
-        None => refuse(sink).status(),
+    let Ok(asked) = call_of(alloc, words) else {
+        return Ending::NoMemory.status();
+    };
+    let Some(call) = asked else {
+        return refuse(sink).status();
+    };
+    let store = call.store.as_str();
+    match &call.job {
+        Job::Run(setting) => run(alloc, store, *setting, source, sink, keeper, steps).status(),
+        Job::Check => check(alloc, store, sink, keeper, steps).status(),
+        Job::Load { .. } | Job::Drill { .. } => refuse(sink).status(),
     }
 }

@@ -15,6 +15,7 @@ use Rattle.hippo_commands.specs.Moments.{moment_in}
 use Rattle.hippo_report.specs.declared.format.Format.{Format}
 use Rattle.hippo_report.specs.declared.format.Format.TheVariants as formats
 use Rattle.hippo_words.specs.declared.calls.Call.{Call}
+use Rattle.hippo_words.specs.declared.calls.Setting.{Setting}
 use Rattle.hippo_words.specs.declared.calls.Job.{Job}
 use Rattle.hippo_words.specs.declared.calls.Job.TheVariants.{Run, Load, Check, Drill}
 
@@ -45,9 +46,6 @@ command_line = record {
 abbrev pub number_or : ℕ → Option Txt → ℕ
 number_or otherwise written = option_map_or (λ text. digits_value 10 (without_leading_plus text)) written otherwise
 
-abbrev pub limit_in : List Row → ℕ
-limit_in rows = number_or 4000000 (first_of (codes "history") rows)
-
 -- the format with a name
 abbrev pub format_named : Txt → Option Format
 format_named name =
@@ -59,17 +57,21 @@ format_named name =
 abbrev pub format_in : List Row → Option Format
 format_in rows = format_named (unwrap_or (first_of (codes "format") rows) (codes "text"))
 
+-- what a run begins with, in a format
+abbrev pub setting_with : List Row → Format → Setting
+setting_with rows format = record { limit = number_or 4000000 (first_of (codes "history") rows); format = format }
+
 -- a load wants a table's name and a moment
 abbrev pub load_with : List Row → Format → Option Job
 load_with rows format =
-    option_and_then (λ table. option_and_then (λ moment. Some (Load (limit_in rows) format table moment))
+    option_and_then (λ table. option_and_then (λ moment. Some (Load (setting_with rows format) table moment))
     (option_and_then moment_in (first_of (codes "moment") rows)))
     (option_and_then name_of (first_of (codes "table") rows))
 
 -- the job with a name; of what is written it has what it uses
 abbrev pub job_named : List Row → Format → Txt → Option Job
 job_named rows format name =
-    if bytes_eq name (codes "run") then Some (Run (limit_in rows) format)
+    if bytes_eq name (codes "run") then Some (Run (setting_with rows format))
     else if bytes_eq name (codes "load") then load_with rows format
     else if bytes_eq name (codes "check") then Some Check
     else if bytes_eq name (codes "drill") then
@@ -91,5 +93,5 @@ abbrev pub is_taken : List Txt → Bool
 is_taken words = is_empty (fault_of command_line words)
 
 -- what the words of a call ask for, if anything
-abbrev pub call_of : List Txt → Option Call
+unfoldable pub call_of : List Txt → Option Call
 call_of words = if is_taken words then call_in (matches_of command_line words) else None

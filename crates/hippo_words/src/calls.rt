@@ -2,18 +2,21 @@
 use hippo_report::Format;
 use hippo_values::{Moment, Name, Txt};
 
+/// What a run begins with: how many entries the history may have, and how flags are printed.
+#[derive(Clone, Copy, Debug, PartialEq, Eq)]
+pub struct Setting {
+    pub limit: u32,
+    pub format: Format,
+}
+
 /// A job, with what it uses of the command line.
 #[derive(Debug, Drop)]
 pub enum Job {
-    /// Reads lines and replies to each; the history may have so many entries, and flags are printed so.
-    Run {
-        limit: u32,
-        format: Format,
-    },
+    /// Reads lines and replies to each.
+    Run(Setting),
     /// Reads records of a table, and inserts each at one moment.
     Load {
-        limit: u32,
-        format: Format,
+        setting: Setting,
         table: Name,
         moment: Moment,
     },

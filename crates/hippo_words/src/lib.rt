@@ -5,5 +5,5 @@ mod arguments;
 mod calls;
 mod reading;
 
-pub use calls::{Call, Job};
+pub use calls::{Call, Job, Setting};
 pub use reading::call_of;

@@ -4,19 +4,22 @@ ghost use Rattle.clap.specs.Words.{first_of, rows_of, found_of};
 ghost use Rattle.hippo_values.specs.Names.{name_of};
 ghost use Rattle.hippo_commands.specs.Moments.{moment_in};
 ghost use Rattle.hippo_words.specs.declared.calls.Job.TheVariants.{Run, Drill};
-ghost use Rattle.hippo_words.specs.CommandLine.{number_or, limit_in, format_named, format_in, load_with, job_named, job_in, call_in, call_of};
+ghost use Rattle.hippo_words.specs.CommandLine.{number_or, setting_with, format_named, format_in, load_with, job_named, job_in, call_in, call_of};
 
 use crate::arguments::{found_in, number_or, text_of};
-use crate::calls::{Call, Job};
+use crate::calls::{Call, Job, Setting};
 use clap::ArgMatches;
 use hippo_report::Format;
 use hippo_values::{Memory, Moment, Name, Txt, read_moment};
 use std::alloc::Global;
 
-fn limit_of(matches: &ArgMatches<'_>) -> Result<u32, Memory>
-    ensures { IfOk result (λ limit. limit ≡ limit_in (rows_of (found_of matches.now))) }
+fn setting_with(matches: &ArgMatches<'_>, format: Format) -> Result<Setting, Memory>
+    ensures { IfOk result (λ setting. setting ≡ setting_with (rows_of (found_of matches.now)) format) }
 {
-    number_or(matches, "history", 4_000_000)
+    Ok(Setting {
+        limit: number_or(matches, "history", 4_000_000)?,
+        format,
+    })
 }
 
 fn format_named(name: &str) -> Option<Format>
@@ -61,7 +64,7 @@ fn table_of(alloc: Global, matches: &ArgMatches<'_>) -> Result<Option<Name>, Mem
 fn load_of(alloc: Global, matches: &ArgMatches<'_>, format: Format) -> Result<Option<Job>, Memory>
     ensures { IfOk result (λ job. job ≡ load_with (rows_of (found_of matches.now)) format) }
 {
-    let limit = limit_of(matches)?;
+    let setting = setting_with(matches, format)?;
     let Some(table) = table_of(alloc, matches)? else {
         return Ok(None);
     };
@@ -69,20 +72,16 @@ fn load_of(alloc: Global, matches: &ArgMatches<'_>, format: Format) -> Result<Op
         return Ok(None);
     };
     Ok(Some(Job::Load {
-        limit,
-        format,
+        setting,
         table,
         moment,
     }))
 }
 
 fn run_of(matches: &ArgMatches<'_>, format: Format) -> Result<Job, Memory>
-    ensures { IfOk result (λ job. job ≡ Run (limit_in (rows_of (found_of matches.now))) format) }
+    ensures { IfOk result (λ job. job ≡ Run (setting_with (rows_of (found_of matches.now)) format)) }
 {
-    Ok(Job::Run {
-        limit: limit_of(matches)?,
-        format,
-    })
+    Ok(Job::Run(setting_with(matches, format)?))
 }
 
 fn drill_of(matches: &ArgMatches<'_>) -> Result<Job, Memory>
@@ -145,6 +144,7 @@ fn texts_of<'w>(alloc: Global, words: &'w [Txt]) -> Result<Vec<&'w str>, Memory>
     Ok(texts)
 }
 
+#[tactic(auto, unfolding(crate::specs::CommandLine::call_of))]
 fn call_in(alloc: Global, words: &[&str]) -> Result<Option<Call>, Memory>
     ensures { IfOk result (λ call. call ≡ call_of (map (λ word. word.now) words.now)) }
 {

@@ -12,7 +12,7 @@ loop-ending-init g c = record {
   call = IsAfterCall-none (g.P.Keeper.state c.args.keeper.now) c.requires.at_work.ready;
   at_work = c.requires.at_work;
   reading = λ input is. reading_none input c.args.reader.now (g.S.Source.left c.args.source.now) is (c.requires.handed input);
-  served = λ tells history holds world keeps start counted.
-      served_none history c.args.reader.now (g.S.Source.left c.args.source.now) (g.K.Sink.written c.args.sink.now) c.args.engine.now (g.P.Keeper.state c.args.keeper.now) start c.args.steps.now
+  served = λ tells setting history holds world keeps start counted.
+      served_none setting history c.args.reader.now (g.S.Source.left c.args.source.now) (g.K.Sink.written c.args.sink.now) c.args.engine.now (g.P.Keeper.state c.args.keeper.now) start c.args.steps.now
       c.requires.handed holds world keeps counted;
 }

@@ -7,6 +7,7 @@ use Rattle.hippo_model.specs.Versions.{versions}
 use Rattle.hippo_keeper.specs.Keeping.{IsAfterCall}
 use Rattle.hippo_world.specs.Holding.{world_of}
 use Rattle.hippo_engine.specs.Carrying.{Holds, AtWork}
+use Rattle.hippo_words.specs.declared.calls.Setting.{Setting}
 use Rattle.hippo_serve.specs.Endings.{as_line_call}
 use Rattle.hippo_serve.specs.Keeping.{KeepsHistory}
 use Rattle.hippo_serve.specs.Outside.{telling, outside}
@@ -22,10 +23,10 @@ invariant-loop-ending g l = record {
   call : IsAfterCall true false (as_line_call None) (g.P.Keeper.state l.initial.keeper) (g.P.Keeper.state l.keeper);
   at_work : AtWork l.engine (g.P.Keeper.state l.keeper);
   reading : (input : Txt) → g.S.Source.left l.initial.source ≡ Some input → IsReading input l.reader (g.S.Source.left l.source);
-  served : (g.P.Keeper.state l.keeper).tells → (history : History) → Holds history l.initial.engine (g.P.Keeper.state l.initial.keeper)
-      → world_of l.initial.engine.world ≡ opening_after history → KeepsHistory history (g.P.Keeper.state l.initial.keeper)
+  served : (g.P.Keeper.state l.keeper).tells → (setting : Setting) (history : History) → Holds history l.initial.engine (g.P.Keeper.state l.initial.keeper)
+      → world_of l.initial.engine.world ≡ opening_after setting history → KeepsHistory history (g.P.Keeper.state l.initial.keeper)
       → (start : ℕ) → l.initial.steps ≡ start + versions history
-      → HasServed history (telling (g.S.Source.left l.initial.source) (g.K.Sink.written l.initial.sink) start) l.reader l.engine
+      → HasServed setting history (telling (g.S.Source.left l.initial.source) (g.K.Sink.written l.initial.sink) start) l.reader l.engine
       (outside (g.S.Source.left l.source) (g.K.Sink.written l.sink) (g.P.Keeper.state l.keeper) l.steps);
 }
 

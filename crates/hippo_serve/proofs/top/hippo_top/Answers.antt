@@ -1,47 +1,65 @@
-use Rattle.std.proofs.Common.{[], refl, sym, ◌∙◌}
+-- Each status is listed; what a check came to is by its status, over the store that the words name.
+use Rattle.std.proofs.Common.{refl, sym, ◌∙◌}
 use Rattle.hippo_serve.specs.Outside.{outside}
-use Rattle.hippo_serve.proofs.StatusLemmas.{status-listed, status-7, check-by-status}
+use Rattle.hippo_serve.proofs.AskingLemmas.{check_as_asked, idle_as_asked}
+use Rattle.hippo_serve.proofs.StatusLemmas.{status-listed, status-7}
 use Rattle.hippo_serve.proofs.top.hippo_top.Goals as goal
 
-pub returns-in-Some-Run-clause-status : goal.returns-in-Some-Run-clause-status
-returns-in-Some-Run-clause-status g c = status-listed c.run.result _ c.status.ensures
+pub returns-in_default-asked-clause-status : goal.returns-in_default-asked-clause-status
+returns-in_default-asked-clause-status g c = status-listed c.refuse.result _ c.status-in_default-asked.ensures
 
-pub returns-in-Some-Check-clause-status : goal.returns-in-Some-Check-clause-status
-returns-in-Some-Check-clause-status g c = status-listed c.check.result _ c.status-in-Some-Check.ensures
+pub returns-in-Run-clause-status : goal.returns-in-Run-clause-status
+returns-in-Run-clause-status g c = status-listed c.run.result _ c.status-in-Run.ensures
 
-pub returns-in-None-clause-status : goal.returns-in-None-clause-status
-returns-in-None-clause-status g c = status-listed c.refuse.result _ c.status-in-None.ensures
+pub returns-in-Check-clause-status : goal.returns-in-Check-clause-status
+returns-in-Check-clause-status g c = status-listed c.check.result _ c.status-in-Check.ensures
 
-pub returns-in-Some-Check-clause-counted : goal.returns-in-Some-Check-clause-counted
-returns-in-Some-Check-clause-counted g c = λ job is tells. (check-by-status []
+pub returns-clause-status : goal.returns-clause-status
+returns-clause-status g c = status-listed c.refuse-in-Load.result _ c.status-in-Load.ensures
+
+pub returns-in-Check-clause-counted : goal.returns-in-Check-clause-counted
+returns-in-Check-clause-counted g c = λ job is tells. (check_as_asked c.args.words.now c.in-Some.call (sym c.in-Ok.ensures ∙ c.in-Some.is) c.as_str-store.result.now c.as_str-store.ensures
+    c.check.result _
     (outside (g.S.Source.left c.args.source.now) (g.K.Sink.written c.args.sink.now) (g.P.Keeper.state c.args.keeper.now) c.args.steps.now)
     (outside (g.S.Source.left c.args.source.now) (g.K.Sink.written c.check.new.sink) (g.P.Keeper.state c.check.new.keeper) c.check.new.steps)
-    _ c.check.result (c.check.ensures.ends tells (g.S.Source.left c.args.source.now))).0 (sym c.status-in-Some-Check.ensures ∙ is)
+    (c.check.ensures.ends tells (g.S.Source.left c.args.source.now))).0 (sym c.status-in-Check.ensures ∙ is)
 
-pub returns-in-Some-Check-clause-uncounted : goal.returns-in-Some-Check-clause-uncounted
-returns-in-Some-Check-clause-uncounted g c = λ job is tells. (check-by-status []
+pub returns-in-Check-clause-uncounted : goal.returns-in-Check-clause-uncounted
+returns-in-Check-clause-uncounted g c = λ job is tells. (check_as_asked c.args.words.now c.in-Some.call (sym c.in-Ok.ensures ∙ c.in-Some.is) c.as_str-store.result.now c.as_str-store.ensures
+    c.check.result _
     (outside (g.S.Source.left c.args.source.now) (g.K.Sink.written c.args.sink.now) (g.P.Keeper.state c.args.keeper.now) c.args.steps.now)
     (outside (g.S.Source.left c.args.source.now) (g.K.Sink.written c.check.new.sink) (g.P.Keeper.state c.check.new.keeper) c.check.new.steps)
-    _ c.check.result (c.check.ensures.ends tells (g.S.Source.left c.args.source.now))).1 (sym c.status-in-Some-Check.ensures ∙ is)
+    (c.check.ensures.ends tells (g.S.Source.left c.args.source.now))).1 (sym c.status-in-Check.ensures ∙ is)
 
-pub returns-in-Some-Check-clause-count_cut : goal.returns-in-Some-Check-clause-count_cut
-returns-in-Some-Check-clause-count_cut g c = λ job is tells. (check-by-status []
+pub returns-in-Check-clause-count_cut : goal.returns-in-Check-clause-count_cut
+returns-in-Check-clause-count_cut g c = λ job is tells. (check_as_asked c.args.words.now c.in-Some.call (sym c.in-Ok.ensures ∙ c.in-Some.is) c.as_str-store.result.now c.as_str-store.ensures
+    c.check.result _
     (outside (g.S.Source.left c.args.source.now) (g.K.Sink.written c.args.sink.now) (g.P.Keeper.state c.args.keeper.now) c.args.steps.now)
     (outside (g.S.Source.left c.args.source.now) (g.K.Sink.written c.check.new.sink) (g.P.Keeper.state c.check.new.keeper) c.check.new.steps)
-    _ c.check.result (c.check.ensures.ends tells (g.S.Source.left c.args.source.now))).2 (sym c.status-in-Some-Check.ensures ∙ is)
+    (c.check.ensures.ends tells (g.S.Source.left c.args.source.now))).2 (sym c.status-in-Check.ensures ∙ is)
 
-pub returns-in-Some-Check-clause-damaged : goal.returns-in-Some-Check-clause-damaged
-returns-in-Some-Check-clause-damaged g c = λ is tells. (
+pub returns-in-Check-clause-damaged : goal.returns-in-Check-clause-damaged
+returns-in-Check-clause-damaged g c = λ is tells. (
   refl,
-  (check-by-status []
+  (check_as_asked c.args.words.now c.in-Some.call (sym c.in-Ok.ensures ∙ c.in-Some.is) c.as_str-store.result.now c.as_str-store.ensures
+      c.check.result _
       (outside (g.S.Source.left c.args.source.now) (g.K.Sink.written c.args.sink.now) (g.P.Keeper.state c.args.keeper.now) c.args.steps.now)
       (outside (g.S.Source.left c.args.source.now) (g.K.Sink.written c.check.new.sink) (g.P.Keeper.state c.check.new.keeper) c.check.new.steps)
-      _ c.check.result (c.check.ensures.ends tells (g.S.Source.left c.args.source.now))).3 (sym c.status-in-Some-Check.ensures ∙ is),
+      (c.check.ensures.ends tells (g.S.Source.left c.args.source.now))).3 (sym c.status-in-Check.ensures ∙ is),
 )
 
-pub returns-in-Some-Check-clause-same : goal.returns-in-Some-Check-clause-same
-returns-in-Some-Check-clause-same g c = λ job tells. c.check.ensures.idle tells (g.S.Source.left c.args.source.now)
+pub returns-in-Check-clause-same : goal.returns-in-Check-clause-same
+returns-in-Check-clause-same g c = λ job tells. idle_as_asked c.args.words.now c.in-Some.call (sym c.in-Ok.ensures ∙ c.in-Some.is) c.as_str-store.result.now c.as_str-store.ensures
+    (outside (g.S.Source.left c.args.source.now) (g.K.Sink.written c.args.sink.now) (g.P.Keeper.state c.args.keeper.now) c.args.steps.now)
+    (outside (g.S.Source.left c.args.source.now) (g.K.Sink.written c.check.new.sink) (g.P.Keeper.state c.check.new.keeper) c.check.new.steps)
+    (c.check.ensures.idle tells (g.S.Source.left c.args.source.now))
 
-pub returns-in-Some-Check-clause-nothing : goal.returns-in-Some-Check-clause-nothing
-returns-in-Some-Check-clause-nothing g c = λ is.
-    (refl, c.check.ensures.unwritten (status-7 c.check.result (sym c.status-in-Some-Check.ensures ∙ is)), λ tells. c.check.ensures.idle tells (g.S.Source.left c.args.source.now))
+pub returns-in-Check-clause-nothing : goal.returns-in-Check-clause-nothing
+returns-in-Check-clause-nothing g c = λ is. (
+  refl,
+  c.check.ensures.unwritten (status-7 c.check.result (sym c.status-in-Check.ensures ∙ is)),
+  λ tells. idle_as_asked c.args.words.now c.in-Some.call (sym c.in-Ok.ensures ∙ c.in-Some.is) c.as_str-store.result.now c.as_str-store.ensures
+      (outside (g.S.Source.left c.args.source.now) (g.K.Sink.written c.args.sink.now) (g.P.Keeper.state c.args.keeper.now) c.args.steps.now)
+      (outside (g.S.Source.left c.args.source.now) (g.K.Sink.written c.check.new.sink) (g.P.Keeper.state c.check.new.keeper) c.check.new.steps)
+      (c.check.ensures.idle tells (g.S.Source.left c.args.source.now)),
+)
