@@ -1,12 +1,14 @@
-//! The program: `hippo run` reads lines from standard input and writes their replies to standard output.
+//! The program: `hippo run` reads lines from standard input and writes their replies to standard output; the history is
+//! in a SQLite file, or in memory.
 #![tactic(auto)]
 
-ghost use Rattle.std.specs.Prelude.{◌≡◌, ◌<◌};
+ghost use Rattle.std.specs.Prelude.{◌≡◌, ◌<◌, false};
+ghost use Rattle.hippo_keeper.specs.Keeping.{IsReady};
 
 use hippo_io::{Sink, Source, StdSink, StdSource};
-use hippo_keeper::{KeeperFails, MemoryKeeper, Steps};
-use hippo_model::StoredList;
+use hippo_keeper::{Keeper, Steps};
 use hippo_serve::{Ending, hippo_top};
+use hippo_sqlite::{FileOpener, SqliteKeeper};
 use hippo_values::{Memory, Sequence, Txt};
 use std::alloc::Global;
 use std::marker::Brand;
@@ -31,21 +33,22 @@ fn words(rt: &HostRuntime) -> Result<Words, Memory> {
     }
 }
 
-// Runs the program over an empty store in memory.
-fn call<S: Source, K: Sink, L: Ledger>(
+// Runs the program on a ledger that nobody uses.
+fn call<S: Source, K: Sink, P: Keeper, L: Ledger>(
     alloc: Global,
     words: &[Txt],
     source: &mut S,
     sink: &mut K,
+    keeper: &mut P,
     blank: Blank,
 ) -> u8
+    requires ready { IsReady false (P.state keeper.old) }
     requires name { blank.name ≡ L.name }
     requires parts { blank.parts ≡ L.parts }
     requires some { 0 < blank.parts }
 {
-    let mut keeper = MemoryKeeper::new(StoredList::new(alloc), KeeperFails::new(alloc));
     let mut steps = Steps::<L>::new(blank);
-    hippo_top(alloc, words, source, sink, &mut keeper, &mut steps)
+    hippo_top(alloc, words, source, sink, keeper, &mut steps)
 }
 
 fn main(rt: HostRuntime) -> ExitCode {
@@ -54,11 +57,13 @@ fn main(rt: HostRuntime) -> ExitCode {
     };
     let mut source = StdSource::new(rt.stdin());
     let mut sink = StdSink::new(rt.stdout());
-    let status = call::<_, _, Brand>(
+    let mut keeper = SqliteKeeper::new(FileOpener::new(rt));
+    let status = call::<_, _, _, Brand>(
         rt.alloc(),
         words.as_slice(),
         &mut source,
         &mut sink,
+        &mut keeper,
         Blank::new(1),
     );
     ExitCode::from(status)
