@@ -5,3 +5,4 @@ mod RunLemmas
 mod TurnLemmas
 mod TakenLemmas
 mod OutcomeLemmas
+mod DrillLemmas
