@@ -1,11 +1,10 @@
 -- A drill, one line more.
-use Rattle.std.proofs.Common.{◌≡◌, ◌≢◌, ℕ, List, [], ◌∷◌, ◌++◌, map, true, inl, inr, Option, Some, None, Result, Ok, Err, OnOk, refl, ap, sym, subst, ◌∙◌, append_assoc}
+use Rattle.std.proofs.Common.{◌≡◌, ◌≢◌, ℕ, List, [], ◌∷◌, ◌++◌, map, true, inl, inr, Option, Result, Ok, Err, OnOk, refl, ap, sym, subst, ◌∙◌, append_assoc}
 use Rattle.hippo_values.specs.Texts.{Txt}
 use Rattle.hippo_values.specs.declared.memory.Memory.{Memory as Want}
 use Rattle.hippo_drill.specs.Script.{script}
-use Rattle.hippo_drill.specs.declared.counts.Counts.{Counts}
 use Rattle.hippo_drill.specs.Tallies.{counts_of}
-use Rattle.hippo_io.specs.Lines.{LineText, text_line}
+use Rattle.hippo_io.specs.Lines.{text_line}
 use Rattle.hippo_model.specs.Terms.{History}
 use Rattle.hippo_keeper.specs.Keeping.{KeeperState, IsReady}
 use Rattle.hippo_keeper.specs.MemoryKeeping.{MemoryStore, seen}

@@ -1,12 +1,12 @@
 -- A drill: the lines of a script, each with the effect that the rules make of it, and what is said of the replies.
-use Rattle.std.specs.Prelude.{◌≡◌, ℕ, true, List, [], ◌∷◌, ◌++◌, length, map}
+use Rattle.std.specs.Prelude.{◌≡◌, ℕ, List, [], ◌∷◌, ◌++◌, length, map}
 use Rattle.hippo_values.specs.Texts.{Txt}
 use Rattle.hippo_drill.specs.Script.{script}
 use Rattle.hippo_drill.specs.Counting.{summary_of}
 use Rattle.hippo_drill.specs.Tallies.{counts_of}
 use Rattle.hippo_io.specs.Lines.{LineText, text_line}
 use Rattle.hippo_model.specs.Terms.{History}
-use Rattle.hippo_keeper.specs.Keeping.{KeeperState, IsReady}
+use Rattle.hippo_keeper.specs.Keeping.{KeeperState}
 use Rattle.hippo_keeper.specs.MemoryKeeping.{seen}
 use Rattle.hippo_report.specs.declared.format.Format.TheVariants.{Text}
 use Rattle.hippo_replay.specs.Standing.{latest_moment}

@@ -1,9 +1,6 @@
-use Rattle.std.proofs.Common.{◌≡◌, [], ◌∷◌, ◌++◌, true, ap, sym, ◌∙◌, Ok, Result}
-use Rattle.std.specs.Prelude.{Bool}
+use Rattle.std.proofs.Common.{◌≡◌, ◌++◌, true, ap, ◌∙◌, Ok}
 use Rattle.hippo_values.specs.Texts.{Txt}
-use Rattle.hippo_values.specs.declared.memory.Memory.{Memory}
 use Rattle.hippo_drill.specs.Scripting.{HandsOut}
-use Rattle.hippo_serve.specs.declared.drilling.Drilling.{Drilling}
 use Rattle.hippo_serve.proofs.DrillLemmas.{drilled_more}
 use Rattle.hippo_serve.proofs.drilling.Drilling.go_on.Goals as goal
 
