@@ -6,3 +6,4 @@ mod TurnLemmas
 mod TakenLemmas
 mod OutcomeLemmas
 mod AskingLemmas
+mod DrillLemmas

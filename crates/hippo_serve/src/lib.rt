@@ -1,6 +1,7 @@
 //! The database as a service of lines: each line of the input has its reply before the next is read.
 #![tactic(auto)]
 
+mod drilling;
 mod endings;
 mod laws;
 mod printing;

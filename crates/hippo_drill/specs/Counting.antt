@@ -1,0 +1,35 @@
+-- The lines of replies, counted by their second words, and the drill's summary.
+use Rattle.std.specs.Prelude.{ℕ, Bool, ◌==◌, List, [], ◌++◌, length, codes, decimal, bytes_eq}
+use Rattle.std.specs.List.{count_by, sum_by, slice_split, before_first, after_first}
+use Rattle.hippo_values.specs.Texts.{Txt}
+
+abbrev pub is_space : ℕ → Bool
+is_space byte = byte == 32
+
+abbrev pub is_feed : ℕ → Bool
+is_feed byte = byte == 10
+
+-- what stands between the first space of a line and the next; nothing where there is no space
+abbrev pub second_word : Txt → Txt
+second_word line = before_first is_space (after_first is_space line)
+
+-- how many lines of a reply have this second word
+abbrev pub lines_with : Txt → Txt → ℕ
+lines_with word reply = count_by (λ line. bytes_eq (second_word line) word) (slice_split is_feed reply)
+
+-- how many lines of some replies do
+abbrev pub count_of : Txt → List Txt → ℕ
+count_of word replies = sum_by (lines_with word) replies
+
+-- a line with words and a number, and what follows it
+abbrev pub numbered : Txt → ℕ → Txt → Txt
+numbered words number rest = words ++ (decimal number ++ (codes "\n" ++ rest))
+
+-- what is said of the replies to a script's lines, and of the entries that they left
+abbrev pub summary_of : List Txt → ℕ → Txt
+summary_of replies entries =
+    numbered (codes "lines ") (length replies)
+    (numbered (codes "entries ") entries
+    (numbered (codes "rows ") (count_of (codes "row") replies)
+    (numbered (codes "flags ") (count_of (codes "flag") replies)
+    (numbered (codes "refusals ") (count_of (codes "no") replies) []))))

@@ -1,0 +1,33 @@
+-- What the code's lines say, and which lines are left behind some parts of the script.
+use Rattle.std.specs.Prelude.{ℕ, ◌*◌, ◌/◌, List, [], ◌∷◌, ◌++◌, map}
+use Rattle.std.specs.List.{flat_map}
+use Rattle.hippo_values.specs.Texts.{Txt}
+use Rattle.hippo_drill.specs.Script.{up_to, patient_line, visit_line, choice_line, login_line, phone_line, question_line, audit_line}
+use Rattle.hippo_drill.specs.declared.script_line.ScriptLine.{ScriptLine}
+use Rattle.hippo_drill.specs.declared.script_line.ScriptLine.TheVariants.{Same, Patient, Visit, Choice, Phone, Question, Audit}
+
+-- the line's text in the script of a number
+abbrev pub text_of : ℕ → ScriptLine → Txt
+text_of number (Same text) = text.now
+text_of number (Patient i) = patient_line number i
+text_of number (Visit i) = visit_line i
+text_of number (Choice i) = choice_line i
+text_of number (Phone j) = phone_line j
+text_of number (Question j) = question_line number j
+text_of number Audit = audit_line number
+
+-- the lines behind the login, for so many patients
+abbrev pub behind_login : ℕ → ℕ → List Txt
+behind_login patients number =
+    flat_map (λ j. phone_line j ∷ question_line number j ∷ []) (up_to patients) ++ audit_line number ∷ []
+
+-- those behind the visits
+abbrev pub behind_visits : ℕ → ℕ → List Txt
+behind_visits patients number =
+    map (λ k. choice_line (10 * k)) (up_to (patients / 10)) ++ login_line ∷ behind_login patients number
+
+-- those behind the opening
+abbrev pub behind_opening : ℕ → ℕ → List Txt
+behind_opening patients number =
+    map (patient_line number) (up_to patients) ++
+    (map visit_line (up_to patients) ++ behind_visits patients number)

@@ -1,0 +1,5 @@
+pub mod Script
+pub mod Kinds
+pub mod Scripting
+pub mod Counting
+pub mod Tallies

@@ -1,0 +1,10 @@
+-- What handing out a script's lines does.
+use Rattle.std.specs.Prelude.{◌≡◌, Bool, true, false, List, [], ◌∷◌, ◌++◌, Result, Ok, Err}
+use Rattle.hippo_values.specs.Texts.{Txt}
+use Rattle.hippo_values.specs.declared.memory.Memory.{Memory}
+
+-- the first line that is left is added to a text, and the others are left; or none is left; or memory was short
+abbrev pub HandsOut : Result Bool Memory → List Txt → List Txt → Txt → Txt → Type 0
+HandsOut (Ok true) lines lines' text text' = (line : Txt) × (lines ≡ line ∷ lines') × (text' ≡ text ++ line)
+HandsOut (Ok false) lines lines' text text' = (lines ≡ []) × (lines' ≡ []) × (text' ≡ text)
+HandsOut (Err memory) lines lines' text text' = (lines' ≡ lines) × (text' ≡ text)

@@ -1,0 +1,87 @@
+//! Which line stands at a place of the script.
+ghost use Rattle.std.specs.Prelude.{◌≡◌, ℕ, ◌+◌, ◌*◌, ◌≤◌, option_map, slice_get, IfSome};
+ghost use Rattle.hippo_drill.specs.Script.{lines_for};
+ghost use Rattle.hippo_drill.specs.Kinds.{text_of, behind_login, behind_visits, behind_opening};
+
+use crate::script_line::ScriptLine;
+
+// The lines with which each script begins.
+const OPENING: [&str; 10] = [
+    "at 2024-01-01T00:00:00Z",
+    "0 CREATE TABLE patient (pid INTEGER, name TEXT, phone TEXT, zip INTEGER, PRIMARY KEY (pid), SUBJECT pid)",
+    "0 CREATE TABLE visit (vno INTEGER, pid INTEGER, ward TEXT, PRIMARY KEY (vno), SUBJECT pid)",
+    "0 CREATE PURPOSE treatment",
+    "0 CREATE RECIPIENT nurse",
+    "0 CREATE ITEM contact OPT OUT",
+    "0 AUTHORIZE ann FOR treatment, nurse",
+    "0 ALLOW treatment TO nurse ON patient (pid, name, zip)",
+    "0 ALLOW treatment TO nurse ON patient (phone) WITH contact",
+    "0 ALLOW treatment TO nurse ON visit (vno, pid, ward)",
+];
+
+const LOGIN: &str = "1 login ann treatment nurse";
+
+// The line at a place among those behind the login: by turns a phone changes and a question is asked, and at last there
+// is an audit.
+fn line_behind_login(patients: u64, place: u128) -> Option<ScriptLine>
+    ensures text { (number : ℕ) → option_map (text_of number) result ≡ slice_get (behind_login patients number) place }
+    ensures limit { IfSome result (λ line. place ≤ 2 * patients) }
+{
+    let turn = place / 2;
+    if turn < u128::from(patients) {
+        let j = turn as u64 + 1;
+        return if place % 2 == 0 {
+            Some(ScriptLine::Phone(j))
+        } else {
+            Some(ScriptLine::Question(j))
+        };
+    }
+    if place == 2 * u128::from(patients) {
+        Some(ScriptLine::Audit)
+    } else {
+        None
+    }
+}
+
+// The line at a place among those behind the visits: one patient in ten opts out, and a nurse logs in.
+fn line_behind_visits(patients: u64, place: u128) -> Option<ScriptLine>
+    ensures text { (number : ℕ) → option_map (text_of number) result ≡ slice_get (behind_visits patients number) place }
+    ensures limit { IfSome result (λ line. place ≤ 3 * patients + 1) }
+{
+    let choices = u128::from(patients / 10);
+    if place < choices {
+        return Some(ScriptLine::Choice(10 * (place as u64 + 1)));
+    }
+    if place == choices {
+        return Some(ScriptLine::Same(LOGIN));
+    }
+    line_behind_login(patients, place - choices - 1)
+}
+
+// The line at a place among those behind the opening: the patients and their visits are inserted.
+fn line_behind_opening(patients: u64, place: u128) -> Option<ScriptLine>
+    ensures text { (number : ℕ) → option_map (text_of number) result ≡ slice_get (behind_opening patients number) place }
+    ensures limit { IfSome result (λ line. place ≤ 5 * patients + 1) }
+{
+    let each = u128::from(patients);
+    if place < each {
+        return Some(ScriptLine::Patient(place as u64 + 1));
+    }
+    let place = place - each;
+    if place < each {
+        return Some(ScriptLine::Visit(place as u64 + 1));
+    }
+    line_behind_visits(patients, place - each)
+}
+
+/// The line at a place, counted from 0, of the script for so many patients; none behind the last.
+pub(crate) fn line_at(patients: u64, place: u128) -> Option<ScriptLine>
+    ensures text { (number : ℕ) → option_map (text_of number) result ≡ slice_get (lines_for patients number) place }
+    ensures limit { IfSome result (λ line. place ≤ 5 * patients + 11) }
+{
+    if place < 10 {
+        Some(ScriptLine::Same(OPENING[place as usize]))
+    } else {
+        line_behind_opening(patients, place - 10)
+    }
+}
