@@ -4,12 +4,13 @@ use Rattle.std.specs.Option.{option_map_or}
 use Rattle.hippo_values.specs.Texts.{Txt}
 use Rattle.hippo_words.specs.CommandLine.{call_of}
 use Rattle.hippo_words.specs.declared.calls.Job.{Job}
-use Rattle.hippo_words.specs.declared.calls.Job.TheVariants.{Run, Check}
+use Rattle.hippo_words.specs.declared.calls.Job.TheVariants.{Run, Check, Drill}
 
 -- the jobs that are carried out
 abbrev pub is_carried_out : Job → Bool
 is_carried_out (Run setting) = true
 is_carried_out Check = true
+is_carried_out (Drill size number) = true
 is_carried_out job = false
 
 -- the job that words ask for

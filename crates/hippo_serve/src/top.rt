@@ -4,8 +4,9 @@ ghost use Rattle.hippo_io.specs.Faults.{HasRisen};
 ghost use Rattle.hippo_io.specs.Told.{Appends, AppendsFront};
 ghost use Rattle.hippo_keeper.specs.Keeping.{IsReady, IsAfterCall};
 ghost use Rattle.hippo_words.specs.declared.calls.Setting.{Setting};
-ghost use Rattle.hippo_words.specs.declared.calls.Job.TheVariants.{Run, Check};
+ghost use Rattle.hippo_words.specs.declared.calls.Job.TheVariants.{Run, Check, Drill};
 ghost use Rattle.hippo_serve.specs.declared.endings.Ending.TheVariants.{Served, Refused, ReadFault, WriteFault, Damaged, NoMemory, TooMuch};
+ghost use Rattle.hippo_serve.specs.Drilling.{summary};
 ghost use Rattle.hippo_serve.specs.Endings.{status_of, as_call};
 ghost use Rattle.hippo_serve.specs.Asking.{job_of, store_of, is_refused};
 ghost use Rattle.hippo_serve.specs.Outcomes.{FromFound, IsIdle, BeginsDamaged, SaysDamaged, IsCounted, BeginsCount, RunEnds, CheckEnds, Stops};
@@ -13,6 +14,7 @@ ghost use Rattle.hippo_serve.specs.Outside.{Outside, outside};
 ghost use Rattle.hippo_serve.specs.Runs.{HasTaken, IsServed, IsBrokenOff, IsReadCut, IsUnwritten, HasTooMuch};
 ghost use Rattle.hippo_serve.specs.Saying.{usage};
 
+use crate::drilling::drill;
 use crate::endings::Ending;
 use crate::printing::{refuse, say_damaged, say_entries};
 use crate::serving::serve;
@@ -114,16 +116,16 @@ fn check<K: Sink, P: Keeper, L: Ledger>(
 /// Answers the exit status.
 ///
 /// - 0: for `run` the input was read to its end, and every line has its reply; for `check` the line `entries N` is
-///   written, with N the number of kept entries.
-/// - 2: exactly where the words are not those of a job that is carried out (see [`call_of`]; `load` and `drill` are not
-///   yet); the usage line is written, and nothing is read.
+///   written, with N the number of kept entries; for `drill` five lines say what the replies to its script come to.
+/// - 2: exactly where the words are not those of a job that is carried out (see [`call_of`]; `load` is not yet); the
+///   usage line is written, and nothing is read.
 /// - 3: the keeper failed; the lines before have their replies, and the next one's entry is kept or not.
 /// - 4: the source failed; just the lines that were read whole have their replies.
 /// - 5: the sink failed; what was written is a front of what was to be written.
 /// - 6: the kept entries are those of no valid history; the line `damaged PLACE` is written, with the place, counted
 ///   from 1, of the first entry up to which they are not. Nothing is read. Over a keeper that does not tell what it
 ///   keeps a line may find such an entry too, and `damaged NUMBER` is written behind the replies of the lines before.
-/// - 7: memory was short before the first byte was read; nothing was read or written.
+/// - 7: memory was short before the first byte was read, or in a drill; nothing was read or written.
 /// - 8: more than 2^40 bytes were read; just the lines that end among the first 2^40 have their replies.
 pub fn hippo_top<S: Source, K: Sink, P: Keeper, L: Ledger>(
     alloc: Global,
@@ -193,7 +195,16 @@ pub fn hippo_top<S: Source, K: Sink, P: Keeper, L: Ledger>(
         (outside (S.left source.old) (K.written sink.old) (P.state keeper.old) steps.old)
         (outside (S.left source.new) (K.written sink.new) (P.state keeper.new) steps.new) }
 
-    // Either finds damage, where the keeper tells, or no memory, before it reads.
+    // A drill writes what the rules make of its script, and neither reads nor keeps anything.
+    ensures drilled { (size number : ℕ) → job_of words.now ≡ Some (Drill size number) → result ≡ 0 →
+        Appends (K.written sink.old) (K.written sink.new) (summary size number) }
+    ensures drill_cut { (size number : ℕ) → job_of words.now ≡ Some (Drill size number) → result ≡ 5 →
+        AppendsFront (K.written sink.old) (K.written sink.new) (summary size number) }
+    ensures apart { (size number : ℕ) → job_of words.now ≡ Some (Drill size number) →
+        ((result ≡ 0) ⊎ (result ≡ 5) ⊎ (result ≡ 7))
+        × (source.new ≡ source.old) × (keeper.new ≡ keeper.old) × (steps.new ≡ steps.old) }
+
+    // Any finds damage, where the keeper tells, or no memory, before it reads.
     ensures damaged { result ≡ 6 → (P.state keeper.new).tells →
         (source.new ≡ source.old) × SaysDamaged (store_of words.now)
         (outside (S.left source.old) (K.written sink.old) (P.state keeper.old) steps.old)
@@ -223,6 +234,7 @@ pub fn hippo_top<S: Source, K: Sink, P: Keeper, L: Ledger>(
     match &call.job {
         Job::Run(setting) => run(alloc, store, *setting, source, sink, keeper, steps).status(),
         Job::Check => check(alloc, store, sink, keeper, steps).status(),
-        Job::Load { .. } | Job::Drill { .. } => refuse(sink).status(),
+        Job::Drill { size, number } => drill(alloc, *size, *number, sink).status(),
+        Job::Load { .. } => refuse(sink).status(),
     }
 }

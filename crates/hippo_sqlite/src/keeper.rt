@@ -20,6 +20,7 @@ use std::sync::ledger::Ledger;
 
 /// A keeper over the store that its opener connects to, or over a new store in memory where the store has no name.
 /// Entries stand in the table `history`. Each refusal of `sqlite` but for memory is a counted failure.
+#[derive(Drop)]
 pub struct SqliteKeeper<O: Opener> {
     opener: O,
     link: Link<O::Base>,

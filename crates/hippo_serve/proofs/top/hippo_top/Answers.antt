@@ -14,8 +14,11 @@ returns-in-Run-clause-status g c = status-listed c.run.result _ c.status-in-Run.
 pub returns-in-Check-clause-status : goal.returns-in-Check-clause-status
 returns-in-Check-clause-status g c = status-listed c.check.result _ c.status-in-Check.ensures
 
-pub returns-clause-status : goal.returns-clause-status
-returns-clause-status g c = status-listed c.refuse-in-Load.result _ c.status-in-Load.ensures
+pub returns-in-Drill-clause-status : goal.returns-in-Drill-clause-status
+returns-in-Drill-clause-status g c = status-listed c.drill.result _ c.status-in-Drill.ensures
+
+pub returns-in-Load-clause-status : goal.returns-in-Load-clause-status
+returns-in-Load-clause-status g c = status-listed c.refuse-in-Load.result _ c.status-in-Load.ensures
 
 pub returns-in-Check-clause-counted : goal.returns-in-Check-clause-counted
 returns-in-Check-clause-counted g c = λ job is tells. (check_as_asked c.args.words.now c.in-Some.call (sym c.in-Ok.ensures ∙ c.in-Some.is) c.as_str-store.result.now c.as_str-store.ensures
