@@ -1,0 +1,81 @@
+-- What the replies to questions say of a watch.
+use Rattle.std.specs.Prelude.{◌≡◌, ◌⊎◌, ℕ, List, [], ◌∷◌, ◌++◌, flat_map, Option, Some, None, IfSome, Ok, codes, decimal}
+use Rattle.std.specs.List.{enumerate_from, AllByRecursion}
+use Rattle.std.specs.Option.{option_map_or}
+use Rattle.hippo_values.specs.Texts.{Txt}
+use Rattle.hippo_io.specs.Lines.{LineText}
+use Rattle.hippo_model.specs.declared.audit.Audit.{Audit}
+use Rattle.hippo_model.specs.declared.audit.Flag.{Flag}
+use Rattle.hippo_model.specs.declared.entry.Entry.{Entry}
+use Rattle.hippo_model.specs.Terms.{History}
+use Rattle.hippo_model.specs.Audits.{flag_of}
+use Rattle.hippo_typing.specs.Meanings.{meaning}
+use Rattle.hippo_report.specs.declared.refusal.Refusal.TheVariants.{Memory}
+use Rattle.hippo_report.specs.Flags.{tuple_text}
+use Rattle.hippo_report.specs.Refusals.{refusal_line}
+use Rattle.hippo_world.specs.Worlds.{World, at_number}
+use Rattle.hippo_commands.specs.Commands.{Command, who_commands}
+use Rattle.hippo_engine.specs.Deeds.{Deed, Question, asked_by}
+use Rattle.hippo_engine.specs.Deeds as deeds
+use Rattle.hippo_engine.specs.Checks.{Checked}
+use Rattle.hippo_engine.specs.Judging.{judged}
+use Rattle.hippo_engine.specs.Effects.{Effect, next_entry}
+use Rattle.hippo_engine.specs.Runs.{history_after}
+use Rattle.hippo_run_laws.specs.Lines.{OfEachLine}
+
+-- the alarm that a flag is to the watch at a number
+abbrev pub alarm_text : ℕ → Flag → Txt
+alarm_text number flag =
+    codes "0 alarm " ++ ((decimal number ++ (codes " " ++ decimal flag.seq)) ++ (tuple_text flag.shared ++ codes "\n"))
+
+-- the alarms of all watches, by what each of them flags, if anything
+abbrev pub alarm_texts : List (Option Flag) → Txt
+alarm_texts flags = flat_map (λ (number, flag). option_map_or (alarm_text number) flag []) (enumerate_from 1 flags)
+
+-- a reply ends with the alarms of all watches, by what each of them flags
+pub record EndsWithAlarms (reply : Txt) (flags : List (Option Flag)) : Type 0 where
+  pub answer : Txt
+  pub says : reply ≡ answer ++ alarm_texts flags
+
+-- the question that is to be answered, if one is
+abbrev pub question_of : Checked Deed → Option Question
+question_of (Ok (deeds.answer question)) = Some question
+question_of (Ok (deeds.open_cursor session number question)) = Some question
+question_of (Ok (deeds.extract question)) = Some question
+question_of judgement = None
+
+-- a question that was answered: its entry, and what one watch flags of it
+pub record Heard : Type 0 where
+  pub entry : Entry
+  pub flag : Option Flag
+
+-- a question becomes the next entry, and its reply has the alarms, in which that of one watch is its flag
+pub record IsAnswered (number : ℕ) (history : History) (world : World) (question : Question) (effect : Effect)
+    (heard : Heard) : Type 0 where
+  pub entry_is : heard.entry ≡ next_entry history world (asked_by question)
+  pub added : effect.added ≡ heard.entry ∷ []
+  pub flags : List (Option Flag)
+  pub alarms : EndsWithAlarms effect.reply flags
+  pub flag_is : at_number flags number ≡ heard.flag
+
+-- a question is answered, or its reply says that memory was short; from other lines nothing is heard
+abbrev pub QuestionHeard : ℕ → History → World → Command → Option Question → Effect → Option Heard → Type 0
+QuestionHeard number history world command None effect heard = heard ≡ None
+QuestionHeard number history world command (Some question) effect heard =
+    ((one : Heard) × (heard ≡ Some one) × IsAnswered number history world question effect one)
+    ⊎ ((effect.reply ≡ refusal_line (who_commands command) Memory) × (heard ≡ None))
+
+-- what is heard of the watch at a number
+abbrev pub IsHeard : ℕ → History → World → Command → Effect → Option Heard → Type 0
+IsHeard number history world command effect heard =
+    QuestionHeard number history world command (question_of (judged history world command)) effect heard
+
+-- what the lines of a run have heard of the watch at a number is, of each question that was answered, what an audit
+-- flags of its entry in any longer history
+pub record HasHeard (number : ℕ) (audit : Audit) (history : History) (world : World) (lines : List LineText)
+    (effects : List Effect) : Type 0 where
+  pub heard : List (Option Heard)
+  pub each : OfEachLine (IsHeard number) history world lines effects heard
+  pub flags : (later : History)
+      → AllByRecursion (λ of_line. IfSome of_line
+      (λ one. one.flag ≡ flag_of meaning (history_after history effects ++ later) audit one.entry)) heard
