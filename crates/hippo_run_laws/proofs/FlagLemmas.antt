@@ -1,9 +1,9 @@
 -- The flags of a stretch of a valid history, whatever is behind it; what an entry is flagged for in any longer history.
 use Rattle.std.proofs.Common.{◌≡◌, ◌∙◌, sym, ap, refl, arith, ℕ, zero, suc, ◌+◌, ◌-◌, ◌≤◌, true, List, [], ◌∷◌, ◌++◌, length, take, drop, Option, None, Some, length-drop, append-nil}
-use Rattle.std.specs.Prelude.{filter_map, option_and_then, slice_get}
+use Rattle.std.specs.Prelude.{filter_map, option_and_then, slice_get, option_to_list}
 use Rattle.std.specs.List.{cons_option}
 use Rattle.std.proofs.lemmas.List.{take-append-le, drop-append-le}
-use Rattle.std.proofs.Math.Seq.{take-append_seam}
+use Rattle.std.proofs.Math.Seq.{take-append_seam, drop-append_seam}
 use Rattle.hippo_model.specs.declared.audit.Audit.{Audit}
 use Rattle.hippo_model.specs.declared.audit.Flag.{Flag}
 use Rattle.hippo_model.specs.declared.entry.Entry.{Entry}
@@ -60,3 +60,21 @@ pub shared_there : (meaning : Meaning) (history later : History) (audit : Audit)
 shared_there meaning history later audit entry number =
     let all : before_entry entry history ≡ history = sym (ap (before_entry entry) (append-nil history)) ∙ before_next history [] entry number in
     ap (λ (h : History). shared_in meaning h audit entry.moment entry.act) (before_next history later entry number ∙ sym all)
+
+one_option : {A : Type 0} (found : Option A) → cons_option found [] ≡ option_to_list found
+one_option None = refl
+one_option (Some one) = refl
+
+-- of a history in which an entry stands behind some, the flags of its number are what it is flagged for
+pub flags_there : (meaning : Meaning) (history later : History) (audit : Audit) (entry : Entry) → entry.seq ≡ length history + 1
+    → flags_between meaning (history ++ entry ∷ later) audit (entry.seq - 1) entry.seq
+    ≡ option_to_list (flag_of meaning (history ++ entry ∷ later) audit entry)
+flags_there meaning history later audit entry number =
+    let whole : History = history ++ entry ∷ later in
+    let before : entry.seq - 1 ≡ length history = omega (arith, number) in
+    let one : entry.seq - length history ≡ 1 = omega (arith, number) in
+    let entries : take (entry.seq - (entry.seq - 1)) (drop (entry.seq - 1) whole) ≡ entry ∷ [] =
+    ap (λ (n : ℕ). take (entry.seq - n) (drop n whole)) before
+    ∙ ap (take (entry.seq - length history)) (drop-append_seam history (entry ∷ later))
+    ∙ ap (λ (n : ℕ). take n (entry ∷ later)) one in
+    ap (filter_map (flag_of meaning whole audit)) entries ∙ one_option (flag_of meaning whole audit entry)

@@ -186,7 +186,9 @@ module _ (start : History) (valid : is_valid meaning start ≡ true) (audit : Au
 
   -- the job that a step names is the one that stands
   stands_so : (portions : List Portion) (one other : Job) (held : Option Job) → held ≡ Some one → held ≡ Some other → IsOn portions one → IsOn portions other
-  stands_so portions one other held is also on = subst (IsOn portions) cc on
+  stands_so portions one other held is also on =
+      let same : one ≡ other = cc in
+      subst (IsOn portions) same on
 
   step_done : (portions : List Portion) (history : History) (world : World) (command : Command) → Goes portions history world → (at : ℕ) (job : Job) (count : ℕ)
       → at_number world.jobs at ≡ Some job → ((at ≡ number) ⊎ (at ≢ number)) → After portions history world command (Ok (deeds.step_job at job count)) (done history world (deeds.step_job at job count))

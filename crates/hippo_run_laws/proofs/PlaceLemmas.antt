@@ -35,7 +35,9 @@ there places (suc place) old new is = ap option_flatten (set_there places place 
 
 numbered : (found : Option ℕ) (number : ℕ) → option_map (λ place. place + 1) found ≡ Some number → ((place : ℕ) × (found ≡ Some place) × (number ≡ suc place))
 numbered None number is = absurd cc
-numbered (Some place) number is = (place, refl, cc)
+numbered (Some place) number is =
+    let same : place + 1 ≡ number = cc in
+    (place, refl, omega (arith, same))
 
 nothing_in : {A : Type 0} (held : Option A) → is_none held ≡ true → held ≡ None
 nothing_in None is = refl

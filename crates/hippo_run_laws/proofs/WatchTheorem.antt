@@ -1,5 +1,5 @@
 -- What is heard of a watch, line by line.
-use Rattle.std.proofs.Common.{◌≡◌, ◌≢◌, ◌∙◌, inl, inr, sym, ap, subst, refl, ℕ, zero, suc, ◌+◌, Bool, true, false, nat_lt, if◌then◌else◌, List, [], ◌∷◌, ◌++◌, map, flat_map, length, slice_get, Option, None, Some, IfSome, Ok, Err, codes, decimal, append_assoc, option_and_then}
+use Rattle.std.proofs.Common.{◌≡◌, ◌≢◌, ◌∙◌, inl, inr, sym, ap, subst, refl, ℕ, zero, suc, ◌+◌, Bool, true, false, nat_lt, if◌then◌else◌, List, [], ◌∷◌, ◌++◌, map, flat_map, length, slice_get, Option, None, Some, IfSome, Ok, Err, codes, decimal, append_assoc, option_and_then, option_to_list}
 use Rattle.std.specs.List.{enumerate_from, AllByRecursion}
 use Rattle.std.specs.Option.{option_flatten, option_map_or}
 use Rattle.hippo_values.specs.Texts.{Txt}
@@ -23,11 +23,11 @@ use Rattle.hippo_engine.specs.Judging.{judged}
 use Rattle.hippo_engine.specs.Effects.{Effect, row_limit, next_entry, question_rows, within_limit, alarm_line, alarms, asked, opened, only_reply, with_watch, done, carried_out, IsShort, IsEffect}
 use Rattle.hippo_engine.specs.Runs.{IsRun, history_after}
 use Rattle.hippo_run_laws.specs.Lines.{OfEachLine, Does, NoneAsks}
-use Rattle.hippo_run_laws.specs.Watches.{alarm_text, alarm_texts, EndsWithAlarms, question_of, Heard, IsAnswered, QuestionHeard, IsHeard, HasHeard}
+use Rattle.hippo_run_laws.specs.Watches.{alarm_text, alarm_texts, EndsWithAlarms, question_of, Heard, IsAnswered, QuestionHeard, IsHeard, flags_at, HasHeard}
 use Rattle.hippo_run_laws.specs.RunLaws.{AlarmsAreFlags, StandingAudits}
 use Rattle.hippo_run_laws.proofs.DeedLemmas.{IsFounded, founded}
 use Rattle.hippo_run_laws.proofs.PlaceLemmas.{elsewhere, free_there, not_free}
-use Rattle.hippo_run_laws.proofs.FlagLemmas.{shared_there}
+use Rattle.hippo_run_laws.proofs.FlagLemmas.{shared_there, flags_there}
 
 -- at a number of a list that is mapped
 slice_get-mapped : {A B : Type 0} (f : A → Option B) (places : List (Option A)) (place : ℕ)
@@ -79,11 +79,17 @@ module _ (history : History) (world : World) (question : Question) where
   asked_alarms reply after later = record { answer = reply; says = ap (λ (said : Txt). reply ++ said) (each_alarm later 1 world.watches) }
 
 module _ (history : History) (world : World) where
+  answer_alarms : (question other : Question) (later : History) (reply : Txt) (after : World) → question ≡ other
+      → EndsWithAlarms (asked history world question reply after).reply (flags_later history world other later world.watches)
+  answer_alarms question other later reply after same =
+      subst (λ (q : Question). EndsWithAlarms (asked history world question reply after).reply (flags_later history world q later world.watches)) same
+      (asked_alarms history world question reply after later)
+
   done_alarms : (deed : Deed) (question : Question) (later : History) → question_of (Ok deed) ≡ Some question
       → EndsWithAlarms (done history world deed).reply (flags_later history world question later world.watches)
-  done_alarms (deeds.answer question) other later is = subst (λ (q : Question). EndsWithAlarms (done history world (deeds.answer question)).reply (flags_later history world q later world.watches)) cc (asked_alarms history world question _ _ later)
-  done_alarms (deeds.open_cursor session number question) other later is = subst (λ (q : Question). EndsWithAlarms (done history world (deeds.open_cursor session number question)).reply (flags_later history world q later world.watches)) cc (asked_alarms history world question _ _ later)
-  done_alarms (deeds.extract question) other later is = subst (λ (q : Question). EndsWithAlarms (done history world (deeds.extract question)).reply (flags_later history world q later world.watches)) cc (asked_alarms history world question _ _ later)
+  done_alarms (deeds.answer question) other later is = answer_alarms question other later _ world cc
+  done_alarms (deeds.open_cursor session number question) other later is = answer_alarms question other later _ world cc
+  done_alarms (deeds.extract question) other later is = answer_alarms question other later _ world cc
   done_alarms deed other later is = absurd cc
 
 pub alarms_are_flags : AlarmsAreFlags
@@ -96,7 +102,7 @@ module _ (audit : Audit) (number : ℕ) where
   abbrev After : History → World → Command → Checked Deed → Effect → Type 0
   After history world command judgement effect =
       (heard : Option Heard) × QuestionHeard number history world command (question_of judgement) effect heard
-      × ((later : History) → IfSome heard (λ one. one.flag ≡ flag_of meaning (history ++ (effect.added ++ later)) audit one.entry))
+      × ((later : History) → IfSome heard (λ one. flags_at (history ++ (effect.added ++ later)) audit one.entry ≡ option_to_list one.flag))
       × (at_number effect.world.watches number ≡ Some audit)
 
   still : (world after : World) → at_number world.watches number ≡ Some audit → after.watches ≡ world.watches → at_number after.watches number ≡ Some audit
@@ -119,7 +125,8 @@ module _ (audit : Audit) (number : ℕ) where
         flag_is = at_number-mapped (λ a. flag_of meaning (history ++ entry ∷ []) a entry) world.watches number
             ∙ ap (option_and_then (λ a. flag_of meaning (history ++ entry ∷ []) a entry)) stands;
       })),
-      λ later. flagged_there history world question (entry ∷ []) audit ∙ sym (flagged_there history world question (entry ∷ later) audit),
+      λ later. flags_there meaning history later audit entry refl
+          ∙ ap option_to_list (flagged_there history world question (entry ∷ later) audit ∙ sym (flagged_there history world question (entry ∷ []) audit)),
       still world after stands same)
 
   carried : (history : History) (world : World) (command : Command) → at_number world.watches number ≡ Some audit → (judgement : Checked Deed)
@@ -170,8 +177,8 @@ module _ (audit : Audit) (number : ℕ) where
             sym (append_assoc history (effect.added ++ more) later ∙ ap (λ (h : History). history ++ h) (append_assoc effect.added more later)) in
             let behind : ((history ++ effect.added) ++ more) ++ later ≡ (history ++ (effect.added ++ more)) ++ later =
             ap (λ (h : History). h ++ later) (append_assoc history effect.added more) in
-            (subst (λ (h : History). IfSome after.0 (λ one. one.flag ≡ flag_of meaning h audit one.entry)) here (after.2 (more ++ later)),
-            subst (λ (h : History). AllByRecursion (λ of_line. IfSome of_line (λ one. one.flag ≡ flag_of meaning h audit one.entry)) rest.heard) behind (rest.flags later));
+            (subst (λ (h : History). IfSome after.0 (λ one. flags_at h audit one.entry ≡ option_to_list one.flag)) here (after.2 (more ++ later)),
+            subst (λ (h : History). AllByRecursion (λ of_line. IfSome of_line (λ one. flags_at h audit one.entry ≡ option_to_list one.flag)) rest.heard) behind (rest.flags later));
       }
 
 pub standing_audits : StandingAudits

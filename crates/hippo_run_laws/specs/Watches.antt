@@ -1,5 +1,5 @@
 -- What the replies to questions say of a watch.
-use Rattle.std.specs.Prelude.{◌≡◌, ◌⊎◌, ℕ, List, [], ◌∷◌, ◌++◌, flat_map, Option, Some, None, IfSome, Ok, codes, decimal}
+use Rattle.std.specs.Prelude.{◌≡◌, ◌⊎◌, ℕ, ◌-◌, List, [], ◌∷◌, ◌++◌, flat_map, Option, Some, None, IfSome, option_to_list, Ok, codes, decimal}
 use Rattle.std.specs.List.{enumerate_from, AllByRecursion}
 use Rattle.std.specs.Option.{option_map_or}
 use Rattle.hippo_values.specs.Texts.{Txt}
@@ -8,7 +8,7 @@ use Rattle.hippo_model.specs.declared.audit.Audit.{Audit}
 use Rattle.hippo_model.specs.declared.audit.Flag.{Flag}
 use Rattle.hippo_model.specs.declared.entry.Entry.{Entry}
 use Rattle.hippo_model.specs.Terms.{History}
-use Rattle.hippo_model.specs.Audits.{flag_of}
+use Rattle.hippo_model.specs.Audits.{flags_between}
 use Rattle.hippo_typing.specs.Meanings.{meaning}
 use Rattle.hippo_report.specs.declared.refusal.Refusal.TheVariants.{Memory}
 use Rattle.hippo_report.specs.Flags.{tuple_text}
@@ -70,12 +70,16 @@ abbrev pub IsHeard : ℕ → History → World → Command → Effect → Option
 IsHeard number history world command effect heard =
     QuestionHeard number history world command (question_of (judged history world command)) effect heard
 
--- what the lines of a run have heard of the watch at a number is, of each question that was answered, what an audit
--- flags of its entry in any longer history
+-- what an audit at once flags of one entry, among the flags of a history
+abbrev pub flags_at : History → Audit → Entry → List Flag
+flags_at history audit entry = flags_between meaning history audit (entry.seq - 1) entry.seq
+
+-- what the lines of a run have heard of the watch at a number is, of each question that was answered, what an audit at
+-- once flags of its entry in any longer history
 pub record HasHeard (number : ℕ) (audit : Audit) (history : History) (world : World) (lines : List LineText)
     (effects : List Effect) : Type 0 where
   pub heard : List (Option Heard)
   pub each : OfEachLine (IsHeard number) history world lines effects heard
   pub flags : (later : History)
       → AllByRecursion (λ of_line. IfSome of_line
-      (λ one. one.flag ≡ flag_of meaning (history_after history effects ++ later) audit one.entry)) heard
+      (λ one. flags_at (history_after history effects ++ later) audit one.entry ≡ option_to_list one.flag)) heard
