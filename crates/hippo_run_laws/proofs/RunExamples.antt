@@ -1,0 +1,120 @@
+-- Steps of a job, and what is heard of a watch, on a small clinic.
+use Rattle.std.proofs.Common.{◌≡◌, inl, inr, refl, arith, pos, false, [], ◌∷◌, ◌++◌, Some, None, Ok, codes, decimal}
+use Rattle.hippo_io.specs.Lines.{too_long_line, not_utf8_line}
+use Rattle.hippo_values.specs.declared.values.Value.TheVariants.{Int}
+use Rattle.hippo_model.specs.declared.audit.Audit.{Audit}
+use Rattle.hippo_model.specs.declared.audit.Flag.{Flag}
+use Rattle.hippo_model.specs.declared.query.CondOf.TheVariants.{All}
+use Rattle.hippo_report.specs.declared.format.Format.TheVariants as formats
+use Rattle.hippo_report.specs.declared.refusal.Refusal.TheVariants.{BadLine, LineTooLong, Memory}
+use Rattle.hippo_report.specs.Flags.{flag_line, tuple_text}
+use Rattle.hippo_report.specs.Notices.{number_line}
+use Rattle.hippo_report.specs.Refusals.{refusal_line}
+use Rattle.hippo_world.specs.Worlds.{World, Job}
+use Rattle.hippo_lines.specs.Forms.{steps}
+use Rattle.hippo_commands.specs.Commands.{Command, wrong, ask}
+use Rattle.hippo_engine.specs.Deeds as deeds
+use Rattle.hippo_engine.specs.Effects.{Effect, done, only_reply, with_job, new_job, looked_upto}
+use Rattle.hippo_engine.proofs.ExampleLines.{patient, nurses_pair, clinic, world_within, question, all_rows, asked_for}
+use Rattle.hippo_run_laws.specs.Lines.{OfEachLine}
+use Rattle.hippo_run_laws.specs.Jobs.{Portion, no_portion, portion_reply, StepWrites, JudgedWrites, Writes, flags_in, last_end}
+use Rattle.hippo_run_laws.specs.Watches.{alarm_texts, QuestionHeard, IsHeard}
+
+-- AUDIT name OF patient, in the year 2024
+abbrev names_of_patients : Audit
+names_of_patients = record {
+  from = pos 1704067200;
+  to = pos 1735689599;
+  exempt = [];
+  shown = false;
+  columns = record { table = 0; column = 1 } ∷ [];
+  tables = patient ∷ [];
+  cond = All [];
+}
+
+-- Ann has seen Ada's row
+abbrev eighth : Flag
+eighth = record {
+  seq = 8;
+  moment = pos 1704182400;
+  user = codes "ann";
+  pair = nurses_pair;
+  shared = record { table = patient; key = Int (pos 1) ∷ [] } ∷ [];
+}
+
+abbrev ninth : Flag
+ninth = record eighth { seq = 9 }
+
+-- a job over the seven entries of the morning, and one in which a flag waits
+abbrev job : Job
+job = new_job clinic names_of_patients
+
+abbrev one_waits : Job
+one_waits = looked_upto job 2 (eighth ∷ [])
+
+abbrev world : World
+world = with_job (world_within 4000000) 1 (Some job)
+
+abbrev three_numbers : Command
+three_numbers = ask 0 (steps 1 3)
+
+-- a step writes what waits, and up to which number it has looked
+abbrev eighth_written : Portion
+eighth_written = record { flags = eighth ∷ []; ended = None }
+
+what_waits_is_written : StepWrites world three_numbers one_waits 3 (done clinic world (deeds.step_job 1 one_waits 3)) eighth_written
+what_waits_is_written = inl refl
+
+a_flag_and_how_far_it_is :
+    portion_reply world 5 eighth_written ≡ (flag_line formats.Text eighth ++ []) ++ number_line 0 (codes "part") 5
+a_flag_and_how_far_it_is = refl
+
+-- the last step says how many flags there are: nobody asked anything in the morning
+the_last_step_says_end :
+    StepWrites world (ask 0 (steps 1 9)) job 9 (done clinic world (deeds.step_job 1 job 9)) (record { flags = []; ended = Some 0 })
+the_last_step_says_end = inl refl
+
+-- where memory is short nothing is written
+abbrev short_of_memory : Effect
+short_of_memory = only_reply (with_job world 1 (Some one_waits)) (refusal_line (Some 0) Memory)
+
+nothing_is_written_without_memory : JudgedWrites 1 world three_numbers (Ok (deeds.step_job 1 one_waits 3)) short_of_memory no_portion
+nothing_is_written_without_memory = inl (refl, inr (refl, refl))
+
+-- of job 2 a step of job 1 writes nothing
+others_write_nothing : JudgedWrites 2 world three_numbers (Ok (deeds.step_job 1 one_waits 3)) (done clinic world (deeds.step_job 1 one_waits 3)) no_portion
+others_write_nothing = inr (λ same. omega (arith, same), refl)
+
+-- lines that are refused write nothing
+refused_lines_write_nothing :
+    OfEachLine (Writes 1) clinic world (too_long_line ∷ not_utf8_line ∷ [])
+    (only_reply world (refusal_line None LineTooLong) ∷ only_reply world (refusal_line None BadLine) ∷ []) (no_portion ∷ no_portion ∷ [])
+refused_lines_write_nothing = (refl, (refl, tt))
+
+-- the flags of all portions, one after the other; the last of them may say that the job has ended
+abbrev ninth_written : Portion
+ninth_written = record { flags = ninth ∷ []; ended = Some 2 }
+
+all_that_was_written : flags_in (eighth_written ∷ no_portion ∷ ninth_written ∷ []) ≡ eighth ∷ ninth ∷ []
+all_that_was_written = refl
+
+the_last_says_how_many : last_end (eighth_written ∷ no_portion ∷ ninth_written ∷ []) ≡ Some 2
+the_last_says_how_many = refl
+
+the_others_do_not : last_end (ninth_written ∷ eighth_written ∷ []) ≡ None
+the_others_do_not = refl
+
+-- watch 2 flags the eighth entry, watch 1 does not, and there is none with number 3
+one_watch_of_two :
+    alarm_texts (None ∷ Some eighth ∷ None ∷ [])
+    ≡ (codes "0 alarm " ++ ((decimal 2 ++ (codes " " ++ decimal 8)) ++ (tuple_text eighth.shared ++ codes "\n"))) ++ []
+one_watch_of_two = refl
+
+-- nothing is heard of a line that asks nothing, and of a question without memory
+nothing_is_heard_of_refused_lines : IsHeard 1 clinic world (wrong None LineTooLong) (only_reply world (refusal_line None LineTooLong)) None
+nothing_is_heard_of_refused_lines = refl
+
+nothing_is_heard_without_memory :
+    QuestionHeard 1 clinic world (question (all_rows (codes "name" ∷ []))) (Some (asked_for (1 ∷ [])))
+    (only_reply world (refusal_line (Some 1) Memory)) None
+nothing_is_heard_without_memory = inr (refl, refl)
