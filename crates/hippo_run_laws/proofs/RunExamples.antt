@@ -18,7 +18,7 @@ use Rattle.hippo_engine.specs.Effects.{Effect, done, only_reply, with_job, new_j
 use Rattle.hippo_engine.proofs.ExampleLines.{patient, nurses_pair, clinic, world_within, question, all_rows, asked_for}
 use Rattle.hippo_run_laws.specs.Lines.{OfEachLine}
 use Rattle.hippo_run_laws.specs.Jobs.{Portion, no_portion, portion_reply, StepWrites, JudgedWrites, Writes, flags_in, last_end}
-use Rattle.hippo_run_laws.specs.Watches.{alarm_texts, QuestionHeard, IsHeard}
+use Rattle.hippo_run_laws.specs.Watches.{alarm_texts, JudgedHeard, IsHeard}
 
 -- AUDIT name OF patient, in the year 2024
 abbrev names_of_patients : Audit
@@ -115,6 +115,6 @@ nothing_is_heard_of_refused_lines : IsHeard 1 clinic world (wrong None LineTooLo
 nothing_is_heard_of_refused_lines = refl
 
 nothing_is_heard_without_memory :
-    QuestionHeard 1 clinic world (question (all_rows (codes "name" ∷ []))) (Some (asked_for (1 ∷ [])))
+    JudgedHeard 1 clinic world (question (all_rows (codes "name" ∷ []))) (Ok (deeds.answer (asked_for (1 ∷ []))))
     (only_reply world (refusal_line (Some 1) Memory)) None
 nothing_is_heard_without_memory = inr (refl, refl)

@@ -1,5 +1,5 @@
 -- What is heard of a watch, line by line.
-use Rattle.std.proofs.Common.{◌≡◌, ◌≢◌, ◌∙◌, inl, inr, sym, ap, subst, refl, ℕ, zero, suc, ◌+◌, Bool, true, false, nat_lt, if◌then◌else◌, List, [], ◌∷◌, ◌++◌, map, flat_map, length, slice_get, Option, None, Some, IfSome, Ok, Err, codes, decimal, append_assoc, option_and_then, option_to_list}
+use Rattle.std.proofs.Common.{◌≡◌, ◌≢◌, ◌∙◌, inl, inr, sym, ap, subst, refl, ℕ, zero, suc, ◌+◌, Bool, true, false, nat_lt, if◌then◌else◌, List, [], ◌∷◌, ◌++◌, map, flat_map, length, slice_get, Option, None, Some, IfSome, Ok, Err, codes, decimal, append_assoc, append-nil, option_and_then, option_to_list}
 use Rattle.std.specs.List.{enumerate_from, AllByRecursion}
 use Rattle.std.specs.Option.{option_flatten, option_map_or}
 use Rattle.hippo_values.specs.Texts.{Txt}
@@ -23,7 +23,7 @@ use Rattle.hippo_engine.specs.Judging.{judged}
 use Rattle.hippo_engine.specs.Effects.{Effect, row_limit, next_entry, question_rows, within_limit, alarm_line, alarms, asked, opened, only_reply, with_watch, done, carried_out, IsShort, IsEffect}
 use Rattle.hippo_engine.specs.Runs.{IsRun, history_after}
 use Rattle.hippo_run_laws.specs.Lines.{OfEachLine, Does, NoneAsks}
-use Rattle.hippo_run_laws.specs.Watches.{alarm_text, alarm_texts, EndsWithAlarms, question_of, Heard, IsAnswered, QuestionHeard, IsHeard, flags_at, HasHeard}
+use Rattle.hippo_run_laws.specs.Watches.{alarm_text, alarm_texts, answer_to, question_of, Heard, IsAnswered, DeedHeard, JudgedHeard, IsHeard, flags_at, HasHeard}
 use Rattle.hippo_run_laws.specs.RunLaws.{AlarmsAreFlags, StandingAudits}
 use Rattle.hippo_run_laws.proofs.DeedLemmas.{IsFounded, founded}
 use Rattle.hippo_run_laws.proofs.PlaceLemmas.{elsewhere, free_there, not_free}
@@ -75,18 +75,19 @@ module _ (history : History) (world : World) (question : Question) where
   each_alarm later number (Some audit ∷ rest) = λ i. one_alarm later number audit i ++ each_alarm later (number + 1) rest i
 
   -- the reply to a question that is logged ends with the flags of any longer history
-  asked_alarms : (reply : Txt) (after : World) (later : History) → EndsWithAlarms (asked history world question reply after).reply (flags_later later world.watches)
-  asked_alarms reply after later = record { answer = reply; says = ap (λ (said : Txt). reply ++ said) (each_alarm later 1 world.watches) }
+  asked_alarms : (reply : Txt) (after : World) (later : History)
+      → (asked history world question reply after).reply ≡ (reply ++ []) ++ alarm_texts (flags_later later world.watches)
+  asked_alarms reply after later = λ i. sym (append-nil reply) i ++ each_alarm later 1 world.watches i
 
 module _ (history : History) (world : World) where
   answer_alarms : (question other : Question) (later : History) (reply : Txt) (after : World) → question ≡ other
-      → EndsWithAlarms (asked history world question reply after).reply (flags_later history world other later world.watches)
+      → (asked history world question reply after).reply ≡ (reply ++ []) ++ alarm_texts (flags_later history world other later world.watches)
   answer_alarms question other later reply after same =
-      subst (λ (q : Question). EndsWithAlarms (asked history world question reply after).reply (flags_later history world q later world.watches)) same
-      (asked_alarms history world question reply after later)
+      asked_alarms history world question reply after later
+      ∙ ap (λ (q : Question). (reply ++ []) ++ alarm_texts (flags_later history world q later world.watches)) same
 
-  done_alarms : (deed : Deed) (question : Question) (later : History) → question_of (Ok deed) ≡ Some question
-      → EndsWithAlarms (done history world deed).reply (flags_later history world question later world.watches)
+  done_alarms : (deed : Deed) (question : Question) (later : History) → question_of deed ≡ Some question
+      → (done history world deed).reply ≡ answer_to history world deed ++ alarm_texts (flags_later history world question later world.watches)
   done_alarms (deeds.answer question) other later is = answer_alarms question other later _ world cc
   done_alarms (deeds.open_cursor session number question) other later is = answer_alarms question other later _ world cc
   done_alarms (deeds.extract question) other later is = answer_alarms question other later _ world cc
@@ -94,34 +95,34 @@ module _ (history : History) (world : World) where
 
 pub alarms_are_flags : AlarmsAreFlags
 alarms_are_flags history world command effect deed question later does is =
-    subst (λ (e : Effect). EndsWithAlarms e.reply (flags_later history world question (effect.added ++ later) world.watches)) (sym does.is_done)
-    (done_alarms history world deed question (effect.added ++ later) (ap question_of (sym does.asks) ∙ is))
+    ap (λ (e : Effect). e.reply) does.is_done ∙ done_alarms history world deed question (effect.added ++ later) is
 
 module _ (audit : Audit) (number : ℕ) where
   -- what a line makes of it
   abbrev After : History → World → Command → Checked Deed → Effect → Type 0
   After history world command judgement effect =
-      (heard : Option Heard) × QuestionHeard number history world command (question_of judgement) effect heard
+      (heard : Option Heard) × JudgedHeard number history world command judgement effect heard
       × ((later : History) → IfSome heard (λ one. flags_at (history ++ (effect.added ++ later)) audit one.entry ≡ option_to_list one.flag))
       × (at_number effect.world.watches number ≡ Some audit)
 
   still : (world after : World) → at_number world.watches number ≡ Some audit → after.watches ≡ world.watches → at_number after.watches number ≡ Some audit
   still world after stands same = ap (λ (watches : List (Option Audit)). at_number watches number) same ∙ stands
 
-  answered : (history : History) (world : World) (command : Command) (judgement : Checked Deed) (question : Question) (reply : Txt) (after : World)
-      → question_of judgement ≡ Some question → at_number world.watches number ≡ Some audit → after.watches ≡ world.watches
-      → After history world command judgement (asked history world question reply after)
-  answered history world command judgement question reply after is stands same =
+  answered : (history : History) (world : World) (command : Command) (deed : Deed) (question : Question) (reply : Txt) (after : World)
+      → question_of deed ≡ Some question → (reply ++ []) ≡ answer_to history world deed → at_number world.watches number ≡ Some audit → after.watches ≡ world.watches
+      → After history world command (Ok deed) (asked history world question reply after)
+  answered history world command deed question reply after is answer stands same =
       let entry : Entry = next_entry history world (asked_by question) in
       let one : Heard = record { entry = entry; flag = flag_of meaning (history ++ entry ∷ []) audit entry } in
       let effect : Effect = asked history world question reply after in
       (Some one,
-      subst (λ (q : Option Question). QuestionHeard number history world command q effect (Some one)) (sym is)
+      subst (λ (q : Option Question). DeedHeard number history world command deed q effect (Some one)) (sym is)
       (inl (one, refl, record {
         entry_is = refl;
         added = refl;
         flags = flags_later history world question (entry ∷ []) world.watches;
-        alarms = asked_alarms history world question reply after (entry ∷ []);
+        says = asked_alarms history world question reply after (entry ∷ [])
+            ∙ ap (λ (own : Txt). own ++ alarm_texts (flags_later history world question (entry ∷ []) world.watches)) answer;
         flag_is = at_number-mapped (λ a. flag_of meaning (history ++ entry ∷ []) a entry) world.watches number
             ∙ ap (option_and_then (λ a. flag_of meaning (history ++ entry ∷ []) a entry)) stands;
       })),
@@ -132,10 +133,10 @@ module _ (audit : Audit) (number : ℕ) where
   carried : (history : History) (world : World) (command : Command) → at_number world.watches number ≡ Some audit → (judgement : Checked Deed)
       → IsFounded world judgement → (judgement ≢ Ok (deeds.end_watch number)) → After history world command judgement (carried_out history world (who_commands command) judgement)
   carried history world command stands (Err refusal) founded kept = (None, refl, λ later. tt, stands)
-  carried history world command stands (Ok (deeds.answer question)) founded kept = answered history world command (Ok (deeds.answer question)) question _ world refl stands refl
-  carried history world command stands (Ok (deeds.extract question)) founded kept = answered history world command (Ok (deeds.extract question)) question _ world refl stands refl
+  carried history world command stands (Ok (deeds.answer question)) founded kept = answered history world command (deeds.answer question) question _ world refl refl stands refl
+  carried history world command stands (Ok (deeds.extract question)) founded kept = answered history world command (deeds.extract question) question _ world refl refl stands refl
   carried history world command stands (Ok (deeds.open_cursor session at question)) founded kept =
-      answered history world command (Ok (deeds.open_cursor session at question)) question _ (opened world session at question (question_rows history world question)) refl stands
+      answered history world command (deeds.open_cursor session at question) question _ (opened world session at question (question_rows history world question)) refl refl stands
       (either_watches (nat_lt row_limit (length (question_rows history world question))) world _ refl)
   carried history world command stands (Ok (deeds.end_watch at)) founded kept =
       (None, refl, λ later. tt, elsewhere world.watches at number None (λ same. kept (ap (λ (n : ℕ). Ok (deeds.end_watch n)) same)) ∙ stands)

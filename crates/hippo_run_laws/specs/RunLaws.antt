@@ -16,7 +16,7 @@ use Rattle.hippo_engine.specs.Effects.{Effect, next_entry, done, flag_lines}
 use Rattle.hippo_engine.specs.Runs.{IsRun}
 use Rattle.hippo_run_laws.specs.Lines.{Does, NoneAsks}
 use Rattle.hippo_run_laws.specs.Jobs.{HasWritten, last_end, flags_in}
-use Rattle.hippo_run_laws.specs.Watches.{EndsWithAlarms, question_of, HasHeard}
+use Rattle.hippo_run_laws.specs.Watches.{answer_to, alarm_texts, question_of, HasHeard}
 
 -- from the line on that begins an audit as a job, until it is dropped, its steps write the audit's flags of the history
 -- at its beginning, however it is cut and whatever lines stand between
@@ -39,12 +39,15 @@ StepsReplyAsOneAudit =
     → (done start beginning (deeds.audit audit)).reply
     ≡ flag_lines beginning (flags_in written.portions) ++ number_line 0 (codes "end") count
 
--- a question that is answered has the alarms of all watches: what their audits flag of its entry in any longer history
+-- the reply to a question is its answer and then the alarms of all watches: what their audits flag of its entry in any
+-- longer history
 abbrev pub AlarmsAreFlags : Type 0
 AlarmsAreFlags =
     (history : History) (world : World) (command : Command) (effect : Effect) (deed : Deed) (question : Question)
-    (later : History) → Does deed history world command effect → question_of (judged history world command) ≡ Some question
-    → EndsWithAlarms effect.reply
+    (later : History) → Does deed history world command effect → question_of deed ≡ Some question
+    → effect.reply
+    ≡ answer_to history world deed
+    ++ alarm_texts
     (map (option_and_then (λ audit. flag_of meaning (history ++ (effect.added ++ later)) audit
     (next_entry history world (asked_by question)))) world.watches)
 

@@ -1,5 +1,5 @@
 -- What the replies to questions say of a watch.
-use Rattle.std.specs.Prelude.{◌≡◌, ◌⊎◌, ℕ, ◌-◌, List, [], ◌∷◌, ◌++◌, flat_map, Option, Some, None, IfSome, option_to_list, Ok, codes, decimal}
+use Rattle.std.specs.Prelude.{◌≡◌, ◌⊎◌, ℕ, ◌-◌, List, [], ◌∷◌, ◌++◌, flat_map, Option, Some, None, IfSome, option_to_list, Ok, Err, codes, decimal}
 use Rattle.std.specs.List.{enumerate_from, AllByRecursion}
 use Rattle.std.specs.Option.{option_map_or}
 use Rattle.hippo_values.specs.Texts.{Txt}
@@ -19,7 +19,7 @@ use Rattle.hippo_engine.specs.Deeds.{Deed, Question, asked_by}
 use Rattle.hippo_engine.specs.Deeds as deeds
 use Rattle.hippo_engine.specs.Checks.{Checked}
 use Rattle.hippo_engine.specs.Judging.{judged}
-use Rattle.hippo_engine.specs.Effects.{Effect, next_entry}
+use Rattle.hippo_engine.specs.Effects.{Effect, next_entry, done}
 use Rattle.hippo_engine.specs.Runs.{history_after}
 use Rattle.hippo_run_laws.specs.Lines.{OfEachLine}
 
@@ -32,43 +32,48 @@ alarm_text number flag =
 abbrev pub alarm_texts : List (Option Flag) → Txt
 alarm_texts flags = flat_map (λ (number, flag). option_map_or (alarm_text number) flag []) (enumerate_from 1 flags)
 
--- a reply ends with the alarms of all watches, by what each of them flags
-pub record EndsWithAlarms (reply : Txt) (flags : List (Option Flag)) : Type 0 where
-  pub answer : Txt
-  pub says : reply ≡ answer ++ alarm_texts flags
+-- what is replied to a deed where no watch is set
+abbrev pub answer_to : History → World → Deed → Txt
+answer_to history world deed = (done history (record world { watches = [] }) deed).reply
 
--- the question that is to be answered, if one is
-abbrev pub question_of : Checked Deed → Option Question
-question_of (Ok (deeds.answer question)) = Some question
-question_of (Ok (deeds.open_cursor session number question)) = Some question
-question_of (Ok (deeds.extract question)) = Some question
-question_of judgement = None
+-- the question that a deed answers, if it answers one
+abbrev pub question_of : Deed → Option Question
+question_of (deeds.answer question) = Some question
+question_of (deeds.open_cursor session number question) = Some question
+question_of (deeds.extract question) = Some question
+question_of deed = None
 
 -- a question that was answered: its entry, and what one watch flags of it
 pub record Heard : Type 0 where
   pub entry : Entry
   pub flag : Option Flag
 
--- a question becomes the next entry, and its reply has the alarms, in which that of one watch is its flag
-pub record IsAnswered (number : ℕ) (history : History) (world : World) (question : Question) (effect : Effect)
-    (heard : Heard) : Type 0 where
+-- a question becomes the next entry, and its answer is followed by the alarms, in which that of one watch is its flag
+pub record IsAnswered (number : ℕ) (history : History) (world : World) (deed : Deed) (question : Question)
+    (effect : Effect) (heard : Heard) : Type 0 where
   pub entry_is : heard.entry ≡ next_entry history world (asked_by question)
   pub added : effect.added ≡ heard.entry ∷ []
   pub flags : List (Option Flag)
-  pub alarms : EndsWithAlarms effect.reply flags
+  pub says : effect.reply ≡ answer_to history world deed ++ alarm_texts flags
   pub flag_is : at_number flags number ≡ heard.flag
 
--- a question is answered, or its reply says that memory was short; from other lines nothing is heard
-abbrev pub QuestionHeard : ℕ → History → World → Command → Option Question → Effect → Option Heard → Type 0
-QuestionHeard number history world command None effect heard = heard ≡ None
-QuestionHeard number history world command (Some question) effect heard =
-    ((one : Heard) × (heard ≡ Some one) × IsAnswered number history world question effect one)
+-- a question is answered, or its reply says that memory was short; of other deeds nothing is heard
+abbrev pub DeedHeard : ℕ → History → World → Command → Deed → Option Question → Effect → Option Heard → Type 0
+DeedHeard number history world command deed None effect heard = heard ≡ None
+DeedHeard number history world command deed (Some question) effect heard =
+    ((one : Heard) × (heard ≡ Some one) × IsAnswered number history world deed question effect one)
     ⊎ ((effect.reply ≡ refusal_line (who_commands command) Memory) × (heard ≡ None))
+
+-- of what is refused nothing is heard
+abbrev pub JudgedHeard : ℕ → History → World → Command → Checked Deed → Effect → Option Heard → Type 0
+JudgedHeard number history world command (Err refusal) effect heard = heard ≡ None
+JudgedHeard number history world command (Ok deed) effect heard =
+    DeedHeard number history world command deed (question_of deed) effect heard
 
 -- what is heard of the watch at a number
 abbrev pub IsHeard : ℕ → History → World → Command → Effect → Option Heard → Type 0
 IsHeard number history world command effect heard =
-    QuestionHeard number history world command (question_of (judged history world command)) effect heard
+    JudgedHeard number history world command (judged history world command) effect heard
 
 -- what an audit at once flags of one entry, among the flags of a history
 abbrev pub flags_at : History → Audit → Entry → List Flag
