@@ -1,17 +1,15 @@
 -- The flags of a stretch of a valid history, whatever is behind it; what an entry is flagged for in any longer history.
-use Rattle.std.proofs.Common.{◌≡◌, ◌∙◌, sym, ap, refl, arith, ℕ, zero, suc, ◌+◌, ◌-◌, ◌≤◌, true, List, [], ◌∷◌, ◌++◌, length, take, drop, Option, None, Some, length-drop, append-nil}
+use Rattle.std.proofs.Common.{◌≡◌, ◌∙◌, sym, ap, refl, arith, ℕ, zero, suc, ◌+◌, ◌-◌, ◌≤◌, true, [], ◌∷◌, ◌++◌, length, take, drop, Option, None, Some, length-drop, append-nil}
 use Rattle.std.specs.Prelude.{filter_map, option_and_then, slice_get, option_to_list}
 use Rattle.std.specs.List.{cons_option}
 use Rattle.std.proofs.lemmas.List.{take-append-le, drop-append-le}
 use Rattle.std.proofs.Math.Seq.{take-append_seam, drop-append_seam}
 use Rattle.hippo_model.specs.declared.audit.Audit.{Audit}
-use Rattle.hippo_model.specs.declared.audit.Flag.{Flag}
 use Rattle.hippo_model.specs.declared.entry.Entry.{Entry}
 use Rattle.hippo_model.specs.Terms.{History, Meaning}
 use Rattle.hippo_model.specs.Histories.{before_entry}
 use Rattle.hippo_model.specs.Validity.{is_valid}
 use Rattle.hippo_model.specs.Audits.{shared, shared_in, flag_by, flag_of, flags_between}
-use Rattle.hippo_laws.specs.Audits.{StandsIn}
 use Rattle.hippo_laws.proofs.ValidFronts.{before-append}
 
 -- the first of the entries from a place on stands at that place

@@ -24,7 +24,7 @@ use Rattle.hippo_engine.specs.Judging.{judged}
 use Rattle.hippo_engine.specs.Effects.{Effect, done, carried_out, row_limit, question_rows, only_reply, flag_lines, step_end, step_flags, looked_upto, with_job, new_job, IsShort, IsEffect}
 use Rattle.hippo_engine.specs.Runs.{IsRun, world_after}
 use Rattle.hippo_run_laws.specs.Lines.{OfEachLine, NoneAsks}
-use Rattle.hippo_run_laws.specs.Jobs.{Portion, no_portion, JudgedWrites, Writes, flags_in, last_end, IsWhole, HasWritten}
+use Rattle.hippo_run_laws.specs.Jobs.{Portion, no_portion, JudgedWrites, Writes, flags_in, last_end, IsWhole}
 use Rattle.hippo_run_laws.specs.RunLaws.{AnyCut, StepsReplyAsOneAudit}
 use Rattle.hippo_run_laws.proofs.DeedLemmas.{IsFounded, founded}
 use Rattle.hippo_run_laws.proofs.PlaceLemmas.{elsewhere, there, free_there, not_free}
@@ -198,35 +198,40 @@ module _ (start : History) (valid : is_valid meaning start ≡ true) (audit : Au
       let upto : ℕ = step_end job count in
       let on : IsOn portions job = stands_so portions goes.job job (at_number world.jobs number) goes.stands (ap (at_number world.jobs) (sym same) ∙ held) goes.is_on in
       let after : Job = looked_upto job upto [] in
-      let low : job.place ≤ job.length = subst (λ (n : ℕ). job.place ≤ n) (sym on.length_is) on.within in
-      (step_portion history job upto,
-      inl (same, inl (ap (λ (line : Txt). flag_lines world (step_flags history job upto) ++ line) (last_line (nat_lt upto job.length) upto _))),
-      record {
-        later = goes.later;
-        longer = append-nil history ∙ goes.longer;
-        job = after;
-        stands = ap (at_number (with_at world.jobs at (Some after))) (sym same) ∙ there world.jobs at job after held;
-        is_on = stepped portions history goes.later job upto goes.longer on (low_end job.place count job.length low) (high_end job.place count job.length);
-      })
+      let low : job.place ≤ job.length = subst (λ (n : ℕ). job.place ≤ n) (sym on.length_is) on.within in (
+        step_portion history job upto,
+        inl (same, inl (ap (λ (line : Txt). flag_lines world (step_flags history job upto) ++ line) (last_line (nat_lt upto job.length) upto _))),
+        record {
+          later = goes.later;
+          longer = append-nil history ∙ goes.longer;
+          job = after;
+          stands = ap (at_number (with_at world.jobs at (Some after))) (sym same) ∙ there world.jobs at job after held;
+          is_on = stepped portions history goes.later job upto goes.longer on (low_end job.place count job.length low) (high_end job.place count job.length);
+        },
+      )
 
   step_short : (portions : List Portion) (history : History) (world : World) (command : Command) → Goes portions history world → (at : ℕ) (job : Job) (count upto : ℕ)
       → at_number world.jobs at ≡ Some job → job.place ≤ upto → upto ≤ step_end job count → ((at ≡ number) ⊎ (at ≢ number))
       → After portions history world command (Ok (deeds.step_job at job count))
       (only_reply (with_job world at (Some (looked_upto job upto (step_flags history job upto)))) (refusal_line (who_commands command) Memory))
-  step_short portions history world command goes at job count upto held low high (inr differ) =
-      (no_portion, inr (differ, refl),
-      rests portions history world (only_reply (with_job world at (Some (looked_upto job upto (step_flags history job upto)))) (refusal_line (who_commands command) Memory)) goes (elsewhere world.jobs at number _ differ))
+  step_short portions history world command goes at job count upto held low high (inr differ) = (
+    no_portion,
+    inr (differ, refl),
+    rests portions history world (only_reply (with_job world at (Some (looked_upto job upto (step_flags history job upto)))) (refusal_line (who_commands command) Memory)) goes (elsewhere world.jobs at number _ differ),
+  )
   step_short portions history world command goes at job count upto held low high (inl same) =
       let on : IsOn portions job = stands_so portions goes.job job (at_number world.jobs number) goes.stands (ap (at_number world.jobs) (sym same) ∙ held) goes.is_on in
-      let after : Job = looked_upto job upto (step_flags history job upto) in
-      (no_portion, inl (same, inr (refl, refl)),
-      record {
-        later = goes.later;
-        longer = append-nil history ∙ goes.longer;
-        job = after;
-        stands = ap (at_number (with_at world.jobs at (Some after))) (sym same) ∙ there world.jobs at job after held;
-        is_on = waits portions history goes.later job upto goes.longer on low (le_trans high (high_end job.place count job.length));
-      })
+      let after : Job = looked_upto job upto (step_flags history job upto) in (
+        no_portion,
+        inl (same, inr (refl, refl)),
+        record {
+          later = goes.later;
+          longer = append-nil history ∙ goes.longer;
+          job = after;
+          stands = ap (at_number (with_at world.jobs at (Some after))) (sym same) ∙ there world.jobs at job after held;
+          is_on = waits portions history goes.later job upto goes.longer on low (le_trans high (high_end job.place count job.length));
+        },
+      )
 
   carried : (portions : List Portion) (history : History) (world : World) (command : Command) → Goes portions history world → (judgement : Checked Deed)
       → IsFounded world judgement → (judgement ≢ Ok (deeds.drop_job number)) → After portions history world command judgement (carried_out history world (who_commands command) judgement)
@@ -270,9 +275,12 @@ module _ (start : History) (valid : is_valid meaning start ≡ true) (audit : Au
   all_lines portions history world (line ∷ lines) [] goes run kept = absurd run
   all_lines portions history world (line ∷ lines) (effect ∷ effects) goes run kept =
       let after = one_line portions history world (command_of line) effect goes run.0 kept.0 in
-      let rest = all_lines (portions ++ after.0 ∷ []) (history ++ effect.added) effect.world lines effects after.2 run.1 kept.1 in
-      (after.0 ∷ rest.0, (after.1, rest.1), rest.2,
-      subst (λ (p : List Portion). Goes p rest.2 (world_after effect.world effects)) (append_assoc portions (after.0 ∷ []) rest.0) rest.3)
+      let rest = all_lines (portions ++ after.0 ∷ []) (history ++ effect.added) effect.world lines effects after.2 run.1 kept.1 in (
+        after.0 ∷ rest.0,
+        (after.1, rest.1),
+        rest.2,
+        subst (λ (p : List Portion). Goes p rest.2 (world_after effect.world effects)) (append_assoc portions (after.0 ∷ []) rest.0) rest.3,
+      )
 
 -- a job at its beginning
 begins : (history : History) (valid : is_valid meaning history ≡ true) (audit : Audit) (number : ℕ) (world : World) → free_number world.jobs ≡ Some number

@@ -14,16 +14,16 @@ use Rattle.hippo_typing.specs.Meanings.{meaning}
 use Rattle.hippo_report.specs.Flags.{tuple_text}
 use Rattle.hippo_report.specs.Refusals.{refusal_line}
 use Rattle.hippo_report.specs.declared.refusal.Refusal.TheVariants.{Memory}
-use Rattle.hippo_world.specs.Worlds.{World, at_number, with_at, free_number}
+use Rattle.hippo_world.specs.Worlds.{World, at_number, free_number}
 use Rattle.hippo_commands.specs.Commands.{Command, command_of, who_commands}
 use Rattle.hippo_engine.specs.Deeds.{Deed, Question, asked_by}
 use Rattle.hippo_engine.specs.Deeds as deeds
 use Rattle.hippo_engine.specs.Checks.{Checked}
 use Rattle.hippo_engine.specs.Judging.{judged}
-use Rattle.hippo_engine.specs.Effects.{Effect, row_limit, next_entry, question_rows, within_limit, alarm_line, alarms, asked, opened, only_reply, with_watch, done, carried_out, IsShort, IsEffect}
-use Rattle.hippo_engine.specs.Runs.{IsRun, history_after}
-use Rattle.hippo_run_laws.specs.Lines.{OfEachLine, Does, NoneAsks}
-use Rattle.hippo_run_laws.specs.Watches.{alarm_text, alarm_texts, answer_to, question_of, Heard, IsAnswered, DeedHeard, JudgedHeard, IsHeard, flags_at, HasHeard}
+use Rattle.hippo_engine.specs.Effects.{Effect, row_limit, next_entry, question_rows, alarm_line, asked, opened, done, carried_out, IsShort, IsEffect}
+use Rattle.hippo_engine.specs.Runs.{IsRun}
+use Rattle.hippo_run_laws.specs.Lines.{NoneAsks}
+use Rattle.hippo_run_laws.specs.Watches.{alarm_text, alarm_texts, answer_to, question_answered, Heard, DeedHeard, JudgedHeard, flags_at, HasHeard}
 use Rattle.hippo_run_laws.specs.RunLaws.{AlarmsAreFlags, StandingAudits}
 use Rattle.hippo_run_laws.proofs.DeedLemmas.{IsFounded, founded}
 use Rattle.hippo_run_laws.proofs.PlaceLemmas.{elsewhere, free_there, not_free}
@@ -86,7 +86,7 @@ module _ (history : History) (world : World) where
       asked_alarms history world question reply after later
       ∙ ap (λ (q : Question). (reply ++ []) ++ alarm_texts (flags_later history world q later world.watches)) same
 
-  done_alarms : (deed : Deed) (question : Question) (later : History) → question_of deed ≡ Some question
+  done_alarms : (deed : Deed) (question : Question) (later : History) → question_answered deed ≡ Some question
       → (done history world deed).reply ≡ answer_to history world deed ++ alarm_texts (flags_later history world question later world.watches)
   done_alarms (deeds.answer question) other later is = answer_alarms question other later _ world cc
   done_alarms (deeds.open_cursor session number question) other later is = answer_alarms question other later _ world cc
@@ -109,26 +109,31 @@ module _ (audit : Audit) (number : ℕ) where
   still world after stands same = ap (λ (watches : List (Option Audit)). at_number watches number) same ∙ stands
 
   answered : (history : History) (world : World) (command : Command) (deed : Deed) (question : Question) (reply : Txt) (after : World)
-      → question_of deed ≡ Some question → (reply ++ []) ≡ answer_to history world deed → at_number world.watches number ≡ Some audit → after.watches ≡ world.watches
+      → question_answered deed ≡ Some question → (reply ++ []) ≡ answer_to history world deed → at_number world.watches number ≡ Some audit → after.watches ≡ world.watches
       → After history world command (Ok deed) (asked history world question reply after)
   answered history world command deed question reply after is answer stands same =
       let entry : Entry = next_entry history world (asked_by question) in
       let one : Heard = record { entry = entry; flag = flag_of meaning (history ++ entry ∷ []) audit entry } in
-      let effect : Effect = asked history world question reply after in
-      (Some one,
-      subst (λ (q : Option Question). DeedHeard number history world command deed q effect (Some one)) (sym is)
-      (inl (one, refl, record {
-        entry_is = refl;
-        added = refl;
-        flags = flags_later history world question (entry ∷ []) world.watches;
-        says = asked_alarms history world question reply after (entry ∷ [])
-            ∙ ap (λ (own : Txt). own ++ alarm_texts (flags_later history world question (entry ∷ []) world.watches)) answer;
-        flag_is = at_number-mapped (λ a. flag_of meaning (history ++ entry ∷ []) a entry) world.watches number
-            ∙ ap (option_and_then (λ a. flag_of meaning (history ++ entry ∷ []) a entry)) stands;
-      })),
-      λ later. flags_there meaning history later audit entry refl
-          ∙ ap option_to_list (flagged_there history world question (entry ∷ later) audit ∙ sym (flagged_there history world question (entry ∷ []) audit)),
-      still world after stands same)
+      let effect : Effect = asked history world question reply after in (
+        Some one,
+        subst (λ (q : Option Question). DeedHeard number history world command deed q effect (Some one)) (sym is)
+            (inl (
+              one,
+              refl,
+              record {
+                entry_is = refl;
+                added = refl;
+                flags = flags_later history world question (entry ∷ []) world.watches;
+                says = asked_alarms history world question reply after (entry ∷ [])
+                    ∙ ap (λ (own : Txt). own ++ alarm_texts (flags_later history world question (entry ∷ []) world.watches)) answer;
+                flag_is = at_number-mapped (λ a. flag_of meaning (history ++ entry ∷ []) a entry) world.watches number
+                    ∙ ap (option_and_then (λ a. flag_of meaning (history ++ entry ∷ []) a entry)) stands;
+              },
+            )),
+        λ later. flags_there meaning history later audit entry refl
+            ∙ ap option_to_list (flagged_there history world question (entry ∷ later) audit ∙ sym (flagged_there history world question (entry ∷ []) audit)),
+        still world after stands same,
+      )
 
   carried : (history : History) (world : World) (command : Command) → at_number world.watches number ≡ Some audit → (judgement : Checked Deed)
       → IsFounded world judgement → (judgement ≢ Ok (deeds.end_watch number)) → After history world command judgement (carried_out history world (who_commands command) judgement)
@@ -177,9 +182,10 @@ module _ (audit : Audit) (number : ℕ) where
             let here : history ++ (effect.added ++ (more ++ later)) ≡ (history ++ (effect.added ++ more)) ++ later =
             sym (append_assoc history (effect.added ++ more) later ∙ ap (λ (h : History). history ++ h) (append_assoc effect.added more later)) in
             let behind : ((history ++ effect.added) ++ more) ++ later ≡ (history ++ (effect.added ++ more)) ++ later =
-            ap (λ (h : History). h ++ later) (append_assoc history effect.added more) in
-            (subst (λ (h : History). IfSome after.0 (λ one. flags_at h audit one.entry ≡ option_to_list one.flag)) here (after.2 (more ++ later)),
-            subst (λ (h : History). AllByRecursion (λ of_line. IfSome of_line (λ one. flags_at h audit one.entry ≡ option_to_list one.flag)) rest.heard) behind (rest.flags later));
+            ap (λ (h : History). h ++ later) (append_assoc history effect.added more) in (
+              subst (λ (h : History). IfSome after.0 (λ one. flags_at h audit one.entry ≡ option_to_list one.flag)) here (after.2 (more ++ later)),
+              subst (λ (h : History). AllByRecursion (λ of_line. IfSome of_line (λ one. flags_at h audit one.entry ≡ option_to_list one.flag)) rest.heard) behind (rest.flags later),
+            );
       }
 
 pub standing_audits : StandingAudits

@@ -8,7 +8,7 @@ use Rattle.hippo_engine.specs.Deeds.{Deed}
 use Rattle.hippo_engine.specs.Judging.{judged}
 use Rattle.hippo_engine.specs.Effects.{Effect, done}
 
--- a relation between a command in a history and a world, its effect, and something that is told of it, holds of each line
+-- of each line a relation holds, between its command in a history and a world, its effect, and what is told of it
 abbrev pub OfEachLine : {A : Type 0} → (History → World → Command → Effect → A → Type 0)
     → History → World → List LineText → List Effect → List A → Type 0
 OfEachLine relation history world [] [] [] = Unit {0}

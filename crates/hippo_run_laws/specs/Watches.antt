@@ -37,11 +37,11 @@ abbrev pub answer_to : History → World → Deed → Txt
 answer_to history world deed = (done history (record world { watches = [] }) deed).reply
 
 -- the question that a deed answers, if it answers one
-abbrev pub question_of : Deed → Option Question
-question_of (deeds.answer question) = Some question
-question_of (deeds.open_cursor session number question) = Some question
-question_of (deeds.extract question) = Some question
-question_of deed = None
+abbrev pub question_answered : Deed → Option Question
+question_answered (deeds.answer question) = Some question
+question_answered (deeds.open_cursor session number question) = Some question
+question_answered (deeds.extract question) = Some question
+question_answered deed = None
 
 -- a question that was answered: its entry, and what one watch flags of it
 pub record Heard : Type 0 where
@@ -68,7 +68,7 @@ DeedHeard number history world command deed (Some question) effect heard =
 abbrev pub JudgedHeard : ℕ → History → World → Command → Checked Deed → Effect → Option Heard → Type 0
 JudgedHeard number history world command (Err refusal) effect heard = heard ≡ None
 JudgedHeard number history world command (Ok deed) effect heard =
-    DeedHeard number history world command deed (question_of deed) effect heard
+    DeedHeard number history world command deed (question_answered deed) effect heard
 
 -- what is heard of the watch at a number
 abbrev pub IsHeard : ℕ → History → World → Command → Effect → Option Heard → Type 0

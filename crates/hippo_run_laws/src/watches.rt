@@ -7,8 +7,8 @@ pub fn alarms_are_flags()
     ensures { AlarmsAreFlags }
 {}
 
-/// While a watch is set, its alarms are the flags that an audit with the same expression gives at any later time for the
-/// questions that were answered in the meantime.
+/// While a watch is set, its alarms are the flags that an audit with the same expression gives at any later time for
+/// the questions that were answered in the meantime.
 pub fn standing_audits()
     ensures { StandingAudits }
 {}
