@@ -235,27 +235,27 @@ module _ (start : History) (valid : is_valid meaning start ≡ true) (audit : Au
 
   carried : (portions : List Portion) (history : History) (world : World) (command : Command) → Goes portions history world → (judgement : Checked Deed)
       → IsFounded world judgement → (judgement ≢ Ok (deeds.drop_job number)) → After portions history world command judgement (carried_out history world (who_commands command) judgement)
-  carried portions history world command goes (Err refusal) founded kept =
+  carried portions history world command goes (Err refusal) fits kept =
       (no_portion, refl, still portions history world (only_reply world (refusal_line (who_commands command) refusal)) goes refl)
-  carried portions history world command goes (Ok (deeds.step_job at job count)) founded kept =
-      step_done portions history world command goes at job count founded (same_or_not at number)
-  carried portions history world command goes (Ok (deeds.drop_job at)) founded kept =
+  carried portions history world command goes (Ok (deeds.step_job at job count)) fits kept =
+      step_done portions history world command goes at job count fits (same_or_not at number)
+  carried portions history world command goes (Ok (deeds.drop_job at)) fits kept =
       (no_portion, refl, rests portions history world (done history world (deeds.drop_job at)) goes (elsewhere world.jobs at number None (λ same. kept (ap (λ (n : ℕ). Ok (deeds.drop_job n)) same))))
-  carried portions history world command goes (Ok (deeds.begin_audit at audit)) founded kept =
-      (no_portion, refl, rests portions history world (done history world (deeds.begin_audit at audit)) goes (elsewhere world.jobs at number _ (not_free world.jobs at number goes.job founded goes.stands)))
-  carried portions history world command goes (Ok (deeds.open_cursor session at question)) founded kept =
+  carried portions history world command goes (Ok (deeds.begin_audit at audit)) fits kept =
+      (no_portion, refl, rests portions history world (done history world (deeds.begin_audit at audit)) goes (elsewhere world.jobs at number _ (not_free world.jobs at number goes.job fits goes.stands)))
+  carried portions history world command goes (Ok (deeds.open_cursor session at question)) fits kept =
       (no_portion, refl, still portions history world (done history world (deeds.open_cursor session at question)) goes (either_jobs (nat_lt row_limit (length (question_rows history world question))) world _ refl))
-  carried portions history world command goes (Ok deed) founded kept = (no_portion, refl, still portions history world (done history world deed) goes refl)
+  carried portions history world command goes (Ok deed) fits kept = (no_portion, refl, still portions history world (done history world deed) goes refl)
 
   short : (portions : List Portion) (history : History) (world : World) (command : Command) → Goes portions history world → (judgement : Checked Deed) → IsFounded world judgement
       → (effect : Effect) → IsShort history world (refusal_line (who_commands command) Memory) judgement effect → After portions history world command judgement effect
-  short portions history world command goes (Ok (deeds.step_job at job count)) founded effect is =
+  short portions history world command goes (Ok (deeds.step_job at job count)) fits effect is =
       subst (After portions history world command (Ok (deeds.step_job at job count))) (sym is.is)
-      (step_short portions history world command goes at job count is.upto founded is.from is.to (same_or_not at number))
-  short portions history world command goes (Ok (deeds.answer question)) founded effect is = (no_portion, refl, still portions history world effect goes (ap (λ (w : World). w.jobs) is.same))
-  short portions history world command goes (Ok (deeds.open_cursor session at question)) founded effect is = (no_portion, refl, still portions history world effect goes (ap (λ (w : World). w.jobs) is.same))
-  short portions history world command goes (Ok (deeds.extract question)) founded effect is = (no_portion, refl, still portions history world effect goes (ap (λ (w : World). w.jobs) is.same))
-  short portions history world command goes judgement founded effect is = (no_portion, refl, still portions history world effect goes (ap (λ (e : Effect). e.world.jobs) is))
+      (step_short portions history world command goes at job count is.upto fits is.from is.to (same_or_not at number))
+  short portions history world command goes (Ok (deeds.answer question)) fits effect is = (no_portion, refl, still portions history world effect goes (ap (λ (w : World). w.jobs) is.same))
+  short portions history world command goes (Ok (deeds.open_cursor session at question)) fits effect is = (no_portion, refl, still portions history world effect goes (ap (λ (w : World). w.jobs) is.same))
+  short portions history world command goes (Ok (deeds.extract question)) fits effect is = (no_portion, refl, still portions history world effect goes (ap (λ (w : World). w.jobs) is.same))
+  short portions history world command goes judgement fits effect is = (no_portion, refl, still portions history world effect goes (ap (λ (e : Effect). e.world.jobs) is))
 
   -- one line
   one_line : (portions : List Portion) (history : History) (world : World) (command : Command) (effect : Effect) → Goes portions history world

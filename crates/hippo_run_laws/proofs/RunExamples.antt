@@ -1,24 +1,48 @@
 -- Steps of a job, and what is heard of a watch, on a small clinic.
-use Rattle.std.proofs.Common.{◌≡◌, inl, inr, refl, arith, pos, false, [], ◌∷◌, ◌++◌, Some, None, Ok, codes, decimal}
-use Rattle.hippo_io.specs.Lines.{too_long_line, not_utf8_line}
+use Rattle.std.proofs.Common.{◌≡◌, ◌∙◌, inl, inr, refl, ap, subst, length, Option, option_and_then, arith, pos, false, List, [], ◌∷◌, ◌++◌, Some, None, Ok, codes, decimal}
+use Rattle.std.specs.Prelude.{⊤}
+use Rattle.hippo_io.specs.Lines.{LineText, text_line, too_long_line, not_utf8_line}
+use Rattle.hippo_values.specs.Names.{keywords, unsupported_words}
 use Rattle.hippo_values.specs.declared.values.Value.TheVariants.{Int}
 use Rattle.hippo_model.specs.declared.audit.Audit.{Audit}
 use Rattle.hippo_model.specs.declared.audit.Flag.{Flag}
 use Rattle.hippo_model.specs.declared.query.CondOf.TheVariants.{All}
+use Rattle.hippo_model.specs.Terms.{History}
 use Rattle.hippo_report.specs.declared.format.Format.TheVariants as formats
 use Rattle.hippo_report.specs.declared.refusal.Refusal.TheVariants.{BadLine, LineTooLong, Memory}
 use Rattle.hippo_report.specs.Flags.{flag_line, tuple_text}
 use Rattle.hippo_report.specs.Notices.{number_line}
 use Rattle.hippo_report.specs.Refusals.{refusal_line}
 use Rattle.hippo_world.specs.Worlds.{World, Job}
+use Rattle.hippo_lines.specs.Words.{words_of}
 use Rattle.hippo_lines.specs.Forms.{steps}
-use Rattle.hippo_commands.specs.Commands.{Command, wrong, ask}
+use Rattle.hippo_commands.specs.Commands.{Command, wrong, ask, command_of}
+use Rattle.std.specs.List.{cons_option}
+use Rattle.hippo_values.specs.Texts.{Txt}
+use Rattle.hippo_values.specs.Words.{word_of}
+use Rattle.hippo_model.specs.declared.entry.Act.{Act}
+use Rattle.hippo_model.specs.declared.entry.Act.TheVariants as acts
+use Rattle.hippo_model.specs.declared.query.Query.{Query}
+use Rattle.hippo_model.specs.Verdicts.{Context}
+use Rattle.hippo_model.specs.Audits.{shared_by, flag_by, flags_between}
+use Rattle.hippo_model.proofs.Truths.{truths}
+use Rattle.hippo_model.proofs.ChangedOperands.{changes_of_operands}
+use Rattle.hippo_catalog.proofs.ComparedOperands.{comparisons_of}
+use Rattle.hippo_lexer.specs.Spelling.{sign_table, sign_of}
+use Rattle.hippo_lexer.specs.Cutting.{number_of, number_first, closing, quoted_first, date_first, word_first, sign_first, token_first, tokens_from, outcome_of}
+use Rattle.hippo_lexer.specs.Words.{words_check}
+use Rattle.hippo_spj_reader.specs.SelectFinder.{leading_item, leading_member, leading_members, leading_joined, leading_sources, leading_where, leading_scope, leading_draft_of, leading_draft, ungrouped, leading_select}
+use Rattle.hippo_stmt_reader.specs.StatementFinder.{placed_select_of, open_of, extract_of, select_of, statement_of}
+use Rattle.hippo_typing.specs.Meanings.{meaning, meaning_in}
+use Rattle.std.specs.Option.{option_map_or}
+use Rattle.hippo_model.specs.declared.audit.SharedRow.{SharedRow}
 use Rattle.hippo_engine.specs.Deeds as deeds
-use Rattle.hippo_engine.specs.Effects.{Effect, done, only_reply, with_job, new_job, looked_upto}
-use Rattle.hippo_engine.proofs.ExampleLines.{patient, nurses_pair, clinic, world_within, question, all_rows, asked_for}
+use Rattle.hippo_engine.specs.Effects.{Effect, effect_of, done, alarms, only_reply, with_job, with_watch, new_job, looked_upto}
+use Rattle.hippo_engine.specs.Runs.{IsRun}
+use Rattle.hippo_engine.proofs.ExampleLines.{patient, treatment, nurse, entry, nurses_pair, clinic, world_within, question, all_rows, asked_for}
 use Rattle.hippo_run_laws.specs.Lines.{OfEachLine}
 use Rattle.hippo_run_laws.specs.Jobs.{Portion, no_portion, portion_reply, StepWrites, JudgedWrites, Writes, flags_in, last_end}
-use Rattle.hippo_run_laws.specs.Watches.{alarm_texts, JudgedHeard, IsHeard}
+use Rattle.hippo_run_laws.specs.Watches.{alarm_text, alarm_texts, JudgedHeard, IsHeard}
 
 -- AUDIT name OF patient, in the year 2024
 abbrev names_of_patients : Audit
@@ -118,3 +142,51 @@ nothing_is_heard_without_memory :
     JudgedHeard 1 clinic world (question (all_rows (codes "name" ∷ []))) (Ok (deeds.answer (asked_for (1 ∷ []))))
     (only_reply world (refusal_line (Some 1) Memory)) None
 nothing_is_heard_without_memory = inr (refl, refl)
+
+-- what is unfolded to read lines and texts
+unfoldable reading : ⊤
+unfolding words_of keywords unsupported_words sign_table sign_of number_of number_first closing quoted_first date_first word_first sign_first token_first tokens_from outcome_of words_check leading_item leading_member leading_members leading_joined leading_sources leading_where leading_scope leading_draft_of leading_draft ungrouped leading_select placed_select_of open_of extract_of select_of statement_of word_of meaning_in
+reading = tt
+
+-- Ann asks for the names of patients
+abbrev text : Txt
+text = codes "SELECT name FROM patient"
+
+abbrev ann_asks : Act
+ann_asks = acts.Asked (codes "ann") treatment nurse text
+
+abbrev asked_once : History
+asked_once = clinic ++ entry 8 ann_asks ∷ []
+
+names_are_meant : meaning clinic text ≡ Some (asked_for (1 ∷ [])).query
+unfolding reading
+names_are_meant = simp (changes_of_operands, comparisons_of)
+
+-- what an audit flags of it, by what its text means
+abbrev flagged_by : Option Query → List Flag
+flagged_by found =
+    let context : Context = record { purpose = treatment; recipient = nurse; moment = pos 1704182400 } in
+    cons_option (option_and_then (flag_by (entry 8 ann_asks) ann_asks) (option_and_then (λ query. shared_by clinic context query names_of_patients) found)) []
+
+adas_row_is_shared : flagged_by (Some (asked_for (1 ∷ [])).query) ≡ eighth ∷ []
+adas_row_is_shared = simp truths
+
+ann_is_flagged : flags_between meaning asked_once names_of_patients 0 8 ≡ eighth ∷ []
+ann_is_flagged = ap flagged_by names_are_meant ∙ adas_row_is_shared
+
+-- a watch with the same audit tells of it as it is asked
+abbrev watched : World
+watched = with_watch (world_within 4000000) 2 (Some names_of_patients)
+
+abbrev alarm_by : Option Query → Txt
+alarm_by found =
+    let context : Context = record { purpose = treatment; recipient = nurse; moment = pos 1704182400 } in
+    let which : Txt = decimal 2 ++ (codes " " ++ decimal 8) in
+    option_map_or (λ (tuple : List SharedRow). codes "0 alarm " ++ (which ++ (tuple_text tuple ++ codes "\n")))
+    (option_and_then (λ query. shared_by clinic context query names_of_patients) found) []
+
+adas_row_is_told : alarm_by (Some (asked_for (1 ∷ [])).query) ≡ alarm_text 2 eighth
+adas_row_is_told = simp truths
+
+the_watch_tells_of_ann : alarms clinic watched (entry 8 ann_asks) ≡ alarm_texts (None ∷ Some eighth ∷ [])
+the_watch_tells_of_ann = ap (λ (said : Txt). said ++ []) (ap alarm_by names_are_meant ∙ adas_row_is_told)

@@ -137,17 +137,17 @@ module _ (audit : Audit) (number : ℕ) where
 
   carried : (history : History) (world : World) (command : Command) → at_number world.watches number ≡ Some audit → (judgement : Checked Deed)
       → IsFounded world judgement → (judgement ≢ Ok (deeds.end_watch number)) → After history world command judgement (carried_out history world (who_commands command) judgement)
-  carried history world command stands (Err refusal) founded kept = (None, refl, λ later. tt, stands)
-  carried history world command stands (Ok (deeds.answer question)) founded kept = answered history world command (deeds.answer question) question _ world refl refl stands refl
-  carried history world command stands (Ok (deeds.extract question)) founded kept = answered history world command (deeds.extract question) question _ world refl refl stands refl
-  carried history world command stands (Ok (deeds.open_cursor session at question)) founded kept =
+  carried history world command stands (Err refusal) fits kept = (None, refl, λ later. tt, stands)
+  carried history world command stands (Ok (deeds.answer question)) fits kept = answered history world command (deeds.answer question) question _ world refl refl stands refl
+  carried history world command stands (Ok (deeds.extract question)) fits kept = answered history world command (deeds.extract question) question _ world refl refl stands refl
+  carried history world command stands (Ok (deeds.open_cursor session at question)) fits kept =
       answered history world command (deeds.open_cursor session at question) question _ (opened world session at question (question_rows history world question)) refl refl stands
       (either_watches (nat_lt row_limit (length (question_rows history world question))) world _ refl)
-  carried history world command stands (Ok (deeds.end_watch at)) founded kept =
+  carried history world command stands (Ok (deeds.end_watch at)) fits kept =
       (None, refl, λ later. tt, elsewhere world.watches at number None (λ same. kept (ap (λ (n : ℕ). Ok (deeds.end_watch n)) same)) ∙ stands)
-  carried history world command stands (Ok (deeds.watch at other)) founded kept =
-      (None, refl, λ later. tt, elsewhere world.watches at number (Some other) (not_free world.watches at number audit founded stands) ∙ stands)
-  carried history world command stands (Ok deed) founded kept = (None, refl, λ later. tt, stands)
+  carried history world command stands (Ok (deeds.watch at other)) fits kept =
+      (None, refl, λ later. tt, elsewhere world.watches at number (Some other) (not_free world.watches at number audit fits stands) ∙ stands)
+  carried history world command stands (Ok deed) fits kept = (None, refl, λ later. tt, stands)
 
   short : (history : History) (world : World) (command : Command) → at_number world.watches number ≡ Some audit → (judgement : Checked Deed)
       → (effect : Effect) → IsShort history world (refusal_line (who_commands command) Memory) judgement effect → After history world command judgement effect
