@@ -1,7 +1,7 @@
 -- Steps of a job, and what is heard of a watch, on a small clinic.
-use Rattle.std.proofs.Common.{◌≡◌, ◌∙◌, inl, inr, refl, ap, subst, length, Option, option_and_then, arith, pos, false, List, [], ◌∷◌, ◌++◌, Some, None, Ok, codes, decimal}
+use Rattle.std.proofs.Common.{◌≡◌, ◌∙◌, inl, inr, refl, ap, Option, option_and_then, arith, pos, false, List, [], ◌∷◌, ◌++◌, Some, None, Ok, codes, decimal}
 use Rattle.std.specs.Prelude.{⊤}
-use Rattle.hippo_io.specs.Lines.{LineText, text_line, too_long_line, not_utf8_line}
+use Rattle.hippo_io.specs.Lines.{too_long_line, not_utf8_line}
 use Rattle.hippo_values.specs.Names.{keywords, unsupported_words}
 use Rattle.hippo_values.specs.declared.values.Value.TheVariants.{Int}
 use Rattle.hippo_model.specs.declared.audit.Audit.{Audit}
@@ -16,7 +16,7 @@ use Rattle.hippo_report.specs.Refusals.{refusal_line}
 use Rattle.hippo_world.specs.Worlds.{World, Job}
 use Rattle.hippo_lines.specs.Words.{words_of}
 use Rattle.hippo_lines.specs.Forms.{steps}
-use Rattle.hippo_commands.specs.Commands.{Command, wrong, ask, command_of}
+use Rattle.hippo_commands.specs.Commands.{Command, wrong, ask}
 use Rattle.std.specs.List.{cons_option}
 use Rattle.hippo_values.specs.Texts.{Txt}
 use Rattle.hippo_values.specs.Words.{word_of}
@@ -37,8 +37,7 @@ use Rattle.hippo_typing.specs.Meanings.{meaning, meaning_in}
 use Rattle.std.specs.Option.{option_map_or}
 use Rattle.hippo_model.specs.declared.audit.SharedRow.{SharedRow}
 use Rattle.hippo_engine.specs.Deeds as deeds
-use Rattle.hippo_engine.specs.Effects.{Effect, effect_of, done, alarms, only_reply, with_job, with_watch, new_job, looked_upto}
-use Rattle.hippo_engine.specs.Runs.{IsRun}
+use Rattle.hippo_engine.specs.Effects.{Effect, done, alarms, only_reply, with_job, with_watch, new_job, looked_upto}
 use Rattle.hippo_engine.proofs.ExampleLines.{patient, treatment, nurse, entry, nurses_pair, clinic, world_within, question, all_rows, asked_for}
 use Rattle.hippo_run_laws.specs.Lines.{OfEachLine}
 use Rattle.hippo_run_laws.specs.Jobs.{Portion, no_portion, portion_reply, StepWrites, JudgedWrites, Writes, flags_in, last_end}
