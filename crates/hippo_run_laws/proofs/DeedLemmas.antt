@@ -22,7 +22,8 @@ use Rattle.hippo_report.specs.declared.refusal.Refusal.{Refusal}
 use Rattle.hippo_report.specs.declared.refusal.Refusal.TheVariants.{BadSyntax, NoCursor, NoJob, NoWatch, JobLimit, WatchLimit, NoSuchQuery, MomentBack, NotBuilt}
 use Rattle.hippo_world.specs.declared.cursors.Cursor.{Cursor as HeldCursor}
 use Rattle.hippo_world.specs.declared.sessions.Session.{Session}
-use Rattle.hippo_world.specs.Worlds.{World, Job, at_number, free_number}
+use Rattle.hippo_audit_job.specs.Jobs.{OpenAudit}
+use Rattle.hippo_world.specs.Worlds.{World, at_number, free_number}
 use Rattle.hippo_lines.specs.Forms.{logs_in, logs_out, fetches, closes, steps, drops, unwatches, loads}
 use Rattle.hippo_commands.specs.Commands.{Command, nothing, wrong, ask, state}
 use Rattle.hippo_commands.specs.Commands as commands
@@ -109,12 +110,12 @@ module _ (history : History) (world : World) where
   step : (number at count : ℕ) → IsFounded world (judged_step world number at count)
   step number at count =
       check {A = Unit {0}} (by_console number) (λ console. ok_or (at_number world.jobs at) (NoJob at) >>= λ job. Ok (deeds.step_job at job count))
-      (λ console. held {A = Job} (at_number world.jobs at) (NoJob at) (λ job. Ok (deeds.step_job at job count)) (λ job is. is))
+      (λ console. held {A = OpenAudit} (at_number world.jobs at) (NoJob at) (λ job. Ok (deeds.step_job at job count)) (λ job is. is))
 
   drop : (number at : ℕ) → IsFounded world (judged_drop world number at)
   drop number at =
       check {A = Unit {0}} (by_console number) (λ console. ok_or (at_number world.jobs at) (NoJob at) >>= λ job. Ok (deeds.drop_job at))
-      (λ console. check {A = Job} (ok_or (at_number world.jobs at) (NoJob at)) (λ job. Ok (deeds.drop_job at)) (λ job. tt))
+      (λ console. check {A = OpenAudit} (ok_or (at_number world.jobs at) (NoJob at)) (λ job. Ok (deeds.drop_job at)) (λ job. tt))
 
   unwatch : (number at : ℕ) → IsFounded world (judged_unwatch world number at)
   unwatch number at =

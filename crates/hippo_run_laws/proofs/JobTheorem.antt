@@ -15,13 +15,14 @@ use Rattle.hippo_typing.specs.Meanings.{meaning}
 use Rattle.hippo_report.specs.Notices.{number_line}
 use Rattle.hippo_report.specs.Refusals.{refusal_line}
 use Rattle.hippo_report.specs.declared.refusal.Refusal.TheVariants.{Memory}
-use Rattle.hippo_world.specs.Worlds.{World, Job, at_number, with_at, free_number}
+use Rattle.hippo_audit_job.specs.Jobs.{OpenAudit, step_end}
+use Rattle.hippo_world.specs.Worlds.{World, at_number, with_at, free_number}
 use Rattle.hippo_commands.specs.Commands.{Command, command_of, who_commands}
 use Rattle.hippo_engine.specs.Deeds.{Deed}
 use Rattle.hippo_engine.specs.Deeds as deeds
 use Rattle.hippo_engine.specs.Checks.{Checked}
 use Rattle.hippo_engine.specs.Judging.{judged}
-use Rattle.hippo_engine.specs.Effects.{Effect, done, carried_out, row_limit, question_rows, only_reply, flag_lines, step_end, step_flags, looked_upto, with_job, new_job, IsShort, IsEffect}
+use Rattle.hippo_engine.specs.Effects.{Effect, done, carried_out, row_limit, question_rows, only_reply, flag_lines, step_flags, looked_upto, with_job, new_job, IsShort, IsEffect}
 use Rattle.hippo_engine.specs.Runs.{IsRun, world_after}
 use Rattle.hippo_run_laws.specs.Lines.{OfEachLine, NoneAsks}
 use Rattle.hippo_run_laws.specs.Jobs.{Portion, no_portion, JudgedWrites, Writes, flags_in, last_end, IsWhole}
@@ -60,7 +61,7 @@ either_jobs false world other same = same
 
 module _ (start : History) (valid : is_valid meaning start ≡ true) (audit : Audit) (number : ℕ) where
   -- how far the job is
-  record IsOn (portions : List Portion) (job : Job) : Type 0 where
+  record IsOn (portions : List Portion) (job : OpenAudit) : Type 0 where
     audit_is : job.audit ≡ audit
     length_is : job.length ≡ length start
     within : job.place ≤ length start
@@ -71,7 +72,7 @@ module _ (start : History) (valid : is_valid meaning start ≡ true) (audit : Au
   record Goes (portions : List Portion) (history : History) (world : World) : Type 0 where
     later : History
     longer : history ≡ start ++ later
-    job : Job
+    job : OpenAudit
     stands : at_number world.jobs number ≡ Some job
     is_on : IsOn portions job
 
@@ -81,7 +82,7 @@ module _ (start : History) (valid : is_valid meaning start ≡ true) (audit : Au
       (one : Portion) × JudgedWrites number world command judgement effect one
       × Goes (portions ++ one ∷ []) (history ++ effect.added) effect.world
 
-  none_more : (portions : List Portion) (job : Job) → IsOn portions job → IsOn (portions ++ no_portion ∷ []) job
+  none_more : (portions : List Portion) (job : OpenAudit) → IsOn portions job → IsOn (portions ++ no_portion ∷ []) job
   none_more portions job on = record {
     audit_is = on.audit_is;
     length_is = on.length_is;
@@ -104,10 +105,10 @@ module _ (start : History) (valid : is_valid meaning start ≡ true) (audit : Au
   still : (portions : List Portion) (history : History) (world : World) (effect : Effect) → Goes portions history world
       → effect.world.jobs ≡ world.jobs → Goes (portions ++ no_portion ∷ []) (history ++ effect.added) effect.world
   still portions history world effect goes same =
-      rests portions history world effect goes (ap (λ (jobs : List (Option Job)). at_number jobs number) same)
+      rests portions history world effect goes (ap (λ (jobs : List (Option OpenAudit)). at_number jobs number) same)
 
   -- what was written, what waited and what is found up to a number are the flags up to there
-  found : (portions : List Portion) (history later : History) (job : Job) (upto : ℕ) → history ≡ start ++ later → IsOn portions job
+  found : (portions : List Portion) (history later : History) (job : OpenAudit) (upto : ℕ) → history ≡ start ++ later → IsOn portions job
       → job.place ≤ upto → upto ≤ length start
       → flags_in portions ++ step_flags history job upto ≡ flags_between meaning start audit 0 upto
   found portions history later job upto longer on low high =
@@ -117,14 +118,14 @@ module _ (start : History) (valid : is_valid meaning start ≡ true) (audit : Au
       ∙ (λ i. on.flags i ++ here i)
       ∙ sym (flags_parted start audit 0 job.place upto (omega arith) low)
 
-  all_found : (history later : History) (job : Job) → history ≡ start ++ later → job.audit ≡ audit → job.length ≡ length start
+  all_found : (history later : History) (job : OpenAudit) → history ≡ start ++ later → job.audit ≡ audit → job.length ≡ length start
       → flags_between meaning history job.audit 0 job.length ≡ flags_between meaning start audit 0 (length start)
   all_found history later job longer audit_is length_is =
       (λ i. flags_between meaning (longer i) (audit_is i) 0 (length_is i))
       ∙ stretch_lasts meaning audit start later valid 0 (length start) (omega arith) (omega arith)
 
   -- a step's portion
-  abbrev step_portion : History → Job → ℕ → Portion
+  abbrev step_portion : History → OpenAudit → ℕ → Portion
   step_portion history job upto = record {
     flags = step_flags history job upto;
     ended = if nat_lt upto job.length then None else Some (length (flags_between meaning history job.audit 0 job.length));
@@ -143,7 +144,7 @@ module _ (start : History) (valid : is_valid meaning start ≡ true) (audit : Au
   reached : (upto length whole : ℕ) → nat_lt upto length ≡ false → upto ≤ length → length ≡ whole → upto ≡ whole
   reached upto length whole last high is = grind (arith, tests)
 
-  ended : (portions : List Portion) (history later : History) (job : Job) (upto : ℕ) → history ≡ start ++ later → IsOn portions job → upto ≤ job.length
+  ended : (portions : List Portion) (history later : History) (job : OpenAudit) (upto : ℕ) → history ≡ start ++ later → IsOn portions job → upto ≤ job.length
       → flags_in (portions ++ step_portion history job upto ∷ []) ≡ flags_between meaning start audit 0 upto
       → (count : ℕ) → (step_portion history job upto).ended ≡ Some count → IsWhole start audit (portions ++ step_portion history job upto ∷ []) count
   ended portions history later job upto longer on high written count is =
@@ -156,7 +157,7 @@ module _ (start : History) (valid : is_valid meaning start ≡ true) (audit : Au
         counted = sym last.1 ∙ ap length (all_found history later job longer on.audit_is on.length_is ∙ sym all);
       }
 
-  stepped : (portions : List Portion) (history later : History) (job : Job) (upto : ℕ) → history ≡ start ++ later → IsOn portions job
+  stepped : (portions : List Portion) (history later : History) (job : OpenAudit) (upto : ℕ) → history ≡ start ++ later → IsOn portions job
       → job.place ≤ upto → upto ≤ job.length → IsOn (portions ++ step_portion history job upto ∷ []) (looked_upto job upto [])
   stepped portions history later job upto longer on low high =
       let one : Portion = step_portion history job upto in
@@ -171,7 +172,7 @@ module _ (start : History) (valid : is_valid meaning start ≡ true) (audit : Au
         whole = λ count is. ended portions history later job upto longer on high written count (sym (end-more portions one) ∙ is);
       }
 
-  waits : (portions : List Portion) (history later : History) (job : Job) (upto : ℕ) → history ≡ start ++ later → IsOn portions job
+  waits : (portions : List Portion) (history later : History) (job : OpenAudit) (upto : ℕ) → history ≡ start ++ later → IsOn portions job
       → job.place ≤ upto → upto ≤ job.length → IsOn (portions ++ no_portion ∷ []) (looked_upto job upto (step_flags history job upto))
   waits portions history later job upto longer on low high =
       let within : upto ≤ length start = subst (λ (n : ℕ). upto ≤ n) on.length_is high in
@@ -185,19 +186,19 @@ module _ (start : History) (valid : is_valid meaning start ≡ true) (audit : Au
       }
 
   -- the job that a step names is the one that stands
-  stands_so : (portions : List Portion) (one other : Job) (held : Option Job) → held ≡ Some one → held ≡ Some other → IsOn portions one → IsOn portions other
+  stands_so : (portions : List Portion) (one other : OpenAudit) (held : Option OpenAudit) → held ≡ Some one → held ≡ Some other → IsOn portions one → IsOn portions other
   stands_so portions one other held is also on =
       let same : one ≡ other = cc in
       subst (IsOn portions) same on
 
-  step_done : (portions : List Portion) (history : History) (world : World) (command : Command) → Goes portions history world → (at : ℕ) (job : Job) (count : ℕ)
+  step_done : (portions : List Portion) (history : History) (world : World) (command : Command) → Goes portions history world → (at : ℕ) (job : OpenAudit) (count : ℕ)
       → at_number world.jobs at ≡ Some job → ((at ≡ number) ⊎ (at ≢ number)) → After portions history world command (Ok (deeds.step_job at job count)) (done history world (deeds.step_job at job count))
   step_done portions history world command goes at job count held (inr differ) =
       (no_portion, inr (differ, refl), rests portions history world (done history world (deeds.step_job at job count)) goes (elsewhere world.jobs at number _ differ))
   step_done portions history world command goes at job count held (inl same) =
       let upto : ℕ = step_end job count in
       let on : IsOn portions job = stands_so portions goes.job job (at_number world.jobs number) goes.stands (ap (at_number world.jobs) (sym same) ∙ held) goes.is_on in
-      let after : Job = looked_upto job upto [] in
+      let after : OpenAudit = looked_upto job upto [] in
       let low : job.place ≤ job.length = subst (λ (n : ℕ). job.place ≤ n) (sym on.length_is) on.within in (
         step_portion history job upto,
         inl (same, inl (ap (λ (line : Txt). flag_lines world (step_flags history job upto) ++ line) (last_line (nat_lt upto job.length) upto _))),
@@ -210,7 +211,7 @@ module _ (start : History) (valid : is_valid meaning start ≡ true) (audit : Au
         },
       )
 
-  step_short : (portions : List Portion) (history : History) (world : World) (command : Command) → Goes portions history world → (at : ℕ) (job : Job) (count upto : ℕ)
+  step_short : (portions : List Portion) (history : History) (world : World) (command : Command) → Goes portions history world → (at : ℕ) (job : OpenAudit) (count upto : ℕ)
       → at_number world.jobs at ≡ Some job → job.place ≤ upto → upto ≤ step_end job count → ((at ≡ number) ⊎ (at ≢ number))
       → After portions history world command (Ok (deeds.step_job at job count))
       (only_reply (with_job world at (Some (looked_upto job upto (step_flags history job upto)))) (refusal_line (who_commands command) Memory))
@@ -221,7 +222,7 @@ module _ (start : History) (valid : is_valid meaning start ≡ true) (audit : Au
   )
   step_short portions history world command goes at job count upto held low high (inl same) =
       let on : IsOn portions job = stands_so portions goes.job job (at_number world.jobs number) goes.stands (ap (at_number world.jobs) (sym same) ∙ held) goes.is_on in
-      let after : Job = looked_upto job upto (step_flags history job upto) in (
+      let after : OpenAudit = looked_upto job upto (step_flags history job upto) in (
         no_portion,
         inl (same, inr (refl, refl)),
         record {

@@ -1,7 +1,7 @@
 -- Steps of a job, and what is heard of a watch, on a small clinic.
-use Rattle.std.proofs.Common.{◌≡◌, ◌∙◌, inl, inr, refl, ap, Option, option_and_then, arith, pos, false, List, [], ◌∷◌, ◌++◌, Some, None, Ok, codes, decimal}
+use Rattle.std.proofs.Common.{◌≡◌, ◌∙◌, inl, inr, refl, ap, subst, length, Option, option_and_then, arith, pos, false, List, [], ◌∷◌, ◌++◌, Some, None, Ok, codes, decimal}
 use Rattle.std.specs.Prelude.{⊤}
-use Rattle.hippo_io.specs.Lines.{too_long_line, not_utf8_line}
+use Rattle.hippo_io.specs.Lines.{LineText, text_line, too_long_line, not_utf8_line}
 use Rattle.hippo_values.specs.Names.{keywords, unsupported_words}
 use Rattle.hippo_values.specs.declared.values.Value.TheVariants.{Int}
 use Rattle.hippo_model.specs.declared.audit.Audit.{Audit}
@@ -13,10 +13,11 @@ use Rattle.hippo_report.specs.declared.refusal.Refusal.TheVariants.{BadLine, Lin
 use Rattle.hippo_report.specs.Flags.{flag_line, tuple_text}
 use Rattle.hippo_report.specs.Notices.{number_line}
 use Rattle.hippo_report.specs.Refusals.{refusal_line}
-use Rattle.hippo_world.specs.Worlds.{World, Job}
+use Rattle.hippo_audit_job.specs.Jobs.{OpenAudit}
+use Rattle.hippo_world.specs.Worlds.{World}
 use Rattle.hippo_lines.specs.Words.{words_of}
 use Rattle.hippo_lines.specs.Forms.{steps}
-use Rattle.hippo_commands.specs.Commands.{Command, wrong, ask}
+use Rattle.hippo_commands.specs.Commands.{Command, wrong, ask, command_of}
 use Rattle.std.specs.List.{cons_option}
 use Rattle.hippo_values.specs.Texts.{Txt}
 use Rattle.hippo_values.specs.Words.{word_of}
@@ -37,7 +38,8 @@ use Rattle.hippo_typing.specs.Meanings.{meaning, meaning_in}
 use Rattle.std.specs.Option.{option_map_or}
 use Rattle.hippo_model.specs.declared.audit.SharedRow.{SharedRow}
 use Rattle.hippo_engine.specs.Deeds as deeds
-use Rattle.hippo_engine.specs.Effects.{Effect, done, alarms, only_reply, with_job, with_watch, new_job, looked_upto}
+use Rattle.hippo_engine.specs.Effects.{Effect, effect_of, done, alarms, only_reply, with_job, with_watch, new_job, looked_upto}
+use Rattle.hippo_engine.specs.Runs.{IsRun}
 use Rattle.hippo_engine.proofs.ExampleLines.{patient, treatment, nurse, entry, nurses_pair, clinic, world_within, question, all_rows, asked_for}
 use Rattle.hippo_run_laws.specs.Lines.{OfEachLine}
 use Rattle.hippo_run_laws.specs.Jobs.{Portion, no_portion, portion_reply, StepWrites, JudgedWrites, Writes, flags_in, last_end}
@@ -69,10 +71,10 @@ abbrev ninth : Flag
 ninth = record eighth { seq = 9 }
 
 -- a job over the seven entries of the morning, and one in which a flag waits
-abbrev job : Job
+abbrev job : OpenAudit
 job = new_job clinic names_of_patients
 
-abbrev one_waits : Job
+abbrev one_waits : OpenAudit
 one_waits = looked_upto job 2 (eighth ∷ [])
 
 abbrev world : World
@@ -189,3 +191,31 @@ adas_row_is_told = simp truths
 
 the_watch_tells_of_ann : alarms clinic watched (entry 8 ann_asks) ≡ alarm_texts (None ∷ Some eighth ∷ [])
 the_watch_tells_of_ann = ap (λ (said : Txt). said ++ []) (ap alarm_by names_are_meant ∙ adas_row_is_told)
+
+-- the effects of lines, as the rules make them
+abbrev with_effect : History → (History → World → List Effect) → Effect → List Effect
+with_effect history later effect = effect ∷ later (history ++ effect.added) effect.world
+
+abbrev effects_of : List LineText → History → World → List Effect
+effects_of [] history held = []
+effects_of (line ∷ lines) history held = with_effect history (effects_of lines) (effect_of history held (command_of line))
+
+-- a job over these eight entries in two steps, and a line of others between them
+abbrev audited : World
+audited = with_job (world_within 4000000) 1 (Some (new_job asked_once names_of_patients))
+
+abbrev in_two_steps : List LineText
+in_two_steps = text_line (codes "0 step 1 3") ∷ too_long_line ∷ text_line (codes "0 step 1 9") ∷ []
+
+they_are_a_run : IsRun asked_once audited in_two_steps (effects_of in_two_steps asked_once audited)
+they_are_a_run = (inl refl, (inl refl, (inl refl, tt)))
+
+-- the first writes nothing and says `part`, the second writes the flag and says `end`
+they_write_two_portions :
+    OfEachLine (Writes 1) asked_once audited in_two_steps (effects_of in_two_steps asked_once audited)
+    (no_portion ∷ no_portion ∷ record { flags = eighth ∷ []; ended = Some 1 } ∷ [])
+unfolding reading
+they_write_two_portions =
+    subst (λ (flags : List Flag). OfEachLine (Writes 1) asked_once audited in_two_steps (effects_of in_two_steps asked_once audited)
+    (no_portion ∷ no_portion ∷ record { flags = flags; ended = Some (length flags) } ∷ [])) ann_is_flagged
+    (inl (refl, inl refl), (refl, (inl (refl, inl refl), tt)))

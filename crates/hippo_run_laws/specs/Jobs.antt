@@ -12,13 +12,14 @@ use Rattle.hippo_typing.specs.Meanings.{meaning}
 use Rattle.hippo_report.specs.declared.refusal.Refusal.TheVariants.{Memory}
 use Rattle.hippo_report.specs.Notices.{number_line}
 use Rattle.hippo_report.specs.Refusals.{refusal_line}
-use Rattle.hippo_world.specs.Worlds.{World, Job, at_number}
+use Rattle.hippo_audit_job.specs.Jobs.{OpenAudit, step_end}
+use Rattle.hippo_world.specs.Worlds.{World, at_number}
 use Rattle.hippo_commands.specs.Commands.{Command, who_commands}
 use Rattle.hippo_engine.specs.Deeds.{Deed}
 use Rattle.hippo_engine.specs.Deeds as deeds
 use Rattle.hippo_engine.specs.Checks.{Checked}
 use Rattle.hippo_engine.specs.Judging.{judged}
-use Rattle.hippo_engine.specs.Effects.{Effect, flag_lines, step_end}
+use Rattle.hippo_engine.specs.Effects.{Effect, flag_lines}
 use Rattle.hippo_engine.specs.Runs.{world_after}
 use Rattle.hippo_run_laws.specs.Lines.{OfEachLine}
 
@@ -37,7 +38,7 @@ portion_reply world upto portion =
     ++ option_map_or (number_line 0 (codes "end")) portion.ended (number_line 0 (codes "part") upto)
 
 -- a step writes a portion, or nothing where its reply says that memory was short
-abbrev pub StepWrites : World → Command → Job → ℕ → Effect → Portion → Type 0
+abbrev pub StepWrites : World → Command → OpenAudit → ℕ → Effect → Portion → Type 0
 StepWrites world command job count effect portion =
     (effect.reply ≡ portion_reply world (step_end job count) portion)
     ⊎ ((effect.reply ≡ refusal_line (who_commands command) Memory) × (portion ≡ no_portion))
@@ -70,7 +71,7 @@ pub record HasWritten (number : ℕ) (audit : Audit) (start history : History) (
     (effects : List Effect) : Type 0 where
   pub portions : List Portion
   pub each : OfEachLine (Writes number) history world lines effects portions
-  pub job : Job
+  pub job : OpenAudit
   pub stands : at_number (world_after world effects).jobs number ≡ Some job
   pub flags : flags_in portions ++ job.waiting ≡ flags_between meaning start audit 0 job.place
   pub whole : (count : ℕ) → last_end portions ≡ Some count → IsWhole start audit portions count
