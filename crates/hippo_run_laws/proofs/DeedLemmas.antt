@@ -1,6 +1,6 @@
 -- What stands in the world at the numbers that a deed names.
-use Rattle.std.proofs.Common.{◌≡◌, refl, ℕ, Bool, true, false, List, Option, Some, None, Ok, Err}
-use Rattle.std.specs.Prelude.{int_lt, ok_or, if◌then◌else◌}
+use Rattle.std.proofs.Common.{◌≡◌, refl, ℕ, List, Option, Some, None, Ok, Err}
+use Rattle.std.specs.Prelude.{int_lt, ok_or}
 use Rattle.hippo_model.specs.declared.audit.Audit.{Audit}
 use Rattle.hippo_model.specs.declared.audit.Pair.{Pair}
 use Rattle.hippo_model.specs.declared.entry.Act.{Act}
@@ -19,7 +19,7 @@ use Rattle.hippo_catalog.specs.ChangesRefused.{change_refused}
 use Rattle.hippo_catalog.specs.ChangesWanted.{wanted_by}
 use Rattle.hippo_tables.specs.Finished.{finished}
 use Rattle.hippo_report.specs.declared.refusal.Refusal.{Refusal}
-use Rattle.hippo_report.specs.declared.refusal.Refusal.TheVariants.{BadSyntax, NoCursor, NoJob, NoWatch, JobLimit, WatchLimit, NoSuchQuery, MomentBack, NotBuilt}
+use Rattle.hippo_report.specs.declared.refusal.Refusal.TheVariants.{BadSyntax, NoCursor, NoJob, NoWatch, JobLimit, WatchLimit, NoSuchQuery, MomentBack}
 use Rattle.hippo_world.specs.declared.cursors.Cursor.{Cursor as HeldCursor}
 use Rattle.hippo_world.specs.declared.sessions.Session.{Session}
 use Rattle.hippo_audit_job.specs.Jobs.{OpenAudit}
@@ -34,7 +34,7 @@ use Rattle.hippo_engine.specs.declared.asking.Handing.TheVariants.{Rows, Records
 use Rattle.hippo_engine.specs.Deeds.{Deed, Question}
 use Rattle.hippo_engine.specs.Deeds as deeds
 use Rattle.hippo_engine.specs.Checks.{Checked, ◌>>=◌, refused_if, by_console, open_session, may_log_in, meant, act_made, has_room, question_at}
-use Rattle.hippo_engine.specs.Judging.{judged, deed_of, is_built, judged_login, judged_fetch, judged_close, judged_step, judged_drop, judged_unwatch, judged_wanted, judged_change, insert_of, judged_load, text_between, question_in, delivery_for, deed_for, judged_question, audit_in, judged_begin, judged_watch}
+use Rattle.hippo_engine.specs.Judging.{judged, judged_login, judged_fetch, judged_close, judged_step, judged_drop, judged_unwatch, judged_wanted, judged_change, insert_of, judged_load, text_between, question_in, delivery_for, deed_for, judged_question, audit_in, judged_begin, judged_watch}
 
 -- a job that is stepped stands at its number, and what begins gets a free one
 abbrev pub IsFounded : World → Checked Deed → Type 0
@@ -137,32 +137,25 @@ module _ (history : History) (world : World) where
       check {A = Unit {0}} (by_console number) (λ console. ok_or found refusal >>= λ entry. Ok (deeds.explain entry))
       (λ console. check {A = Entry} (ok_or found refusal) (λ entry. Ok (deeds.explain entry)) (λ entry. tt))
 
-  founded_deed : (command : Command) → IsFounded world (deed_of history world command)
-  founded_deed nothing = tt
-  founded_deed (wrong who refusal) = tt
-  founded_deed (commands.set_clock moment) =
-      check {A = Unit {0}} (refused_if (int_lt moment world.clock) (MomentBack world.clock)) (λ later. Ok (deeds.set_clock moment)) (λ later. tt)
-  founded_deed (ask number (logs_in user purpose recipient)) = login number user (record { purpose = purpose; recipient = recipient })
-  founded_deed (ask number logs_out) = check {A = Session} (open_session world number) (λ session. Ok (deeds.log_out number)) (λ session. tt)
-  founded_deed (ask number (fetches cursor count)) = fetch number cursor count
-  founded_deed (ask number (closes cursor)) = close number cursor
-  founded_deed (ask number (steps job count)) = step number job count
-  founded_deed (ask number (drops job)) = drop number job
-  founded_deed (ask number (unwatches watch)) = unwatch number watch
-  founded_deed (ask number (loads table text)) = load number table text
-  founded_deed (state number (stmt.Select written start end) text) = question Rows number written (text_between text start end)
-  founded_deed (state number (stmt.Ask written start end) text) = question Cursor number written (text_between text start end)
-  founded_deed (state number (stmt.Extract written start end) text) = question Records number written (text_between text start end)
-  founded_deed (state number (stmt.Explain question) text) = explain number (question_at history question) (NoSuchQuery question)
-  founded_deed (state number (stmt.Audit written) text) = check {A = Audit} (audit_in history number written) (λ audit. Ok (deeds.audit audit)) (λ audit. tt)
-  founded_deed (state number (stmt.BeginAudit written) text) = begin number written
-  founded_deed (state number (stmt.Watch written) text) = watch number written
-  founded_deed (state number statement text) = change number statement
-
-  founded_if : (built : Bool) (judgement : Checked Deed) → IsFounded world judgement → IsFounded world (if built then judgement else Err NotBuilt)
-  founded_if true judgement is = is
-  founded_if false judgement is = tt
-
   -- whatever is judged
   pub founded : (command : Command) → IsFounded world (judged history world command)
-  founded command = founded_if (is_built command) (deed_of history world command) (founded_deed command)
+  founded nothing = tt
+  founded (wrong who refusal) = tt
+  founded (commands.set_clock moment) =
+      check {A = Unit {0}} (refused_if (int_lt moment world.clock) (MomentBack world.clock)) (λ later. Ok (deeds.set_clock moment)) (λ later. tt)
+  founded (ask number (logs_in user purpose recipient)) = login number user (record { purpose = purpose; recipient = recipient })
+  founded (ask number logs_out) = check {A = Session} (open_session world number) (λ session. Ok (deeds.log_out number)) (λ session. tt)
+  founded (ask number (fetches cursor count)) = fetch number cursor count
+  founded (ask number (closes cursor)) = close number cursor
+  founded (ask number (steps job count)) = step number job count
+  founded (ask number (drops job)) = drop number job
+  founded (ask number (unwatches watch)) = unwatch number watch
+  founded (ask number (loads table text)) = load number table text
+  founded (state number (stmt.Select written start end) text) = question Rows number written (text_between text start end)
+  founded (state number (stmt.Ask written start end) text) = question Cursor number written (text_between text start end)
+  founded (state number (stmt.Extract written start end) text) = question Records number written (text_between text start end)
+  founded (state number (stmt.Explain question) text) = explain number (question_at history question) (NoSuchQuery question)
+  founded (state number (stmt.Audit written) text) = check {A = Audit} (audit_in history number written) (λ audit. Ok (deeds.audit audit)) (λ audit. tt)
+  founded (state number (stmt.BeginAudit written) text) = begin number written
+  founded (state number (stmt.Watch written) text) = watch number written
+  founded (state number statement text) = change number statement
