@@ -14,6 +14,7 @@ use Rattle.hippo_report.specs.Flags.{flag_line, tuple_text}
 use Rattle.hippo_report.specs.Notices.{number_line}
 use Rattle.hippo_report.specs.Refusals.{refusal_line}
 use Rattle.hippo_audit_job.specs.Jobs.{OpenAudit}
+use Rattle.hippo_watch.specs.AlarmLines.{alarm_text}
 use Rattle.hippo_world.specs.Worlds.{World}
 use Rattle.hippo_lines.specs.Words.{words_of}
 use Rattle.hippo_lines.specs.Forms.{steps}
@@ -36,14 +37,13 @@ use Rattle.hippo_spj_reader.specs.SelectFinder.{leading_item, leading_member, le
 use Rattle.hippo_stmt_reader.specs.StatementFinder.{placed_select_of, open_of, extract_of, select_of, statement_of}
 use Rattle.hippo_typing.specs.Meanings.{meaning, meaning_in}
 use Rattle.std.specs.Option.{option_map_or}
-use Rattle.hippo_model.specs.declared.audit.SharedRow.{SharedRow}
 use Rattle.hippo_engine.specs.Deeds as deeds
 use Rattle.hippo_engine.specs.Effects.{Effect, effect_of, done, alarms, only_reply, with_job, with_watch, new_job, looked_upto}
 use Rattle.hippo_engine.specs.Runs.{IsRun}
 use Rattle.hippo_engine.proofs.ExampleLines.{patient, treatment, nurse, entry, nurses_pair, clinic, world_within, question, all_rows, asked_for}
 use Rattle.hippo_run_laws.specs.Lines.{OfEachLine}
 use Rattle.hippo_run_laws.specs.Jobs.{Portion, no_portion, portion_reply, StepWrites, JudgedWrites, Writes, flags_in, last_end}
-use Rattle.hippo_run_laws.specs.Watches.{alarm_text, alarm_texts, JudgedHeard, IsHeard}
+use Rattle.hippo_run_laws.specs.Watches.{alarm_of, alarm_texts, JudgedHeard, IsHeard}
 
 -- AUDIT name OF patient, in the year 2024
 abbrev names_of_patients : Audit
@@ -182,11 +182,9 @@ watched = with_watch (world_within 4000000) 2 (Some names_of_patients)
 abbrev alarm_by : Option Query → Txt
 alarm_by found =
     let context : Context = record { purpose = treatment; recipient = nurse; moment = pos 1704182400 } in
-    let which : Txt = decimal 2 ++ (codes " " ++ decimal 8) in
-    option_map_or (λ (tuple : List SharedRow). codes "0 alarm " ++ (which ++ (tuple_text tuple ++ codes "\n")))
-    (option_and_then (λ query. shared_by clinic context query names_of_patients) found) []
+    option_map_or (alarm_text 2 8) (option_and_then (λ query. shared_by clinic context query names_of_patients) found) []
 
-adas_row_is_told : alarm_by (Some (asked_for (1 ∷ [])).query) ≡ alarm_text 2 eighth
+adas_row_is_told : alarm_by (Some (asked_for (1 ∷ [])).query) ≡ alarm_of 2 eighth
 adas_row_is_told = simp truths
 
 the_watch_tells_of_ann : alarms clinic watched (entry 8 ann_asks) ≡ alarm_texts (None ∷ Some eighth ∷ [])

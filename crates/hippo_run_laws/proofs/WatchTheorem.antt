@@ -11,7 +11,7 @@ use Rattle.hippo_model.specs.declared.entry.Entry.{Entry}
 use Rattle.hippo_model.specs.Terms.{History}
 use Rattle.hippo_model.specs.Audits.{shared, flag_by, flag_of}
 use Rattle.hippo_typing.specs.Meanings.{meaning}
-use Rattle.hippo_report.specs.Flags.{tuple_text}
+use Rattle.hippo_watch.specs.AlarmLines.{alarm_text}
 use Rattle.hippo_report.specs.Refusals.{refusal_line}
 use Rattle.hippo_report.specs.declared.refusal.Refusal.TheVariants.{Memory}
 use Rattle.hippo_world.specs.Worlds.{World, at_number, free_number}
@@ -23,7 +23,7 @@ use Rattle.hippo_engine.specs.Judging.{judged}
 use Rattle.hippo_engine.specs.Effects.{Effect, row_limit, next_entry, question_rows, alarm_line, asked, opened, done, carried_out, IsShort, IsEffect}
 use Rattle.hippo_engine.specs.Runs.{IsRun}
 use Rattle.hippo_run_laws.specs.Lines.{NoneAsks}
-use Rattle.hippo_run_laws.specs.Watches.{alarm_text, alarm_texts, answer_to, question_answered, Heard, DeedHeard, JudgedHeard, flags_at, HasHeard}
+use Rattle.hippo_run_laws.specs.Watches.{alarm_of, alarm_texts, answer_to, question_answered, Heard, DeedHeard, JudgedHeard, flags_at, HasHeard}
 use Rattle.hippo_run_laws.specs.RunLaws.{AlarmsAreFlags, StandingAudits}
 use Rattle.hippo_run_laws.proofs.DeedLemmas.{IsFounded, founded}
 use Rattle.hippo_run_laws.proofs.PlaceLemmas.{elsewhere, free_there, not_free}
@@ -51,25 +51,25 @@ module _ (history : History) (world : World) (question : Question) where
   next = next_entry history world (asked_by question)
 
   as_flag : (number : ℕ) (found : Option (List SharedRow))
-      → option_map_or (λ (tuple : List SharedRow). codes "0 alarm " ++ ((decimal number ++ (codes " " ++ decimal next.seq)) ++ (tuple_text tuple ++ codes "\n"))) found []
-      ≡ option_map_or (alarm_text number) (option_and_then (flag_by next next.act) found) []
+      → option_map_or (alarm_text number next.seq) found []
+      ≡ option_map_or (alarm_of number) (option_and_then (flag_by next next.act) found) []
   as_flag number None = refl
   as_flag number (Some tuple) = refl
 
   flagged_there : (later : History) (audit : Audit) → flag_of meaning (history ++ later) audit next ≡ flag_of meaning history audit next
   flagged_there later audit = ap (option_and_then (flag_by next next.act)) (shared_there meaning history later audit next refl)
 
-  one_alarm : (later : History) (number : ℕ) (audit : Audit) → alarm_line history next number audit ≡ option_map_or (alarm_text number) (flag_of meaning (history ++ later) audit next) []
+  one_alarm : (later : History) (number : ℕ) (audit : Audit) → alarm_line history next number audit ≡ option_map_or (alarm_of number) (flag_of meaning (history ++ later) audit next) []
   one_alarm later number audit =
       as_flag number (shared meaning history audit next)
-      ∙ ap (λ (flag : Option Flag). option_map_or (alarm_text number) flag []) (sym (flagged_there later audit))
+      ∙ ap (λ (flag : Option Flag). option_map_or (alarm_of number) flag []) (sym (flagged_there later audit))
 
   abbrev flags_later : History → List (Option Audit) → List (Option Flag)
   flags_later later watches = map (option_and_then (λ audit. flag_of meaning (history ++ later) audit next)) watches
 
   each_alarm : (later : History) (number : ℕ) (watches : List (Option Audit))
       → flat_map (λ (at, held). option_map_or (alarm_line history next at) held []) (enumerate_from number watches)
-      ≡ flat_map (λ (at, flag). option_map_or (alarm_text at) flag []) (enumerate_from number (flags_later later watches))
+      ≡ flat_map (λ (at, flag). option_map_or (alarm_of at) flag []) (enumerate_from number (flags_later later watches))
   each_alarm later number [] = refl
   each_alarm later number (None ∷ rest) = each_alarm later (number + 1) rest
   each_alarm later number (Some audit ∷ rest) = λ i. one_alarm later number audit i ++ each_alarm later (number + 1) rest i

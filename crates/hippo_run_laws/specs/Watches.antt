@@ -1,5 +1,5 @@
 -- What the replies to questions say of a watch.
-use Rattle.std.specs.Prelude.{◌≡◌, ◌⊎◌, ℕ, ◌-◌, List, [], ◌∷◌, ◌++◌, flat_map, Option, Some, None, IfSome, option_to_list, Ok, Err, codes, decimal}
+use Rattle.std.specs.Prelude.{◌≡◌, ◌⊎◌, ℕ, ◌-◌, List, [], ◌∷◌, ◌++◌, flat_map, Option, Some, None, IfSome, option_to_list, Ok, Err}
 use Rattle.std.specs.List.{enumerate_from, AllByRecursion}
 use Rattle.std.specs.Option.{option_map_or}
 use Rattle.hippo_values.specs.Texts.{Txt}
@@ -11,8 +11,8 @@ use Rattle.hippo_model.specs.Terms.{History}
 use Rattle.hippo_model.specs.Audits.{flags_between}
 use Rattle.hippo_typing.specs.Meanings.{meaning}
 use Rattle.hippo_report.specs.declared.refusal.Refusal.TheVariants.{Memory}
-use Rattle.hippo_report.specs.Flags.{tuple_text}
 use Rattle.hippo_report.specs.Refusals.{refusal_line}
+use Rattle.hippo_watch.specs.AlarmLines.{alarm_text}
 use Rattle.hippo_world.specs.Worlds.{World, at_number}
 use Rattle.hippo_commands.specs.Commands.{Command, who_commands}
 use Rattle.hippo_engine.specs.Deeds.{Deed, Question, asked_by}
@@ -24,13 +24,12 @@ use Rattle.hippo_engine.specs.Runs.{history_after}
 use Rattle.hippo_run_laws.specs.Lines.{OfEachLine}
 
 -- the alarm that a flag is to the watch at a number
-abbrev pub alarm_text : ℕ → Flag → Txt
-alarm_text number flag =
-    codes "0 alarm " ++ ((decimal number ++ (codes " " ++ decimal flag.seq)) ++ (tuple_text flag.shared ++ codes "\n"))
+abbrev pub alarm_of : ℕ → Flag → Txt
+alarm_of number flag = alarm_text number flag.seq flag.shared
 
 -- the alarms of all watches, by what each of them flags, if anything
 abbrev pub alarm_texts : List (Option Flag) → Txt
-alarm_texts flags = flat_map (λ (number, flag). option_map_or (alarm_text number) flag []) (enumerate_from 1 flags)
+alarm_texts flags = flat_map (λ (number, flag). option_map_or (alarm_of number) flag []) (enumerate_from 1 flags)
 
 -- what is replied to a deed where no watch is set
 abbrev pub answer_to : History → World → Deed → Txt
