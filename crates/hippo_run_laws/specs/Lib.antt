@@ -1,0 +1,4 @@
+pub mod Lines
+pub mod Jobs
+pub mod Watches
+pub mod RunLaws

@@ -1,0 +1,5 @@
+//! Laws over runs: each is the contract of a function that does nothing.
+#![tactic(auto)]
+
+pub mod jobs;
+pub mod watches;
