@@ -66,6 +66,7 @@ job_limit_fits who is = plain_fits who (codes "54 JobLimit") is (omega arith)
 
 pub no_job_fits : (who : Option ℕ) (number : ℕ) → IsSomebody who → number < 2 ^ 64 → length (refusal_line who (NoJob number)) ≤ reply_room
 no_job_fits who number is small = naming_fits who (codes "55 NoJob") (decimal number) is (omega arith) (length-decimal_word number small)
+
 pub no_watch_fits : (who : Option ℕ) (number : ℕ) → IsSomebody who → number < 2 ^ 64 → length (refusal_line who (NoWatch number)) ≤ reply_room
 no_watch_fits who number is small = naming_fits who (codes "64 NoWatch") (decimal number) is (omega arith) (length-decimal_word number small)
 

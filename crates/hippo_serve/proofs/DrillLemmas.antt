@@ -17,6 +17,7 @@ use Rattle.hippo_world.specs.Holding.{world_of}
 use Rattle.hippo_commands.specs.Commands.{Command, command_of, who_commands}
 use Rattle.hippo_engine.specs.declared.engine.Engine.{Engine}
 use Rattle.hippo_engine.specs.Carrying.{Holds, AtWork, Carries, HasEffect}
+use Rattle.hippo_engine.proofs.CarryingLemmas.{Holds-opening}
 use Rattle.hippo_engine.specs.Checks.{Checked}
 use Rattle.hippo_engine.specs.Deeds as deeds
 use Rattle.hippo_engine.specs.Deeds.{Deed}
@@ -91,16 +92,16 @@ drilled_none size number drilling left world stands kept counts = record {
   order =
       ap (λ (w : World). effects_of [] w (map text_line (script size number))) (sym world)
       ∙ ap (λ (lines : List Txt). effects_of [] (world_of drilling.engine.world) (map text_line lines)) (sym left);
-  holds = record { forms = sym kept; stands = stands; jobs = tt; watches = tt };
+  holds = Holds-opening [] drilling.engine.state drilling.engine (seen drilling.keeper) (latest_moment []) drill_limit Text refl stands (sym kept) world;
   counted = counts;
 }
 
-pub at_work_none : (engine : Engine) (keeper : MemoryStore) → StandsFor engine.state [] → keeper.kept ≡ [] → IsReady true (seen keeper)
-    → AtWork engine (seen keeper)
-at_work_none engine keeper stands kept ready = record {
+pub at_work_none : (engine : Engine) (keeper : MemoryStore) → StandsFor engine.state [] → keeper.kept ≡ []
+    → world_of engine.world ≡ opening (latest_moment []) drill_limit Text → IsReady true (seen keeper) → AtWork engine (seen keeper)
+at_work_none engine keeper stands kept world ready = record {
   sound = record { history = []; stands = stands };
   ready = ready;
-  told = λ tells. ([], record { forms = sym kept; stands = stands; jobs = tt; watches = tt });
+  told = λ tells. ([], Holds-opening [] engine.state engine (seen keeper) (latest_moment []) drill_limit Text refl stands (sym kept) world);
 }
 
 -- the next line has had its effect, and its reply is counted

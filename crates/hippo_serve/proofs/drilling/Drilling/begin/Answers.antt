@@ -11,4 +11,4 @@ returns-clause-drilled c =
 
 pub returns-clause-at_work : goal.returns-clause-at_work
 returns-clause-at_work c =
-    at_work_none c.in_ok-engine.engine c.in_ok-keeper.keeper c.in_ok-engine.ensures.stands c.in_ok-keeper.ensures.empty c.in_ok-keeper.ensures.ready
+    at_work_none c.in_ok-engine.engine c.in_ok-keeper.keeper c.in_ok-engine.ensures.stands c.in_ok-keeper.ensures.empty c.in_ok-engine.ensures.world c.in_ok-keeper.ensures.ready
