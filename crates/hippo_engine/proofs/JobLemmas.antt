@@ -33,7 +33,7 @@ use Rattle.hippo_report.specs.Notices.{done_line, number_line}
 use Rattle.hippo_report.specs.Refusals.{refusal_line}
 use Rattle.hippo_world.specs.declared.worlds.World.{World as HeldWorld}
 use Rattle.hippo_world.specs.Auditing.{HeldJob, taken_by, HasBegun, LooksAt, AreLooking, all_handed}
-use Rattle.hippo_world.specs.Holding.{world_of, JobsFit, taken_of}
+use Rattle.hippo_world.specs.Holding.{world_of, JobsFit, taken_of, WatchesFit}
 use Rattle.hippo_world.specs.Worlds.{World, at_number, with_at, free_number}
 use Rattle.hippo_world.proofs.NumberLemmas.{put_back, put_again}
 use Rattle.hippo_world.proofs.HeldLemmas.{seen-at, seen-with, seen-free, StandsAt, held_stands, free_stands}
@@ -42,7 +42,7 @@ use Rattle.hippo_engine.specs.declared.engine.Engine.{Engine}
 use Rattle.hippo_engine.specs.declared.faults.EngineFault.{EngineFault}
 use Rattle.hippo_engine.specs.declared.faults.EngineFault.TheVariants as engine
 use Rattle.hippo_engine.specs.Auditing.{ended}
-use Rattle.hippo_engine.specs.Carrying.{WatchesStand, AtWork, as_call, is_carried, reply_room, shown, IsQuiet, AddsNothing, Carries}
+use Rattle.hippo_engine.specs.Carrying.{AtWork, as_call, is_carried, reply_room, shown, IsQuiet, AddsNothing, Carries}
 use Rattle.hippo_engine.specs.Changing.{IsRefused}
 use Rattle.hippo_engine.specs.Checks.{Checked, Finds, ◌>>=◌, by_console}
 use Rattle.hippo_engine.specs.Deeds.{Deed}
@@ -105,7 +105,7 @@ module _ (text : Txt) (written : RawAudit) (audit : Audit) (old new : Engine)
     jobs = λ history stands fit.
         subst (AreLooking history) (sym jobs_are)
         (all_with (LooksAt history) old.world.jobs number (Some begun.job) fit (LooksAt-begun history audit begun.job stands.valid (audit_is history stands) (begun_over history stands)));
-    watches = λ history stands stand. subst (WatchesStand history) (sym begun.world) (record { fit = stand.fit; none = stand.none });
+    watches = λ history stands stand. subst (WatchesFit history) (sym begun.world) stand;
     counts = λ versions steps. job_begun (all_handed there.front) (all_handed there.behind) refl refl (handed-parted old.world.jobs number None there)
         (ap all_handed jobs_are ∙ handed-with old.world.jobs number None there (Some begun.job)
         ∙ ap (λ (count : ℕ). all_handed there.front ++ count ∷ all_handed there.behind) (none_taken_yet audit old.state.count begun.job begun.begun));
@@ -155,7 +155,7 @@ module _ (number : ℕ) (old new : Engine) where
     same = same_state;
     effect = λ history stands. inl (effect_is ∙ sym (done_for history (world_of old.world) drops (deeds.drop_job number) (judged_dropped history (Some job) is)));
     jobs = λ history stands fit. subst (AreLooking history) (sym jobs_are) (all_with (LooksAt history) old.world.jobs number None fit tt);
-    watches = λ history stands stand. subst (WatchesStand history) (sym world_is) (record { fit = stand.fit; none = stand.none });
+    watches = λ history stands stand. subst (WatchesFit history) (sym world_is) stand;
     counts = λ versions steps. job_dropped (taken_by job) (all_handed there.front) (all_handed there.behind) refl refl (handed-parted old.world.jobs number (Some job) there)
         (ap all_handed jobs_are ∙ handed-with old.world.jobs number (Some job) there None);
   }
@@ -319,7 +319,7 @@ module _ (number count : ℕ) (past : Past) (looked : Result (Unit {0}) ReadFaul
       record {
         effect = step_effect history over;
         jobs = subst (AreLooking history) (sym jobs_are) (all_with (LooksAt history) old.world.jobs number (Some held.told) holds.jobs (told_looks history over));
-        watches = subst (WatchesStand history) (sym held.world) (record { fit = holds.watches.fit; none = holds.watches.none });
+        watches = subst (WatchesFit history) (sym held.world) holds.watches;
         counts = job_stepped (taken_by held.job) (taken_by held.told) (all_handed place_there.front) (all_handed place_there.behind) refl
             (omega (arith, held.stepped.looks.moves.ledger, same_taken)) (omega (arith, few, same_taken))
             (handed-parted old.world.jobs number (Some held.job) place_there)

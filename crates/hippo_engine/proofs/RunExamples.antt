@@ -17,7 +17,7 @@ use Rattle.hippo_engine.specs.Effects.{asked}
 use Rattle.hippo_values.specs.Texts.{Txt}
 use Rattle.std.specs.List.{flat_map}
 use Rattle.hippo_report.specs.declared.format.Format.TheVariants as formats
-use Rattle.hippo_report.specs.declared.refusal.Refusal.TheVariants.{NoSession, SessionOpen, NotAuthorized, ConsoleOnly, SessionsOnly, Meaningless, KeyThere, KeyMissing, NoCursor, HistoryFull, MomentBack, BadRecord, BadField, NoJob}
+use Rattle.hippo_report.specs.declared.refusal.Refusal.TheVariants.{NoSession, SessionOpen, NotAuthorized, ConsoleOnly, SessionsOnly, Meaningless, KeyThere, KeyMissing, NoCursor, HistoryFull, MomentBack, BadRecord, BadField, NoJob, NoWatch}
 use Rattle.hippo_report.specs.Cells.{answer_line}
 use Rattle.hippo_report.specs.Notices.{done_line, number_line}
 use Rattle.hippo_report.specs.Refusals.{refusal_line}
@@ -173,5 +173,9 @@ jobs_that_did_not_begin_are_not_stepped = refl
 jobs_that_did_not_begin_are_not_dropped : reply_after [] (ask 0 (drops 8)) ≡ console_no (NoJob 8)
 jobs_that_did_not_begin_are_not_dropped = refl
 
-sessions_end_no_watch : reply_after [] (ask 1 (unwatches 1)) ≡ no ConsoleOnly
-sessions_end_no_watch = refl
+-- watches are the console's
+a_session_ends_no_watch : reply_after [] (ask 1 (unwatches 1)) ≡ no ConsoleOnly
+a_session_ends_no_watch = refl
+
+no_watch_stands_yet : reply_after [] (ask 0 (unwatches 1)) ≡ console_no (NoWatch 1)
+no_watch_stands_yet = refl
