@@ -82,6 +82,23 @@ fn call(
     answer::<Brand>(alloc, words, source, sink, keeper, Blank::new(1))
 }
 
+// Calls the program over what a keeper keeps: its exit status, and what it wrote.
+pub(crate) fn outcome(
+    alloc: Global,
+    command: &[&str],
+    input: &[u8],
+    outside: &Outside<'_>,
+    keeper: &mut MemoryKeeper,
+) -> Result<(u8, MemorySink), Memory>
+    requires ready { IsReady false (seen keeper.old) }
+{
+    let words = words(alloc, command)?;
+    let mut source = source_of(alloc, input, outside)?;
+    let mut sink = sink_of(alloc, outside)?;
+    let status = call(alloc, words.as_slice(), &mut source, &mut sink, keeper);
+    Ok((status, sink))
+}
+
 // Calls the program over what a keeper keeps, and compares its exit status and what it wrote.
 pub(crate) fn check_over(
     rt: &impl Abort,
@@ -95,10 +112,7 @@ pub(crate) fn check_over(
 ) -> Result<(), Memory>
     requires ready { IsReady false (seen keeper.old) }
 {
-    let words = words(alloc, command)?;
-    let mut source = source_of(alloc, input, outside)?;
-    let mut sink = sink_of(alloc, outside)?;
-    let status = call(alloc, words.as_slice(), &mut source, &mut sink, keeper);
+    let (status, sink) = outcome(alloc, command, input, outside, keeper)?;
     assert_eq!(rt; status, ending.status());
     assert_eq!(rt; sink.bytes(), output.as_bytes());
     Ok(())

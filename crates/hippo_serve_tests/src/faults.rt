@@ -45,7 +45,7 @@ fn repeated(alloc: Global, piece: &str, count: usize) -> Result<Txt, Memory> {
 }
 
 // A keeper of nothing on which some calls fail.
-fn keeper(alloc: Global, failing: &[KeeperFail]) -> Result<MemoryKeeper, Memory>
+pub(crate) fn keeper(alloc: Global, failing: &[KeeperFail]) -> Result<MemoryKeeper, Memory>
     ensures { IfOk result (λ keeper. IsReady false (seen keeper)) }
 {
     let mut fails = KeeperFails::new(alloc);
