@@ -17,12 +17,12 @@ use Rattle.hippo_report.specs.declared.refusal.Refusal.TheVariants.{NoWatch, Wat
 use Rattle.hippo_world.specs.Worlds.{World, at_number, free_number}
 use Rattle.hippo_world.specs.Holding.{world_of}
 use Rattle.hippo_world.specs.Auditing.{AreWatching}
-use Rattle.hippo_commands.specs.Commands.{Command, who_commands, takes_memory}
+use Rattle.hippo_commands.specs.Commands.{Command, who_commands}
 use Rattle.hippo_engine.specs.declared.engine.Engine.{Engine}
 use Rattle.hippo_engine.specs.Checks.{Checked, ◌>>=◌, by_console}
 use Rattle.hippo_engine.specs.Deeds.{Deed, Question, asked_by}
 use Rattle.hippo_engine.specs.Deeds as deeds
-use Rattle.hippo_engine.specs.Effects.{alarm_line, alarms_from, alarms, next_entry}
+use Rattle.hippo_engine.specs.Effects.{alarm_line, alarms_from, alarms, next_entry, may_do_nothing}
 use Rattle.hippo_engine.specs.Judging.{judged}
 
 -- what stands at a watch's number says of a question that is asked now is added to a text
@@ -54,7 +54,7 @@ watch_set world audit = ok_or (free_number world.watches) WatchLimit >>= λ free
 -- a command of the console sets a watch where there is room for one, whatever history the state stands for
 pub record Watches (command : Command) (audit : Audit) (engine : Engine) : Type 0 where
   pub who : who_commands command ≡ Some 0
-  pub memory : takes_memory command ≡ true
+  pub memory : may_do_nothing command ≡ true
   pub judged_so : (history : History) → StandsFor engine.state history
       → judged history (world_of engine.world) command ≡ watch_set (world_of engine.world) audit
   pub fits : (history : History) → StandsFor engine.state history → IsAuditOf history audit
