@@ -1,12 +1,19 @@
 -- What follows from the call that words ask for.
-use Rattle.std.proofs.Common.{◌≡◌, List, [], Option, Some, ap, sym, subst, ◌∙◌}
+use Rattle.std.proofs.Common.{◌≡◌, ◌≢◌, ℕ, List, [], Option, Some, inl, inr, arith, ap, sym, subst, ◌∙◌}
+use Rattle.std.specs.Prelude.{option_map}
 use Rattle.std.specs.Option.{option_map_or}
 use Rattle.hippo_values.specs.Texts.{Txt}
 use Rattle.hippo_words.specs.CommandLine.{call_of}
+use Rattle.hippo_io.specs.Told.{Appends, AppendsFront}
 use Rattle.hippo_words.specs.declared.calls.Call.{Call}
+use Rattle.hippo_words.specs.declared.calls.Job.{Job}
+use Rattle.hippo_words.specs.declared.calls.Job.TheVariants.{Drill}
 use Rattle.hippo_serve.specs.declared.endings.Ending.{Ending}
+use Rattle.hippo_serve.specs.declared.endings.Ending.TheVariants.{Served, NoMemory}
+use Rattle.hippo_serve.specs.Drilling.{summary}
 use Rattle.hippo_serve.specs.Endings.{status_of}
-use Rattle.hippo_serve.specs.Asking.{store_of}
+use Rattle.hippo_serve.specs.Asking.{store_of, job_of}
+use Rattle.hippo_serve.specs.Saying.{Says}
 use Rattle.hippo_serve.specs.Outcomes.{IsIdle, CheckEnds}
 use Rattle.hippo_serve.specs.Outside.{Outside}
 use Rattle.hippo_serve.proofs.StatusLemmas.{ByStatus, check-by-status}
@@ -23,3 +30,30 @@ module _ (words : List Txt) (call : Call) (asked : call_of words ≡ Some call) 
 
   pub idle_as_asked : (before after : Outside) → IsIdle store before after → IsIdle (store_of words) before after
   idle_as_asked before after idle = subst (λ (name : Txt). IsIdle name before after) store_is idle
+
+-- what a drill says, where the job is one
+summary_in : Option Job → Txt
+summary_in (Some (Drill size number)) = summary size number
+summary_in job = []
+
+-- the drill that is run is the one that the words ask for
+pub summary_as_asked : (words : List Txt) (call : Call) → call_of words ≡ Some call → (size number size' number' : ℕ) → call.job ≡ Drill size' number'
+    → job_of words ≡ Some (Drill size number) → summary size' number' ≡ summary size number
+unfolding summary_in
+summary_as_asked words call asked size number size' number' is job =
+    ap summary_in (sym (ap (λ (one : Option Call). option_map (λ (c : Call). c.job) one) asked ∙ ap Some is) ∙ job)
+
+-- of a line that was to be said, all is written at status 0, and a front at 5
+module _ (line : Txt) (ending : Ending) (before after : Option Txt) (faults faults' : ℕ)
+    (says : ending ≢ NoMemory → Says Served line ending before after faults faults') where
+  pub said_whole : status_of ending ≡ 0 → Appends before after line
+  said_whole zero = elim (says (λ short. omega (arith, sym zero ∙ ap status_of short))) [
+    | inl whole ↦ whole.1
+    | inr cut ↦ absurd (omega (arith, sym zero ∙ ap status_of cut.0))
+  ]
+
+  pub said_front : status_of ending ≡ 5 → AppendsFront before after line
+  said_front five = elim (says (λ short. omega (arith, sym five ∙ ap status_of short))) [
+    | inl whole ↦ absurd (omega (arith, sym five ∙ ap status_of whole.0))
+    | inr cut ↦ cut.1
+  ]

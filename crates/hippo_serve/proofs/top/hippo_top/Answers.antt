@@ -1,7 +1,9 @@
 -- Each status is listed; what a check came to is by its status, over the store that the words name.
-use Rattle.std.proofs.Common.{refl, sym, ◌∙◌}
+use Rattle.std.proofs.Common.{refl, sym, subst, ◌∙◌}
+use Rattle.hippo_values.specs.Texts.{Txt}
+use Rattle.hippo_io.specs.Told.{Appends, AppendsFront}
 use Rattle.hippo_serve.specs.Outside.{outside}
-use Rattle.hippo_serve.proofs.AskingLemmas.{check_as_asked, idle_as_asked}
+use Rattle.hippo_serve.proofs.AskingLemmas.{check_as_asked, idle_as_asked, summary_as_asked, said_whole, said_front}
 use Rattle.hippo_serve.proofs.StatusLemmas.{status-listed, status-7}
 use Rattle.hippo_serve.proofs.top.hippo_top.Goals as goal
 
@@ -17,8 +19,8 @@ returns-in-Check-clause-status g c = status-listed c.check.result _ c.status-in-
 pub returns-in-Drill-clause-status : goal.returns-in-Drill-clause-status
 returns-in-Drill-clause-status g c = status-listed c.drill.result _ c.status-in-Drill.ensures
 
-pub returns-in-Load-clause-status : goal.returns-in-Load-clause-status
-returns-in-Load-clause-status g c = status-listed c.refuse-in-Load.result _ c.status-in-Load.ensures
+pub returns-clause-status : goal.returns-clause-status
+returns-clause-status g c = status-listed c.refuse-in-Load.result _ c.status-in-Load.ensures
 
 pub returns-in-Check-clause-counted : goal.returns-in-Check-clause-counted
 returns-in-Check-clause-counted g c = λ job is tells. (check_as_asked c.args.words.now c.in-Some.call (sym c.in-Ok.ensures ∙ c.in-Some.is) c.as_str-store.result.now c.as_str-store.ensures
@@ -66,3 +68,15 @@ returns-in-Check-clause-nothing g c = λ is. (
       (outside (g.S.Source.left c.args.source.now) (g.K.Sink.written c.check.new.sink) (g.P.Keeper.state c.check.new.keeper) c.check.new.steps)
       (c.check.ensures.idle tells (g.S.Source.left c.args.source.now)),
 )
+
+pub returns-in-Drill-clause-drilled : goal.returns-in-Drill-clause-drilled
+returns-in-Drill-clause-drilled g c = λ size number job is.
+    subst (λ (line : Txt). Appends (g.K.Sink.written c.args.sink.now) (g.K.Sink.written c.drill.new.sink) line)
+    (summary_as_asked c.args.words.now c.in-Some.call (sym c.in-Ok.ensures ∙ c.in-Some.is) size number _ _ c.in-Drill.is job)
+    (said_whole _ c.drill.result _ _ _ _ c.drill.ensures.says (sym c.status-in-Drill.ensures ∙ is))
+
+pub returns-in-Drill-clause-drill_cut : goal.returns-in-Drill-clause-drill_cut
+returns-in-Drill-clause-drill_cut g c = λ size number job is.
+    subst (λ (line : Txt). AppendsFront (g.K.Sink.written c.args.sink.now) (g.K.Sink.written c.drill.new.sink) line)
+    (summary_as_asked c.args.words.now c.in-Some.call (sym c.in-Ok.ensures ∙ c.in-Some.is) size number _ _ c.in-Drill.is job)
+    (said_front _ c.drill.result _ _ _ _ c.drill.ensures.says (sym c.status-in-Drill.ensures ∙ is))
