@@ -25,7 +25,7 @@ use Rattle.hippo_backlog.specs.declared.faults.ReadFault.{ReadFault}
 use Rattle.hippo_backlog.specs.declared.faults.ReadFault.TheVariants.{Damaged}
 use Rattle.hippo_backlog.specs.Calls.{as_call}
 use Rattle.hippo_keeper.specs.Answering.{has_failed}
-use Rattle.hippo_backlog.proofs.CallLemmas.{IsAfterCall-as}
+use Rattle.hippo_keeper.proofs.CallLemmas.{IsAfterCall-as}
 use Rattle.hippo_backlog.specs.ReadingAhead.{ReadAhead, without_first, BeginsAbove, has_read, IsAhead}
 use Rattle.hippo_backlog.proofs.AheadLemmas.{IsAhead-used, IsAhead-moved}
 use Rattle.hippo_backlog.proofs.NumberLemmas.{passed_at}

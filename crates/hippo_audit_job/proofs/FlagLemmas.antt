@@ -15,7 +15,9 @@ use Rattle.hippo_keeper.specs.Keeping.{KeeperState, IsReady}
 use Rattle.hippo_backlog.specs.declared.faults.ReadFault.{ReadFault}
 use Rattle.hippo_backlog.specs.declared.faults.ReadFault.TheVariants.{Keeper, Damaged, Memory}
 use Rattle.hippo_backlog.specs.Calls.{as_call}
-use Rattle.hippo_backlog.proofs.CallLemmas.{err_of, same_Err, as_call-fault, IsAfterCall-as}
+use Rattle.hippo_backlog.proofs.CallLemmas.{same_Err, as_call-fault}
+use Rattle.hippo_keeper.proofs.CallLemmas.{IsAfterCall-as}
+use Rattle.hippo_keeper.proofs.Results.{err_of}
 use Rattle.hippo_audit_job.specs.declared.jobs.Job.{Job}
 use Rattle.hippo_audit_job.specs.declared.past.Past.{Past}
 use Rattle.hippo_audit_job.specs.Examining.{Examination}

@@ -8,7 +8,8 @@ use Rattle.hippo_keeper.specs.Keeping.{Store, KeeperState, IsReady}
 use Rattle.hippo_backlog.specs.declared.faults.ReadFault.{ReadFault}
 use Rattle.hippo_backlog.specs.Calls.{as_call}
 use Rattle.hippo_backlog.specs.ReadingAhead.{BeginsAbove}
-use Rattle.hippo_backlog.proofs.CallLemmas.{err_of, well, IsReady-after}
+use Rattle.hippo_keeper.proofs.CallLemmas.{IsReady-after}
+use Rattle.hippo_keeper.proofs.Results.{err_of, well}
 use Rattle.hippo_audit_job.specs.declared.jobs.Job.{Job}
 use Rattle.hippo_audit_job.specs.declared.past.Past.{Past}
 use Rattle.hippo_audit_job.specs.Examining.{Examination}

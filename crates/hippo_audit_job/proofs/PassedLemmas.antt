@@ -12,7 +12,8 @@ use Rattle.hippo_backlog.specs.declared.faults.ReadFault.{ReadFault}
 use Rattle.hippo_backlog.specs.Calls.{as_call}
 use Rattle.hippo_backlog.specs.ReadingAhead.{ReadAhead, BeginsAbove, has_read}
 use Rattle.hippo_backlog.proofs.AheadLemmas.{IsAhead-moved}
-use Rattle.hippo_backlog.proofs.CallLemmas.{well, KeepsSame-here, IsAfterCall-none}
+use Rattle.hippo_keeper.proofs.CallLemmas.{KeepsSame-here, IsAfterCall-none}
+use Rattle.hippo_keeper.proofs.Results.{well}
 use Rattle.hippo_audit_job.specs.declared.jobs.Job.{Job}
 use Rattle.hippo_audit_job.specs.declared.past.Past.{Past}
 use Rattle.hippo_audit_job.specs.Examining.{Examination}

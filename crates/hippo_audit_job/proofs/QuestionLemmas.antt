@@ -21,7 +21,8 @@ use Rattle.hippo_typing.specs.Meanings.{meaning_in, meaning}
 use Rattle.hippo_backlog.specs.declared.faults.ReadFault.{ReadFault}
 use Rattle.hippo_backlog.specs.declared.faults.ReadFault.TheVariants.{Keeper, Damaged, Memory}
 use Rattle.hippo_backlog.specs.Calls.{as_call}
-use Rattle.hippo_backlog.proofs.CallLemmas.{KeepsSame-here, IsAfterCall-none, as_call-unfailed}
+use Rattle.hippo_backlog.proofs.CallLemmas.{as_call-unfailed}
+use Rattle.hippo_keeper.proofs.CallLemmas.{KeepsSame-here, IsAfterCall-none}
 use Rattle.hippo_audit_job.specs.declared.past.Past.{Past}
 use Rattle.hippo_audit_job.specs.Examining.{IsPastOf, Examination, first_serving, Examines}
 use Rattle.hippo_audit_job.specs.Looking.{question_in, IsMeant, IsAskedFor, IsQuestionOf, LooksAt}

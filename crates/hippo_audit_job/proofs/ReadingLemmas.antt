@@ -15,7 +15,9 @@ use Rattle.hippo_backlog.specs.declared.faults.ReadFault.{ReadFault}
 use Rattle.hippo_backlog.specs.Calls.{fault_of, as_call}
 use Rattle.hippo_backlog.specs.ReadingAhead.{ReadAhead, with_piece}
 use Rattle.hippo_backlog.proofs.AheadLemmas.{IsAhead-read, reached_by-least, reached_by-further}
-use Rattle.hippo_backlog.proofs.CallLemmas.{err_of, well, undamaged_by, KeepsSame-Stays, IsAfterCall-as, as_call-fault_of}
+use Rattle.hippo_backlog.proofs.CallLemmas.{undamaged_by, as_call-fault_of}
+use Rattle.hippo_keeper.proofs.CallLemmas.{KeepsSame-Stays, IsAfterCall-as}
+use Rattle.hippo_keeper.proofs.Results.{err_of, well}
 use Rattle.hippo_audit_job.specs.Looking.{was_asked, ReadsAhead}
 
 and_assoc : (a b c : Bool) → (a && b && c) ≡ (a && (b && c))

@@ -17,7 +17,8 @@ use Rattle.hippo_backlog.specs.declared.faults.ReadFault.TheVariants.{Keeper, Da
 use Rattle.hippo_backlog.specs.Calls.{as_call}
 use Rattle.hippo_backlog.specs.ReadingAhead.{ReadAhead}
 use Rattle.hippo_backlog.proofs.NumberLemmas.{last-higher}
-use Rattle.hippo_backlog.proofs.CallLemmas.{KeepsSame-here, KeepsSame-then, IsAfterCall-none, IsAfterCall-then, as_call-unfailed}
+use Rattle.hippo_backlog.proofs.CallLemmas.{as_call-unfailed}
+use Rattle.hippo_keeper.proofs.CallLemmas.{KeepsSame-here, KeepsSame-then, IsAfterCall-none, IsAfterCall-then}
 use Rattle.hippo_audit_job.specs.declared.jobs.Job.{Job}
 use Rattle.hippo_audit_job.specs.declared.past.Past.{Past}
 use Rattle.hippo_audit_job.specs.Examining.{IsPastOf, Examination}

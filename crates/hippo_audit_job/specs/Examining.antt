@@ -17,13 +17,13 @@ use Rattle.hippo_model.specs.Verdicts.{Context}
 use Rattle.hippo_model.specs.Versions.{versions}
 use Rattle.hippo_model.specs.Audits.{common, virtual_tuples, serves}
 use Rattle.hippo_laws.specs.Audits.{StandsIn}
-use Rattle.hippo_keeper.specs.Keeping.{KeeperState, IsAfterCall}
+use Rattle.hippo_keeper.specs.Keeping.{KeeperState, IsAfterCall, KeepsSame}
 use Rattle.hippo_catalog.specs.Catalogs.{known_at}
 use Rattle.hippo_policy.specs.Books.{StandsFor}
 use Rattle.hippo_typing.specs.Meanings.{meaning}
 use Rattle.hippo_backlog.specs.declared.faults.ReadFault.{ReadFault}
 use Rattle.hippo_backlog.specs.declared.faults.ReadFault.TheVariants.{Damaged}
-use Rattle.hippo_backlog.specs.Calls.{as_call, KeepsSame}
+use Rattle.hippo_backlog.specs.Calls.{as_call}
 use Rattle.hippo_audit_job.specs.declared.past.Past.{Past}
 
 -- the history is valid; its names, its rules and choices, and its length

@@ -16,11 +16,11 @@ use Rattle.hippo_model.specs.Stores.{IsStoreOf}
 use Rattle.hippo_model.specs.Audits.{in_period, is_exempt, shared}
 use Rattle.hippo_laws.specs.Audits.{StandsIn}
 use Rattle.hippo_entry.specs.Forms.{IsEntryOf}
-use Rattle.hippo_keeper.specs.Keeping.{KeeperState, IsAfterCall, RisesAbove, last_number}
+use Rattle.hippo_keeper.specs.Keeping.{KeeperState, IsAfterCall, RisesAbove, last_number, KeepsSame}
 use Rattle.hippo_typing.specs.Meanings.{meaning_in, meaning}
 use Rattle.hippo_backlog.specs.declared.faults.ReadFault.{ReadFault}
 use Rattle.hippo_backlog.specs.declared.faults.ReadFault.TheVariants.{Keeper, Damaged, Memory}
-use Rattle.hippo_backlog.specs.Calls.{as_call, KeepsSame}
+use Rattle.hippo_backlog.specs.Calls.{as_call}
 use Rattle.hippo_backlog.specs.ReadingAhead.{ReadAhead, IsAhead}
 use Rattle.hippo_audit_job.specs.declared.past.Past.{Past}
 use Rattle.hippo_audit_job.specs.Examining.{Examination, MovesOn, FallsWith, IsPastOf, IsAuditOf}

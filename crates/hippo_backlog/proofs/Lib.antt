@@ -1,4 +1,3 @@
-pub mod RowLemmas
 pub mod VersionsTheorem
 pub mod NumberLemmas
 pub mod AheadLemmas

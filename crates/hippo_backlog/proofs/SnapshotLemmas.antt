@@ -19,7 +19,9 @@ use Rattle.hippo_backlog.specs.Calls.{as_call}
 use Rattle.hippo_backlog.specs.ReadingAhead.{AreUpTo}
 use Rattle.hippo_backlog.specs.Backlogs.{is_version_of, versions_of, HeldVersions, no_versions, AreAt, BringsUp, Snapshots}
 use Rattle.hippo_backlog.proofs.AheadLemmas.{IsAhead-first, IsAhead-grown}
-use Rattle.hippo_backlog.proofs.CallLemmas.{err_of, well, KeepsSame-here, IsAfterCall-none, same_Err, as_call-fault}
+use Rattle.hippo_backlog.proofs.CallLemmas.{same_Err, as_call-fault}
+use Rattle.hippo_keeper.proofs.CallLemmas.{KeepsSame-here, IsAfterCall-none}
+use Rattle.hippo_keeper.proofs.Results.{err_of, well}
 use Rattle.hippo_backlog.proofs.NumberLemmas.{AreUpTo-higher, passed_at}
 use Rattle.hippo_backlog.proofs.VersionsTheorem.{kept_at-versions, schemas_last}
 

@@ -19,7 +19,7 @@ use Rattle.hippo_model.proofs.KeptRows.{slice_get-find_row, is_some-find_row}
 use Rattle.hippo_entry.specs.Forms.{IsEntryOf}
 use Rattle.hippo_backlog.specs.declared.faults.ReadFault.TheVariants.{Damaged}
 use Rattle.hippo_backlog.specs.Taking.{Becomes, judged, Takes}
-use Rattle.hippo_backlog.proofs.CallLemmas.{err_of}
+use Rattle.hippo_keeper.proofs.Results.{err_of}
 
 -- a place is found where a row is
 pub found_live : (rows : KeyedRows) (key : Key) (found : Option Place) → found ≡ find_row rows.key key rows.rows → is_some found ≡ is_some (row_with key rows)

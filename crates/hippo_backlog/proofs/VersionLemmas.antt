@@ -39,7 +39,9 @@ use Rattle.hippo_backlog.specs.Taking.{HasTaken, Takes}
 use Rattle.hippo_backlog.specs.Backlogs.{is_version_of, HeldVersions, raised, AreAt, KeepsFit, TakesIn, HasUnfit, NamesUnfit, TakesWaiting, ReadsOn, BringsUp}
 use Rattle.hippo_backlog.proofs.AheadLemmas.{IsAhead-used, IsAhead-moved, IsAhead-read, reached_by-least, reached_by-further}
 use Rattle.hippo_backlog.proofs.NumberLemmas.{last-above}
-use Rattle.hippo_backlog.proofs.CallLemmas.{err_of, well, KeepsSame-here, KeepsSame-then, KeepsSame-Stays, IsAfterCall-then, IsAfterCall-as, IsAfterCall-none, as_call-unfailed, same_Err, as_call-fault_of}
+use Rattle.hippo_backlog.proofs.CallLemmas.{as_call-unfailed, same_Err, as_call-fault_of}
+use Rattle.hippo_keeper.proofs.CallLemmas.{KeepsSame-here, KeepsSame-then, KeepsSame-Stays, IsAfterCall-then, IsAfterCall-as, IsAfterCall-none}
+use Rattle.hippo_keeper.proofs.Results.{err_of, well}
 use Rattle.hippo_backlog.proofs.VersionsTheorem.{stands_at, may_there, versions_fit}
 
 pub stored_versions-append : (first second : Store) → stored_versions (first ++ second) ≡ stored_versions first + stored_versions second

@@ -12,10 +12,10 @@ use Rattle.hippo_model.specs.StoredForms.{table_changed, stored}
 use Rattle.hippo_model.specs.Stores.{IsStoreOf}
 use Rattle.hippo_model.specs.Validity.{is_valid}
 use Rattle.hippo_model.specs.Versions.{is_version}
-use Rattle.hippo_keeper.specs.Keeping.{Store, KeeperState, IsAfterCall}
+use Rattle.hippo_keeper.specs.Keeping.{Store, KeeperState, IsAfterCall, KeepsSame}
 use Rattle.hippo_keeper.specs.Selecting.{stored_versions}
 use Rattle.hippo_keeper.specs.declared.faults.KeeperFault.{KeeperFault}
-use Rattle.hippo_backlog.specs.Calls.{as_call, KeepsSame}
+use Rattle.hippo_backlog.specs.Calls.{as_call}
 use Rattle.hippo_backlog.specs.ReadingAhead.{ReadAhead, nothing_read, IsAhead}
 use Rattle.hippo_backlog.specs.declared.faults.ReadFault.{ReadFault}
 use Rattle.hippo_backlog.specs.declared.faults.ReadFault.TheVariants.{Keeper, Damaged}

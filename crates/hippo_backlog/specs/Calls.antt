@@ -17,9 +17,3 @@ as_call (Ok value) = Ok tt
 as_call (Err Keeper) = Err keeper_faults.Failed
 as_call (Err (Damaged number)) = Ok tt
 as_call (Err Memory) = Err keeper_faults.Memory
-
--- what is kept is the same, and no more survives a stop than before, but something still where something did
-pub record KeepsSame (before after : KeeperState) : Type 0 where
-  pub same : after.kept ≡ before.kept
-  pub stop : (store : Store) → after.survives store → before.survives store
-  pub some : ∥ ((store : Store) × before.survives store) ∥₁ → ∥ ((store : Store) × after.survives store) ∥₁

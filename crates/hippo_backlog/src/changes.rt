@@ -8,9 +8,9 @@ ghost use Rattle.hippo_model.specs.Versions.{row_fits, key_fits};
 ghost use Rattle.hippo_backlog.specs.Taking.{Becomes, judged, Takes};
 
 use crate::faults::ReadFault;
-use crate::rows::{key_fits, row_fits};
 use hippo_entry::decode;
 use hippo_model::{Act, Cells, Entry, RowSet, Schema, StoredEntry};
+use hippo_tables::{key_fits, row_fits};
 use hippo_values::{Memory, Moment, Name};
 use std::alloc::Global;
 

@@ -5,7 +5,6 @@ mod ahead;
 mod changes;
 mod faults;
 mod laws;
-mod rows;
 mod snapshots;
 mod versions;
 

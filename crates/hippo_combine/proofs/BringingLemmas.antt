@@ -22,7 +22,8 @@ use Rattle.hippo_rewrite.proofs.FittingRows.{schema_named}
 use Rattle.hippo_backlog.specs.declared.faults.ReadFault.{ReadFault}
 use Rattle.hippo_backlog.specs.declared.faults.ReadFault.TheVariants.{Damaged}
 use Rattle.hippo_backlog.specs.Calls.{as_call}
-use Rattle.hippo_backlog.proofs.CallLemmas.{well, KeepsSame-here, KeepsSame-then, IsAfterCall-none, IsAfterCall-then, IsAfterCall-as}
+use Rattle.hippo_keeper.proofs.CallLemmas.{KeepsSame-here, KeepsSame-then, IsAfterCall-none, IsAfterCall-then, IsAfterCall-as}
+use Rattle.hippo_keeper.proofs.Results.{well}
 use Rattle.hippo_intervals.specs.Living.{HeldLives, no_lives, taken_by, LivesFit, Advances}
 use Rattle.hippo_intervals.proofs.LivesLemmas.{LivesFit-first}
 use Rattle.hippo_audit_job.specs.declared.past.Past.{Past}

@@ -18,18 +18,17 @@ use Rattle.hippo_model.specs.Stores.{IsStoreOf}
 use Rattle.hippo_model.specs.Terms.{History}
 use Rattle.hippo_model.specs.Validity.{is_valid}
 use Rattle.hippo_keeper.specs.Answering.{has_failed}
-use Rattle.hippo_keeper.specs.Keeping.{KeeperState, IsReady}
+use Rattle.hippo_keeper.specs.Keeping.{KeeperState, IsReady, KeepsSame}
 use Rattle.hippo_catalog.specs.Catalogs.{KnownNames, known_at, table_of}
 use Rattle.hippo_catalog.proofs.ListLemmas.{drop_at_item}
 use Rattle.hippo_policy.specs.Books.{StandsFor}
 use Rattle.hippo_typing.specs.Meanings.{meaning}
 use Rattle.hippo_rewrite.proofs.FittingRows.{schema_named}
 use Rattle.hippo_backlog.specs.Backlogs.{versions_of, IsSnapshot, Snapshots}
-use Rattle.hippo_backlog.specs.Calls.{KeepsSame}
 use Rattle.hippo_backlog.specs.Calls as reads
 use Rattle.hippo_backlog.specs.declared.faults.ReadFault.{ReadFault}
 use Rattle.hippo_backlog.specs.declared.faults.ReadFault.TheVariants.{Keeper, Damaged, Memory}
-use Rattle.hippo_backlog.proofs.CallLemmas.{KeepsSame-here, KeepsSame-then, IsAfterCall-then, IsAfterCall-as, IsAfterCall-none}
+use Rattle.hippo_keeper.proofs.CallLemmas.{KeepsSame-here, KeepsSame-then, IsAfterCall-then, IsAfterCall-as, IsAfterCall-none}
 use Rattle.hippo_backlog.proofs.VersionsTheorem.{schemas_last}
 use Rattle.hippo_denials.specs.declared.faults.DenialsFault.{DenialsFault}
 use Rattle.hippo_denials.specs.declared.faults.DenialsFault.TheVariants.{Read, TooMany}

@@ -20,7 +20,7 @@ use Rattle.hippo_catalog.specs.Catalogs.{KnownNames}
 use Rattle.hippo_policy.specs.declared.book.PolicyBook.{PolicyBook}
 use Rattle.hippo_typing.specs.Meanings.{meaning_in, meaning}
 use Rattle.hippo_backlog.specs.declared.faults.ReadFault.TheVariants.{Keeper, Damaged, Memory}
-use Rattle.hippo_backlog.proofs.CallLemmas.{KeepsSame-here, IsAfterCall-none, IsAfterCall-as}
+use Rattle.hippo_keeper.proofs.CallLemmas.{KeepsSame-here, IsAfterCall-none, IsAfterCall-as}
 use Rattle.hippo_denials.specs.declared.faults.DenialsFault.{DenialsFault}
 use Rattle.hippo_denials.specs.declared.faults.DenialsFault.TheVariants.{Read, TooMany}
 use Rattle.hippo_denials.specs.declared.rows.RulesThen.{RulesThen}

@@ -14,13 +14,12 @@ use Rattle.hippo_model.specs.Terms.{History}
 use Rattle.hippo_model.specs.Versions.{versions}
 use Rattle.hippo_laws.specs.Audits.{StandsIn}
 use Rattle.hippo_keeper.specs.declared.faults.KeeperFault.{KeeperFault}
-use Rattle.hippo_keeper.specs.Keeping.{KeeperState, IsAfterCall}
+use Rattle.hippo_keeper.specs.Keeping.{KeeperState, IsAfterCall, KeepsSame}
 use Rattle.hippo_catalog.specs.Catalogs.{KnownNames, known_at, table_of}
 use Rattle.hippo_policy.specs.declared.book.PolicyBook.{PolicyBook}
 use Rattle.hippo_policy.specs.Books.{StandsFor}
 use Rattle.hippo_typing.specs.Meanings.{meaning}
 use Rattle.hippo_backlog.specs.Backlogs.{versions_of}
-use Rattle.hippo_backlog.specs.Calls.{KeepsSame}
 use Rattle.hippo_backlog.specs.Calls as reads
 use Rattle.hippo_backlog.specs.declared.faults.ReadFault.TheVariants.{Keeper, Damaged, Memory}
 use Rattle.hippo_denials.specs.declared.faults.DenialsFault.{DenialsFault}

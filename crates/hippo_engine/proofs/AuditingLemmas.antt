@@ -27,7 +27,7 @@ use Rattle.hippo_commands.proofs.MomentLemmas.{moments_are_read}
 use Rattle.hippo_backlog.specs.Calls as reads
 use Rattle.hippo_backlog.specs.declared.faults.ReadFault.{ReadFault}
 use Rattle.hippo_backlog.specs.declared.faults.ReadFault.TheVariants.{Keeper, Damaged, Memory}
-use Rattle.hippo_backlog.proofs.CallLemmas.{IsAfterCall-as}
+use Rattle.hippo_keeper.proofs.CallLemmas.{IsAfterCall-as}
 use Rattle.hippo_audit_job.specs.declared.jobs.Job.{Job}
 use Rattle.hippo_audit_job.specs.declared.past.Past.{Past}
 use Rattle.hippo_audit_job.specs.Examining.{IsPastOf, IsAuditOf, IsNew}

@@ -7,13 +7,12 @@ use Rattle.hippo_model.specs.StoredForms.{stored}
 use Rattle.hippo_model.specs.Terms.{History}
 use Rattle.hippo_model.specs.Validity.{is_valid}
 use Rattle.hippo_typing.specs.Meanings.{meaning}
-use Rattle.hippo_keeper.specs.Keeping.{KeeperState}
-use Rattle.hippo_replay.specs.Loading.{KeepsSame}
+use Rattle.hippo_keeper.specs.Keeping.{KeeperState, KeepsSame}
 use Rattle.hippo_replay.specs.Recording.{HasKept}
 use Rattle.hippo_replay.specs.Standing.{StandsFor, IsSound}
 use Rattle.hippo_replay.specs.declared.state.State.{State}
-use Rattle.hippo_replay.proofs.KeeperLemmas.{KeepsSame-here, IsAfterCall-none}
-use Rattle.hippo_replay.proofs.Results.{well}
+use Rattle.hippo_keeper.proofs.CallLemmas.{KeepsSame-here, IsAfterCall-none}
+use Rattle.hippo_keeper.proofs.Results.{well}
 use Rattle.hippo_report.specs.declared.refusal.Refusal.{Refusal}
 use Rattle.hippo_report.specs.declared.refusal.Refusal.TheVariants.{Memory}
 use Rattle.hippo_report.specs.Refusals.{refusal_line}
@@ -86,7 +85,7 @@ Holds-more history entry old new before after holds stands jobs watches kept = r
 pub Carries-nothing : (command : Command) (old new : Engine) (keeper : KeeperState) (steps : ℕ) → AtWork old keeper → AddsNothing command old new
     → Carries {A = Unit {0}} command (Ok tt) old new keeper keeper steps steps
 Carries-nothing command old new keeper steps at_work quiet = record {
-  call = IsAfterCall-none keeper at_work.ready;
+  call = IsAfterCall-none (Ok tt) keeper refl at_work.ready;
   sound = λ fine. subst IsSound (sym quiet.same) at_work.sound;
   idle = λ none. refl;
   carried = λ fine tells history holds. record {

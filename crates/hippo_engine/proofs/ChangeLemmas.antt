@@ -14,8 +14,8 @@ use Rattle.hippo_keeper.specs.declared.faults.KeeperFault.TheVariants.{Failed, M
 use Rattle.hippo_keeper.specs.Keeping.{KeeperState}
 use Rattle.hippo_replay.specs.Standing.{StandsFor, IsSound}
 use Rattle.hippo_replay.specs.Recording.{Records}
-use Rattle.hippo_replay.proofs.KeeperLemmas.{IsAfterCall-as}
-use Rattle.hippo_replay.proofs.Results.{err_of, well}
+use Rattle.hippo_keeper.proofs.CallLemmas.{IsAfterCall-as}
+use Rattle.hippo_keeper.proofs.Results.{err_of, well}
 use Rattle.hippo_report.specs.declared.refusal.Refusal.{Refusal}
 use Rattle.hippo_report.specs.declared.refusal.Refusal.TheVariants as refusals
 use Rattle.hippo_report.specs.Notices.{number_line}

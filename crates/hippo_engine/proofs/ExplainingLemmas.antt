@@ -33,7 +33,8 @@ use Rattle.hippo_backlog.specs.declared.faults.ReadFault.{ReadFault}
 use Rattle.hippo_backlog.specs.declared.faults.ReadFault.TheVariants.{Keeper, Damaged, Memory}
 use Rattle.hippo_backlog.proofs.VersionsTheorem.{may_there}
 use Rattle.hippo_backlog.proofs.NumberLemmas.{valid-rises}
-use Rattle.hippo_backlog.proofs.CallLemmas.{KeepsSame-here, KeepsSame-then, KeepsSame-Stays, IsAfterCall-then, IsAfterCall-as, IsAfterCall-none, as_call-fault_of, undamaged_by}
+use Rattle.hippo_backlog.proofs.CallLemmas.{as_call-fault_of, undamaged_by}
+use Rattle.hippo_keeper.proofs.CallLemmas.{KeepsSame-here, KeepsSame-then, KeepsSame-Stays, IsAfterCall-then, IsAfterCall-as, IsAfterCall-none}
 use Rattle.hippo_denials.specs.declared.faults.DenialsFault.{DenialsFault}
 use Rattle.hippo_denials.specs.declared.faults.DenialsFault.TheVariants.{Read, TooMany}
 use Rattle.hippo_denials.specs.Denying.{IsAnswer, Denies}

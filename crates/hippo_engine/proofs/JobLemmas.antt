@@ -17,7 +17,7 @@ use Rattle.hippo_commands.specs.Commands.{Command, ask, state, who_commands}
 use Rattle.hippo_backlog.specs.Calls as reads
 use Rattle.hippo_backlog.specs.declared.faults.ReadFault.{ReadFault}
 use Rattle.hippo_backlog.specs.declared.faults.ReadFault.TheVariants as faults
-use Rattle.hippo_backlog.proofs.CallLemmas.{IsAfterCall-as}
+use Rattle.hippo_keeper.proofs.CallLemmas.{IsAfterCall-as}
 use Rattle.hippo_audit_job.specs.declared.past.Past.{Past}
 use Rattle.hippo_audit_job.specs.Examining.{IsPastOf, IsAuditOf}
 use Rattle.hippo_audit_job.specs.Jobs.{OpenAudit, open_audit, step_end, JobFits, LooksOver, HasStepped}

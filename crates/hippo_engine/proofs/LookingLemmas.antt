@@ -3,10 +3,8 @@ use Rattle.std.proofs.Common.{◌≡◌, ◌≢◌, ◌∙◌, ℕ, ℤ, refl, s
 use Rattle.std.proofs.lemmas.Bool.{false≢true}
 use Rattle.hippo_model.specs.Terms.{History}
 use Rattle.hippo_model.specs.Versions.{versions}
-use Rattle.hippo_keeper.specs.Keeping.{KeeperState, IsAfterCall}
-use Rattle.hippo_backlog.specs.Calls as backlog
+use Rattle.hippo_keeper.specs.Keeping.{KeeperState, IsAfterCall, KeepsSame}
 use Rattle.hippo_replay.specs.declared.state.State.{State}
-use Rattle.hippo_replay.specs.Loading.{KeepsSame}
 use Rattle.hippo_replay.specs.Standing.{StandsFor, IsSound}
 use Rattle.hippo_report.specs.declared.refusal.Refusal.{Refusal}
 use Rattle.hippo_report.specs.declared.refusal.Refusal.TheVariants.{NoSuchQuery}
@@ -21,10 +19,6 @@ use Rattle.hippo_engine.specs.Ledgers.{reads_kept, Tallies}
 use Rattle.hippo_engine.specs.Carrying.{Holds, AtWork, as_call, is_carried, shown, Carries}
 use Rattle.hippo_engine.proofs.CarryingLemmas.{Holds-same}
 
--- what is kept is the same, as both say it
-pub KeepsSame-read : (before after : KeeperState) → backlog.KeepsSame before after → KeepsSame before after
-KeepsSame-read before after keeps = record { same = keeps.same; stop = keeps.stop; some = keeps.some }
-
 -- what a command did that read what is kept of a history
 pub record HasLooked (history : History) (command : Command) (result : Result (Unit {0}) EngineFault) (old new : Engine) (steps steps' : ℕ) : Type 0 where
   pub effect : is_carried result ≡ true → IsEffect history (world_of old.world) command (shown new)
@@ -36,7 +30,7 @@ pub record HasLooked (history : History) (command : Command) (result : Result (U
   pub undamaged : (number : ℕ) → result ≢ Err (Damaged number)
 
 pub Carries-looked : (command : Command) (result : Result (Unit {0}) EngineFault) (old new : Engine) (before after : KeeperState) (steps steps' : ℕ) → reads_kept command ≡ true → AtWork old before
-    → new.state ≡ old.state → IsAfterCall true false (as_call result) before after → (after.tells → backlog.KeepsSame before after)
+    → new.state ≡ old.state → IsAfterCall true false (as_call result) before after → (after.tells → KeepsSame before after)
     → (after.tells → (history : History) → Holds history old before → HasLooked history command result old new steps steps')
     → Carries command result old new before after steps steps'
 Carries-looked command result old new before after steps steps' reads at_work same call stays told = record {
@@ -45,7 +39,7 @@ Carries-looked command result old new before after steps steps' reads at_work sa
   idle = λ none. absurd (false≢true (sym none ∙ reads));
   carried = λ fine tells history holds.
       let looked = told tells history holds in
-      let keeps = KeepsSame-read before after (stays tells) in
+      let keeps = stays tells in
       record {
         effect = shown new;
         is = looked.effect fine;
@@ -58,6 +52,6 @@ Carries-looked command result old new before after steps steps' reads at_work sa
       };
   failed = λ fails tells history holds.
       let looked = told tells history holds in
-      inr (record { reads = reads; adds = looked.adds; kept = KeepsSame-read before after (stays tells) });
+      inr (record { reads = reads; adds = looked.adds; kept = stays tells });
   undamaged = λ tells history holds. (told tells history holds).undamaged;
 }

@@ -17,8 +17,8 @@ use Rattle.hippo_eval.specs.Answering.{IsAnswered}
 use Rattle.hippo_replay.specs.declared.state.State.{State}
 use Rattle.hippo_replay.specs.Standing.{StandsFor, IsSound}
 use Rattle.hippo_replay.specs.Recording.{Keeps}
-use Rattle.hippo_replay.proofs.KeeperLemmas.{IsAfterCall-as}
-use Rattle.hippo_replay.proofs.Results.{ok_of, err_of, well}
+use Rattle.hippo_keeper.proofs.CallLemmas.{IsAfterCall-as}
+use Rattle.hippo_keeper.proofs.Results.{ok_of, err_of, well}
 use Rattle.hippo_world.specs.declared.sessions.Session.{Session}
 use Rattle.hippo_world.specs.declared.worlds.World.{World as HeldWorld}
 use Rattle.hippo_world.specs.Worlds.{World, session_at}

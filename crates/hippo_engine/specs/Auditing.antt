@@ -7,9 +7,9 @@ use Rattle.hippo_model.specs.Audits.{flags_between}
 use Rattle.hippo_model.specs.StoredForms.{stored}
 use Rattle.hippo_model.specs.Terms.{History}
 use Rattle.hippo_model.specs.Versions.{versions}
-use Rattle.hippo_keeper.specs.Keeping.{KeeperState, IsAfterCall}
+use Rattle.hippo_keeper.specs.Keeping.{KeeperState, IsAfterCall, KeepsSame}
 use Rattle.hippo_typing.specs.Meanings.{meaning}
-use Rattle.hippo_backlog.specs.Calls.{as_call, KeepsSame}
+use Rattle.hippo_backlog.specs.Calls.{as_call}
 use Rattle.hippo_backlog.specs.declared.faults.ReadFault.{ReadFault}
 use Rattle.hippo_backlog.specs.declared.faults.ReadFault.TheVariants.{Keeper, Damaged, Memory}
 use Rattle.hippo_audit_job.specs.Examining.{IsAuditOf}

@@ -10,9 +10,8 @@ use Rattle.hippo_model.specs.StoredForms.{stored}
 use Rattle.hippo_model.specs.Terms.{History, Place}
 use Rattle.hippo_model.specs.Versions.{versions}
 use Rattle.hippo_keeper.specs.declared.faults.KeeperFault.{KeeperFault}
-use Rattle.hippo_keeper.specs.Keeping.{Store, KeeperState, IsAfterCall}
+use Rattle.hippo_keeper.specs.Keeping.{Store, KeeperState, IsAfterCall, KeepsSame}
 use Rattle.hippo_typing.specs.Meanings.{meaning}
-use Rattle.hippo_backlog.specs.Calls.{KeepsSame}
 use Rattle.hippo_backlog.specs.Calls as reads
 use Rattle.hippo_backlog.specs.declared.faults.ReadFault.{ReadFault}
 use Rattle.hippo_backlog.specs.declared.faults.ReadFault.TheVariants.{Keeper, Damaged, Memory}

@@ -4,11 +4,11 @@ use Rattle.hippo_model.specs.declared.schema.Schema.{Schema}
 use Rattle.hippo_model.specs.Terms.{History, Meaning}
 use Rattle.hippo_model.specs.RowSets.{kept_at}
 use Rattle.hippo_model.specs.Stores.{IsStoreOf}
-use Rattle.hippo_keeper.specs.Keeping.{Store, KeeperState, IsAfterCall}
+use Rattle.hippo_keeper.specs.Keeping.{Store, KeeperState, IsAfterCall, KeepsSame}
 use Rattle.hippo_keeper.specs.Selecting.{stored_versions}
 use Rattle.hippo_backlog.specs.declared.faults.ReadFault.{ReadFault}
 use Rattle.hippo_backlog.specs.declared.faults.ReadFault.TheVariants.{Damaged}
-use Rattle.hippo_backlog.specs.Calls.{as_call, KeepsSame}
+use Rattle.hippo_backlog.specs.Calls.{as_call}
 use Rattle.hippo_backlog.specs.Backlogs.{versions_of, HeldVersions, no_versions, AreAt, NamesUnfit}
 
 pub record HeldLives : Type 0 where

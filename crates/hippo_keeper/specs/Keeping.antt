@@ -96,6 +96,12 @@ pub record Stays (before after : KeeperState) : Type 0 where
   pub stop : (store : Store) → after.survives store → before.survives store
   pub some : ∥ ((store : Store) × after.survives store) ∥₁
 
+-- what is kept is the same, and no more survives a stop than before, but something still where something did
+pub record KeepsSame (before after : KeeperState) : Type 0 where
+  pub same : after.kept ≡ before.kept
+  pub stop : (store : Store) → after.survives store → before.survives store
+  pub some : ∥ ((store : Store) × before.survives store) ∥₁ → ∥ ((store : Store) × after.survives store) ∥₁
+
 -- what a start with a name does
 pub record Starts {A : Type 0} (name : List ℕ) (result : Result A KeeperFault)
     (before after : KeeperState) : Type 0 where

@@ -1,6 +1,4 @@
-pub mod Results
 pub mod SchemaLemmas
-pub mod RowLemmas
 pub mod StateLemmas
 pub mod AcceptanceLemmas
 pub mod TakingInLemmas

@@ -20,9 +20,10 @@ use Rattle.hippo_replay.specs.declared.state.State.{State}
 use Rattle.hippo_replay.specs.Standing.{StandsFor}
 use Rattle.hippo_replay.specs.Loading.{as_call, judges, KeepsFound, IsLoaded, Loads}
 use Rattle.hippo_replay.specs.Reading.{fault_of, ReadsAll}
-use Rattle.hippo_replay.proofs.KeeperLemmas.{KeepsFound-after, IsAfterCall-then}
+use Rattle.hippo_replay.proofs.KeeperLemmas.{KeepsFound-after}
+use Rattle.hippo_keeper.proofs.CallLemmas.{IsAfterCall-then}
 use Rattle.hippo_replay.proofs.ReadingLemmas.{versions-append, same_Err}
-use Rattle.hippo_replay.proofs.Results.{err_of, well}
+use Rattle.hippo_keeper.proofs.Results.{err_of, well}
 
 -- a keeper that was started, or was not
 call_by : {A : Type 0} (result : Result A KeeperFault) (started closed : Bool) (before after : KeeperState) → IsAfterCall started closed result before after → closed ≡ (not started && wants_memory result) → IsAfterCall after.started (not after.started && wants_memory result) result before after

@@ -9,7 +9,7 @@ use Rattle.hippo_model.specs.Stores.{IsDamagedAt}
 use Rattle.hippo_keeper.specs.declared.faults.KeeperFault.{KeeperFault}
 use Rattle.hippo_keeper.specs.declared.faults.KeeperFault.TheVariants as keeper_faults
 use Rattle.hippo_keeper.specs.Answering.{has_failed}
-use Rattle.hippo_keeper.specs.Keeping.{Store, RisesAbove, last_number, next_number as next_kept, KeeperState, IsReady, IsAfterCall}
+use Rattle.hippo_keeper.specs.Keeping.{Store, RisesAbove, last_number, next_number as next_kept, KeeperState, IsReady, IsAfterCall, KeepsSame}
 use Rattle.hippo_keeper.specs.Selecting.{is_any, is_stored_version, stored_versions, handed_over, Reads}
 use Rattle.hippo_typing.specs.Meanings.{meaning}
 use Rattle.hippo_replay.specs.declared.faults.LoadFault.{LoadFault}
@@ -17,11 +17,12 @@ use Rattle.hippo_replay.specs.declared.faults.LoadFault.TheVariants.{Keeper, Dam
 use Rattle.hippo_replay.specs.declared.state.State.{State}
 use Rattle.hippo_replay.specs.Standing.{StandsFor, IsSound}
 use Rattle.hippo_replay.specs.TakingIn.{HasLoaded, TakesIn}
-use Rattle.hippo_replay.specs.Loading.{as_call, KeepsSame}
+use Rattle.hippo_replay.specs.Loading.{as_call}
 use Rattle.hippo_replay.specs.Reading.{fault_of, IsUpTo, ReadsOn, IsReading, ReadsAll}
 use Rattle.hippo_replay.proofs.TakingInLemmas.{loaded_count}
-use Rattle.hippo_replay.proofs.KeeperLemmas.{next_kept-stored, handed_over-behind, nothing_taken, KeepsSame-here, KeepsSame-then, KeepsSame-Stays, IsAfterCall-then, IsAfterCall-as, IsAfterCall-none}
-use Rattle.hippo_replay.proofs.Results.{err_of, ok_of, well}
+use Rattle.hippo_replay.proofs.KeeperLemmas.{next_kept-stored, handed_over-behind, nothing_taken}
+use Rattle.hippo_keeper.proofs.CallLemmas.{KeepsSame-here, KeepsSame-then, KeepsSame-Stays, IsAfterCall-then, IsAfterCall-as, IsAfterCall-none}
+use Rattle.hippo_keeper.proofs.Results.{err_of, ok_of, well}
 
 pub versions-append : (first second : Store) → stored_versions (first ++ second) ≡ stored_versions first + stored_versions second
 versions-append first second = sum_by-append (λ kept. cond (is_stored_version kept) 1 0) first second
@@ -153,7 +154,7 @@ reads_on-fault max before after old steps_old steps_new fault reads steps = reco
 -- nothing is read at first
 pub IsReading-first : (keeper : KeeperState) (state : State) (steps : ℕ) → IsReady true keeper → StandsFor state [] → IsReading keeper keeper state steps steps
 IsReading-first keeper state steps ready stands = record {
-  call = IsAfterCall-none keeper ready;
+  call = IsAfterCall-none (well KeeperFault) keeper refl ready;
   stays = λ tells. KeepsSame-here keeper;
   sound = record { history = []; stands = stands };
   read = [];

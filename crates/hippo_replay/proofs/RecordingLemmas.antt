@@ -23,8 +23,9 @@ use Rattle.hippo_replay.specs.declared.state.State.{State}
 use Rattle.hippo_replay.specs.Standing.{StandsFor, IsSound, IsNext, takes_no_memory, Remembers}
 use Rattle.hippo_replay.specs.TakingIn.{HasLoaded}
 use Rattle.hippo_replay.specs.Recording.{Keeps, Records}
-use Rattle.hippo_replay.proofs.KeeperLemmas.{next_kept-stored, KeepsSame-here, KeepsSame-Stays, IsAfterCall-as, IsAfterCall-none}
-use Rattle.hippo_replay.proofs.Results.{err_of, well}
+use Rattle.hippo_replay.proofs.KeeperLemmas.{next_kept-stored}
+use Rattle.hippo_keeper.proofs.CallLemmas.{KeepsSame-here, KeepsSame-Stays, IsAfterCall-as, IsAfterCall-none}
+use Rattle.hippo_keeper.proofs.Results.{err_of, well}
 
 -- an act that takes memory is no Delete
 pub is_delete-room : (act : Act) → takes_no_memory act ≡ false → is_delete act ≡ false
@@ -72,7 +73,7 @@ module _ (entry : Entry) where
   -- it was not, since memory was short
   pub Keeps-short : (state : State) (keeper : KeeperState) → IsReady true keeper → Keeps entry short state keeper keeper
   Keeps-short state keeper ready = record {
-    call = IsAfterCall-as true false (well KeeperFault) short keeper keeper refl (IsAfterCall-none keeper ready);
+    call = IsAfterCall-as true false (well KeeperFault) short keeper keeper refl (IsAfterCall-none (well KeeperFault) keeper refl ready);
     follows = λ answered. absurd (false≢true (sym answered));
     kept = tt;
     failed = λ failed. absurd (false≢true failed);

@@ -1,15 +1,10 @@
--- Members from a place on, and columns whose names differ.
+-- Columns whose names differ.
 use Rattle.std.proofs.Common.{◌≡◌, ◌∙◌, sym, ap, refl, ℕ, suc, ◌+◌, ◌<◌, not, ◌||◌, ◌&&◌, List, [], ◌∷◌, length, get_or, drop, map, add-one, bytes_eq}
 use Rattle.std.proofs.Math.Seq.{drop-cons}
 use Rattle.std.specs.List.{list_any}
 use Rattle.hippo_values.specs.declared.names.Name.{Name}
 use Rattle.hippo_model.specs.declared.schema.Column.{Column}
 use Rattle.hippo_model.specs.Validity.{all_differ}
-
--- the member at a place, and then those behind it
-pub drop_at_member : {A : Type 0} (members : List A) (place : ℕ) (member : A) → place < length members → member ≡ get_or members place member → drop place members ≡ member ∷ drop (place + 1) members
-drop_at_member members place member inside is =
-    rw add-one (drop-cons members place member inside ∙ ap (λ first. first ∷ drop (suc place) members) (sym is))
 
 any_mapped : (name : Name) (columns : List Column) → list_any (λ column. bytes_eq name column.name) columns ≡ list_any (bytes_eq name) (map (λ column. column.name) columns)
 any_mapped name [] = refl

@@ -22,8 +22,8 @@ use Rattle.hippo_replay.specs.declared.faults.LoadFault.TheVariants.{Keeper, Dam
 use Rattle.hippo_replay.specs.declared.state.State.{State}
 use Rattle.hippo_replay.specs.Standing.{StandsFor, IsSound, IsNext}
 use Rattle.hippo_replay.specs.TakingIn.{HasLoaded, TakesIn, Follows}
-use Rattle.hippo_replay.proofs.SchemaLemmas.{drop_at_member}
-use Rattle.hippo_replay.proofs.Results.{err_of, well}
+use Rattle.hippo_tables.proofs.RowLemmas.{drop_at_member}
+use Rattle.hippo_keeper.proofs.Results.{err_of, well}
 
 -- the members before the last one, and the last one
 record EndsSo {A B : Type 0} (image : A → B) (members : List A) (front : List B) (last : B) : Type 0 where

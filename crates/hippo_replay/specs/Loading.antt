@@ -36,12 +36,6 @@ pub record KeepsFound (finds : Survivors) (keeper : KeeperState) : Type 0 where
   pub alone : (store : Store) → keeper.survives store → store ≡ keeper.kept
   pub survives_stop : ∥ keeper.survives keeper.kept ∥₁
 
--- what is kept is the same, and no more survives a stop than before, but something still where something did
-pub record KeepsSame (before after : KeeperState) : Type 0 where
-  pub same : after.kept ≡ before.kept
-  pub stop : (store : Store) → after.survives store → before.survives store
-  pub some : ∥ ((store : Store) × before.survives store) ∥₁ → ∥ ((store : Store) × after.survives store) ∥₁
-
 -- a state stands for a valid history: the only one whose stored forms are kept, where the keeper tells what it keeps.
 -- There was one step for each version in it
 pub record IsLoaded (state : State) (keeper : KeeperState) (steps_before steps_after : ℕ) : Type 0 where

@@ -6,11 +6,10 @@ use Rattle.hippo_model.specs.StoredForms.{stored}
 use Rattle.hippo_model.specs.Validity.{may_follow}
 use Rattle.hippo_keeper.specs.declared.faults.KeeperFault.{KeeperFault}
 use Rattle.hippo_keeper.specs.Answering.{has_failed, wants_memory}
-use Rattle.hippo_keeper.specs.Keeping.{KeeperState, IsAfterCall, OnlySurvives, MayHaveOneMore}
+use Rattle.hippo_keeper.specs.Keeping.{KeeperState, IsAfterCall, OnlySurvives, MayHaveOneMore, KeepsSame}
 use Rattle.hippo_typing.specs.Meanings.{meaning}
 use Rattle.hippo_replay.specs.declared.state.State.{State}
 use Rattle.hippo_replay.specs.Standing.{StandsFor}
-use Rattle.hippo_replay.specs.Loading.{KeepsSame}
 
 -- a keeper keeps these entries behind those that it kept, and a stop leaves just that; where there are none, it keeps
 -- the same

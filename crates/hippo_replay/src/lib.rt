@@ -6,7 +6,6 @@ mod acceptance;
 mod faults;
 mod loading;
 mod recording;
-mod rows;
 mod schemas;
 mod state;
 mod taking_in;

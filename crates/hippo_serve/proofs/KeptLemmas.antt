@@ -9,9 +9,9 @@ use Rattle.hippo_model.specs.StoredForms.{stored}
 use Rattle.hippo_model.specs.Stores.{IsStoreOf}
 use Rattle.hippo_model.specs.Validity.{may_follow, is_valid}
 use Rattle.hippo_laws.proofs.ValidFronts.{is_valid-append}
-use Rattle.hippo_keeper.specs.Keeping.{Store, Survivors, KeeperState, MayHaveOneMore}
+use Rattle.hippo_keeper.specs.Keeping.{Store, Survivors, KeeperState, MayHaveOneMore, KeepsSame}
 use Rattle.hippo_typing.specs.Meanings.{meaning}
-use Rattle.hippo_replay.specs.Loading.{KeepsSame, KeepsFound}
+use Rattle.hippo_replay.specs.Loading.{KeepsFound}
 use Rattle.hippo_replay.specs.Recording.{HasKept}
 use Rattle.hippo_serve.specs.Keeping.{KeepsHistory, KeepsEither}
 

@@ -11,7 +11,7 @@ use Rattle.hippo_replay.specs.declared.faults.LoadFault.TheVariants.{Keeper, Dam
 use Rattle.hippo_replay.specs.declared.state.State.{State}
 use Rattle.hippo_replay.specs.Loading.{KeepsFound, IsLoaded, Loads}
 use Rattle.hippo_replay.specs.Standing.{StandsFor}
-use Rattle.hippo_replay.proofs.Results.{ok_of, err_of}
+use Rattle.hippo_keeper.proofs.Results.{ok_of, err_of}
 use Rattle.hippo_words.specs.declared.calls.Setting.{Setting}
 use Rattle.hippo_serve.specs.declared.endings.Ending.{Ending}
 use Rattle.hippo_serve.specs.declared.endings.Ending.TheVariants.{Served, Refused, KeeperFault, ReadFault, WriteFault, Damaged, NoMemory, TooMuch}

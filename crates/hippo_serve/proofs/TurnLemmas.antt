@@ -11,8 +11,8 @@ use Rattle.hippo_replay.specs.declared.state.State.{State}
 use Rattle.hippo_replay.specs.Standing.{IsSound}
 use Rattle.hippo_keeper.specs.declared.faults.KeeperFault.{KeeperFault as Fault}
 use Rattle.hippo_keeper.specs.Keeping.{KeeperState, IsReady, IsAfterCall}
-use Rattle.hippo_replay.proofs.KeeperLemmas.{IsAfterCall-none, IsReady-after}
-use Rattle.hippo_replay.proofs.Results.{well}
+use Rattle.hippo_keeper.proofs.CallLemmas.{IsAfterCall-none, IsReady-after}
+use Rattle.hippo_keeper.proofs.Results.{well}
 use Rattle.hippo_report.specs.declared.format.Format.{Format}
 use Rattle.hippo_world.specs.Holding.{world_of}
 use Rattle.hippo_world.specs.Worlds.{opening}
@@ -103,7 +103,7 @@ module _ (line : Option LineText) (result : Option Ending) (engine engine' : Eng
 
   pub call_of_turn : IsReady true keeper → IsAfterCall true false (as_line_call result) keeper keeper'
   call_of_turn ready = by_line (λ r. IsAfterCall true false (as_line_call r) keeper keeper')
-      (λ is. subst (λ (k : KeeperState). IsAfterCall true false (as_line_call (Some Served)) keeper k) (sym (same is)) (IsAfterCall-none keeper ready))
+      (λ is. subst (λ (k : KeeperState). IsAfterCall true false (as_line_call (Some Served)) keeper k) (sym (same is)) (IsAfterCall-none (well Fault) keeper refl ready))
       (λ text is carries writes. carries.call)
       (λ text is carries writes. carries.call)
       (λ text is carries writes. carries.call)

@@ -9,9 +9,9 @@ use Rattle.hippo_replay.specs.declared.state.State.{State}
 use Rattle.hippo_replay.specs.Standing.{IsSound}
 use Rattle.hippo_replay.specs.Loading.{Loads}
 use Rattle.hippo_replay.specs.Recording.{Records}
-use Rattle.hippo_replay.proofs.KeeperLemmas.{IsReady-after}
+use Rattle.hippo_keeper.proofs.CallLemmas.{IsReady-after}
 use Rattle.hippo_replay.proofs.RecordingLemmas.{HasLoaded-after}
-use Rattle.hippo_replay.proofs.Results.{ok_of}
+use Rattle.hippo_keeper.proofs.Results.{ok_of}
 use Rattle.hippo_state_tests.specs.Recording.{IsOpen}
 
 pub is_open_first : (name : List ℕ) (state : State) (before after : KeeperState) (steps_before steps_after : ℕ) → Loads name (ok_of LoadFault state) before after steps_before steps_after → IsOpen state after

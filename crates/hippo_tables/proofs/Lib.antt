@@ -5,3 +5,4 @@ pub mod StandingLemmas
 pub mod AddLemmas
 pub mod LiveLemmas
 pub mod NextLemmas
+pub mod RowLemmas

@@ -2,7 +2,9 @@
 #![tactic(auto)]
 
 mod finish;
+mod rows;
 mod table;
 mod tables;
 
+pub use rows::{key_fits, row_fits};
 pub use tables::Tables;

@@ -1,8 +1,8 @@
 -- What the start and the reads come to.
 use Rattle.std.proofs.Common.{refl}
 use Rattle.hippo_keeper.specs.declared.faults.KeeperFault.{KeeperFault}
-use Rattle.hippo_replay.proofs.Results.{well}
-use Rattle.hippo_replay.proofs.KeeperLemmas.{IsReady-after}
+use Rattle.hippo_keeper.proofs.Results.{well}
+use Rattle.hippo_keeper.proofs.CallLemmas.{IsReady-after}
 use Rattle.hippo_replay.proofs.LoadingLemmas.{Loads-unstarted, Loads-started}
 use Rattle.hippo_replay.proofs.loading.load.Goals as goal
 

@@ -2,7 +2,7 @@
 use Rattle.std.proofs.Common.{◌≡◌, ◌+◌, length}
 use Rattle.hippo_model.specs.Terms.{History}
 use Rattle.hippo_policy.specs.Books.{StandsFor}
-use Rattle.hippo_replay.proofs.Results.{on_err_from}
+use Rattle.hippo_keeper.proofs.Results.{on_err_from}
 use Rattle.hippo_replay.proofs.StateLemmas.{book_again}
 use Rattle.hippo_replay.proofs.state.add_to_both.Goals as goal
 

@@ -1,5 +1,7 @@
-use Rattle.std.proofs.Common.{rules}
-use Rattle.hippo_replay.proofs.KeeperLemmas.{IsAfterCall-none}
+use Rattle.std.proofs.Common.{rules, refl}
+use Rattle.hippo_keeper.specs.declared.faults.KeeperFault.{KeeperFault}
+use Rattle.hippo_keeper.proofs.CallLemmas.{IsAfterCall-none}
+use Rattle.hippo_keeper.proofs.Results.{well}
 use Rattle.hippo_serve.proofs.RunLemmas.{reading_none, served_none}
 use Rattle.hippo_serve.proofs.serving.serve_lines.Goals as goal
 
@@ -9,7 +11,7 @@ loop-ending-init g c = record {
   limit = search rules;
   source_faults = search rules;
   sink_faults = search rules;
-  call = IsAfterCall-none (g.P.Keeper.state c.args.keeper.now) c.requires.at_work.ready;
+  call = IsAfterCall-none (well KeeperFault) (g.P.Keeper.state c.args.keeper.now) refl c.requires.at_work.ready;
   at_work = c.requires.at_work;
   reading = λ input is. reading_none input c.args.reader.now (g.S.Source.left c.args.source.now) is (c.requires.handed input);
   served = λ tells setting history holds world keeps start counted.

@@ -1,6 +1,7 @@
 use Rattle.std.proofs.Common.{refl}
 use Rattle.hippo_keeper.specs.declared.faults.KeeperFault.{KeeperFault}
-use Rattle.hippo_backlog.proofs.CallLemmas.{well, IsReady-after}
+use Rattle.hippo_keeper.proofs.CallLemmas.{IsReady-after}
+use Rattle.hippo_keeper.proofs.Results.{well}
 use Rattle.hippo_state_tests.proofs.backlogs.count_at.Goals as goal
 
 pub returns-in-Ok-snapshot : goal.returns-in-Ok-snapshot

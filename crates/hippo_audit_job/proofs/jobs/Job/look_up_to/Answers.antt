@@ -1,7 +1,7 @@
 -- Pieces are read and looked at, until all up to the number is read.
 use Rattle.std.proofs.Common.{◌∙◌, sym, refl, arith, ◌-◌, ◌<◌}
 use Rattle.hippo_backlog.specs.declared.faults.ReadFault.{ReadFault}
-use Rattle.hippo_backlog.proofs.CallLemmas.{err_of, well}
+use Rattle.hippo_keeper.proofs.Results.{err_of, well}
 use Rattle.hippo_audit_job.proofs.StepLemmas.{LooksOn-read}
 use Rattle.hippo_audit_job.proofs.PassedLemmas.{LooksOn-passed, none_waiting, less_read}
 use Rattle.hippo_audit_job.proofs.LoopLemmas.{LooksOn-start, LooksOn-more, LooksOn-stop, ready_after}

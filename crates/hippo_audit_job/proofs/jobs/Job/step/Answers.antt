@@ -1,7 +1,7 @@
 -- The job looks up to the step's end, or it failed before.
 use Rattle.std.proofs.Common.{◌∙◌, subst, arith, ℕ, false}
 use Rattle.hippo_backlog.specs.declared.faults.ReadFault.{ReadFault}
-use Rattle.hippo_backlog.proofs.CallLemmas.{err_of, well}
+use Rattle.hippo_keeper.proofs.Results.{err_of, well}
 use Rattle.hippo_audit_job.specs.Jobs.{open_audit, step_end, LooksOn}
 use Rattle.hippo_audit_job.proofs.LoopLemmas.{LooksOn-marked, and_done, and_failed}
 use Rattle.hippo_audit_job.proofs.jobs.Job.step.Goals as goal

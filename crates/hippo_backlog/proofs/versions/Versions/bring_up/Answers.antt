@@ -4,7 +4,7 @@ use Rattle.hippo_keeper.specs.declared.faults.KeeperFault.{KeeperFault}
 use Rattle.hippo_backlog.specs.declared.faults.ReadFault.{ReadFault}
 use Rattle.hippo_backlog.specs.ReadingAhead.{has_read}
 use Rattle.hippo_backlog.specs.Backlogs.{HeldVersions, BringsUp}
-use Rattle.hippo_backlog.proofs.CallLemmas.{well}
+use Rattle.hippo_keeper.proofs.Results.{well}
 use Rattle.hippo_backlog.proofs.VersionLemmas.{placed, ReadsOn-first, ReadsOn-waiting, ReadsOn-then, BringsUp-waiting, BringsUp-fault, BringsUp-end}
 use Rattle.hippo_backlog.proofs.versions.Versions.bring_up.Goals as goal
 

@@ -1,6 +1,6 @@
 -- The entry may come next, and is taken in.
 use Rattle.std.proofs.lemmas.Result.{on_ok_weaker, on_err_weaker}
-use Rattle.hippo_replay.proofs.Results.{on_ok_from}
+use Rattle.hippo_keeper.proofs.Results.{on_ok_from}
 use Rattle.hippo_replay.proofs.RecordingLemmas.{IsNext-sound, MayFollow}
 use Rattle.hippo_replay.proofs.state.State.add_next.Goals as goal
 

@@ -5,7 +5,7 @@ use Rattle.hippo_model.specs.Stores.{IsDamagedAt}
 use Rattle.hippo_keeper.specs.Keeping.{Store}
 use Rattle.hippo_typing.specs.Meanings.{meaning}
 use Rattle.hippo_replay.specs.TakingIn.{HasLoaded}
-use Rattle.hippo_replay.proofs.SchemaLemmas.{drop_at_member}
+use Rattle.hippo_tables.proofs.RowLemmas.{drop_at_member}
 use Rattle.hippo_replay.proofs.TakingInLemmas.{cut_there, taken_more, rises_there}
 use Rattle.hippo_replay.proofs.state.State.take_in_all.Goals as goal
 

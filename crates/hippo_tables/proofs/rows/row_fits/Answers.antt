@@ -1,7 +1,7 @@
 -- One column more.
 use Rattle.std.proofs.Common.{◌∙◌, sym, refl, arith}
-use Rattle.hippo_replay.proofs.RowLemmas.{fits_within, row_goes_on, row_stops}
-use Rattle.hippo_replay.proofs.rows.row_fits.Goals as goal
+use Rattle.hippo_tables.proofs.RowLemmas.{fits_within, row_goes_on, row_stops}
+use Rattle.hippo_tables.proofs.rows.row_fits.Goals as goal
 
 pub returns-then-not-fits_at : goal.returns-then-not-fits_at
 returns-then-not-fits_at c =

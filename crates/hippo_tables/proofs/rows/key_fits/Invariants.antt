@@ -2,7 +2,7 @@
 use Rattle.std.proofs.Common.{◌≡◌, ◌≤◌, length, drop, filter_map, slice_get}
 use Rattle.std.specs.Cmp.Lexicographic.{pointwise}
 use Rattle.hippo_model.specs.Values.{fits}
-use Rattle.hippo_backlog.proofs.rows.key_fits.Given as goal
+use Rattle.hippo_tables.proofs.rows.key_fits.Given as goal
 
 abbrev pub invariant-loop-place : goal.invariant-loop-place
 invariant-loop-place l = record {

@@ -1,8 +1,8 @@
 -- One place more of the key.
 use Rattle.std.proofs.Common.{◌∙◌, sym, refl, arith}
-use Rattle.hippo_replay.proofs.RowLemmas.{fits_within, column_there, column_missing, key_passes, key_goes_on, key_stops}
-use Rattle.hippo_replay.proofs.rows.key_fits.Goals as goal
-use Rattle.hippo_replay.proofs.rows.key_fits.Goals.{in-Some+else-not-fits_at, in_default}
+use Rattle.hippo_tables.proofs.RowLemmas.{fits_within, column_there, column_missing, key_passes, key_goes_on, key_stops}
+use Rattle.hippo_tables.proofs.rows.key_fits.Goals as goal
+use Rattle.hippo_tables.proofs.rows.key_fits.Goals.{in-Some+else-not-fits_at, in_default}
 
 pub returns-then-not-fits_at : goal.returns-then-not-fits_at
 returns-then-not-fits_at c =

@@ -2,7 +2,7 @@
 use Rattle.std.proofs.Common.{◌≡◌, ◌≤◌, length, drop}
 use Rattle.std.specs.Cmp.Lexicographic.{pointwise}
 use Rattle.hippo_model.specs.Values.{fits}
-use Rattle.hippo_replay.proofs.rows.row_fits.Given as goal
+use Rattle.hippo_tables.proofs.rows.row_fits.Given as goal
 
 abbrev pub invariant-loop-place : goal.invariant-loop-place
 invariant-loop-place l = record {
