@@ -1,29 +1,20 @@
 -- From what an audit expression means, and from the job that looks over all that was asked, to what DURING does.
-use Rattle.std.proofs.Common.{◌≡◌, ◌≢◌, ◌∙◌, ◌⊎◌, ◌≤◌, ◌+◌, ℕ, ℤ, refl, sym, ap, subst, inl, inr, arith, Bool, true, false, List, [], ◌++◌, map, length, Option, Some, None, Result, Ok, Err, append-nil}
-use Rattle.std.specs.Prelude.{min, bytes_eq, OnOk, IfOk}
-use Rattle.std.specs.List.{IsDistinct}
+use Rattle.std.proofs.Common.{◌≡◌, ◌≢◌, ◌∙◌, ◌⊎◌, ◌≤◌, ◌+◌, ℕ, refl, sym, ap, subst, inl, inr, arith, true, false, List, [], length, Some, Result, Ok, Err}
+use Rattle.std.specs.Prelude.{min, OnOk, IfOk}
 use Rattle.std.specs.Result.{result_map_both}
 use Rattle.std.proofs.lemmas.Bool.{false≢true}
 use Rattle.hippo_values.specs.Texts.{Txt}
-use Rattle.hippo_values.specs.declared.moments.Moment.{Moment}
 use Rattle.hippo_model.specs.declared.audit.Audit.{Audit}
 use Rattle.hippo_model.specs.declared.audit.Flag.{Flag}
-use Rattle.hippo_model.specs.declared.name_fault.NameFault.{NameFault}
 use Rattle.hippo_model.specs.declared.statement.RawAudit.{RawAudit}
 use Rattle.hippo_model.specs.declared.statement.Stmt.TheVariants as stmt
 use Rattle.hippo_model.specs.Audits.{flags_between}
-use Rattle.hippo_model.specs.StoredForms.{stored}
 use Rattle.hippo_model.specs.Terms.{History}
-use Rattle.hippo_model.specs.Validity.{is_valid}
 use Rattle.hippo_model.specs.Versions.{versions}
 use Rattle.hippo_keeper.specs.Answering.{has_failed}
 use Rattle.hippo_keeper.specs.Keeping.{KeeperState}
-use Rattle.hippo_catalog.specs.AuditExpressions.{IsMomentIn, IsPeriodOf, audit_refused, audit_of}
-use Rattle.hippo_catalog.specs.Catalogs.{KnownNames, known_at}
 use Rattle.hippo_typing.specs.Meanings.{meaning}
 use Rattle.hippo_commands.specs.Commands.{Command, state}
-use Rattle.hippo_commands.specs.Moments.{moment_in, period_in}
-use Rattle.hippo_commands.proofs.MomentLemmas.{moments_are_read}
 use Rattle.hippo_backlog.specs.Calls as reads
 use Rattle.hippo_backlog.specs.declared.faults.ReadFault.{ReadFault}
 use Rattle.hippo_backlog.specs.declared.faults.ReadFault.TheVariants.{Keeper, Damaged, Memory}
@@ -32,7 +23,6 @@ use Rattle.hippo_audit_job.specs.declared.jobs.Job.{Job}
 use Rattle.hippo_audit_job.specs.declared.past.Past.{Past}
 use Rattle.hippo_audit_job.specs.Examining.{IsPastOf, IsAuditOf, IsNew}
 use Rattle.hippo_audit_job.specs.Jobs.{new_job, JobFits, LooksOver, HasStepped}
-use Rattle.hippo_audit_job.proofs.AuditLemmas.{unrefused_is_audit}
 use Rattle.hippo_audit_job.proofs.JobLemmas.{JobFits-new, taken_within}
 use Rattle.hippo_combine.specs.declared.combine.Combine.{Combine}
 use Rattle.hippo_combine.specs.Combining.{combine_terms}
@@ -49,50 +39,17 @@ use Rattle.hippo_world.specs.Holding.{world_of, JobsFit, taken_of, WatchesFit}
 use Rattle.hippo_engine.specs.declared.engine.Engine.{Engine}
 use Rattle.hippo_engine.specs.declared.faults.EngineFault.{EngineFault}
 use Rattle.hippo_engine.specs.declared.faults.EngineFault.TheVariants as engine
-use Rattle.hippo_engine.specs.Auditing.{HasFlags, FindsFlags, ended, told_flags, TellsFlags}
+use Rattle.hippo_engine.specs.Auditing.{FindsFlags, ended, told_flags, TellsFlags}
 use Rattle.hippo_engine.specs.Carrying.{AtWork, as_call, is_carried, Carries}
 use Rattle.hippo_engine.specs.Changing.{IsRefused}
-use Rattle.hippo_engine.specs.Checks.{Checked, Finds, ◌>>=◌, by_console, meant}
-use Rattle.hippo_engine.specs.Deeds.{Deed}
-use Rattle.hippo_engine.specs.Deeds as deeds
-use Rattle.hippo_engine.specs.Effects.{Effect, only_reply, carried_out, effect_of, audited, listed, IsEffect}
-use Rattle.hippo_engine.specs.Judging.{audit_in, judged}
+use Rattle.hippo_judging.specs.Checks.{Checked, Finds, ◌>>=◌}
+use Rattle.hippo_judging.specs.Deeds.{Deed}
+use Rattle.hippo_judging.specs.Deeds as deeds
+use Rattle.hippo_engine.specs.Effects.{Effect, only_reply, effect_of, audited, listed, IsEffect}
+use Rattle.hippo_judging.specs.Judging.{audit_in, judged}
 use Rattle.hippo_engine.specs.Ledgers.{at_once}
 use Rattle.hippo_engine.proofs.LookingLemmas.{Carries-looked}
 use Rattle.hippo_engine.proofs.ShortLemmas.{short, done_for}
-
--- the moment that is found in a text is the one that it writes
-moment_is : (text : Txt) → IsMomentIn text (moment_in text)
-moment_is text = by (moment_in text) refl
-  where
-    missing : (second : ℤ) → ◌≡◌ {A = Option ℤ} None (Some second) → ⊥
-    missing second e = cc
-
-    by : (found : Option ℤ) → moment_in text ≡ found → IsMomentIn text found
-    by None is = λ second writes. missing second (sym is ∙ (moments_are_read text second).1 writes)
-    by (Some second) is = (moments_are_read text second).0 is
-
--- the period of an audit is that of its texts
-pub period_is : (written : RawAudit) → IsPeriodOf written (period_in written)
-period_is written = record { from = moment_is written.from; to = moment_is written.to }
-
--- the audit that a catalog's names give is that of the history, at the console
-pub audit_found : (history : History) (session : ℕ) (written : RawAudit) (known : KnownNames) (result : Checked Audit) → ◌≡◌ {A = Checked (Unit {0})} (Ok tt) (by_console session) → known ≡ known_at history
-    → Finds (λ audit. audit) (meant (audit_refused known (period_in written) written) (audit_of known (period_in written) written)) result → Finds (λ audit. audit) (audit_in history session written) result
-audit_found history session written known result passed same finds =
-    subst (λ (console : Checked (Unit {0})). Finds (λ audit. audit) (console >>= λ _. meant (audit_refused (known_at history) (period_in written) written) (audit_of (known_at history) (period_in written) written)) result) passed
-    (subst (λ (names : KnownNames). Finds (λ audit. audit) (meant (audit_refused names (period_in written) written) (audit_of names (period_in written) written)) result) same finds)
-
--- an audit expression of which nothing is refused means an audit of each history that the state stands for
-pub audit_stands : (held : State) (written : RawAudit) (audit : Audit) (history : History) → StandsFor held history
-    → (audit_refused held.catalog.names (period_in written) written ≡ []) × (audit ≡ audit_of held.catalog.names (period_in written) written) → IsAuditOf history audit
-audit_stands held written audit history stands unrefused =
-    let period = period_in written in
-    let none : audit_refused (known_at history) period written ≡ [] = subst (λ (known : KnownNames). audit_refused known period written ≡ []) stands.names unrefused.0 in
-    let is : audit ≡ audit_of (known_at history) period written = subst (λ (known : KnownNames). audit ≡ audit_of known period written) stands.names unrefused.1 in
-    let valid : is_valid meaning (history ++ []) ≡ true = ap (is_valid meaning) (append-nil history) ∙ stands.valid in
-    subst (IsAuditOf history) (sym is)
-    (subst (λ (h : History). IsAuditOf h (audit_of (known_at history) period written)) (append-nil history) (unrefused_is_audit history [] period written valid none))
 
 -- what a job found, where it looked over all
 abbrev pub found_by : Result (Unit {0}) ReadFault → Job Combine → Result (List Flag) ReadFault

@@ -4,10 +4,10 @@ use Rattle.hippo_model.specs.Terms.{History}
 use Rattle.hippo_world.specs.Worlds.{World}
 use Rattle.hippo_report.specs.declared.refusal.Refusal.{Refusal}
 use Rattle.hippo_commands.specs.Commands.{who_commands}
-use Rattle.hippo_engine.specs.Checks.{Checked}
-use Rattle.hippo_engine.specs.Deeds.{Deed, asked_by}
-use Rattle.hippo_engine.specs.Deeds as deeds
-use Rattle.hippo_engine.specs.Judging.{judged}
+use Rattle.hippo_judging.specs.Checks.{Checked}
+use Rattle.hippo_judging.specs.Deeds.{Deed, asked_by}
+use Rattle.hippo_judging.specs.Deeds as deeds
+use Rattle.hippo_judging.specs.Judging.{judged}
 use Rattle.hippo_engine.specs.Effects.{done, carried_out}
 use Rattle.hippo_engine.specs.EffectLaws.{ChangesNothing, RefusalsChangeNothing, AddsNext, LinesAddTheNextEntry}
 

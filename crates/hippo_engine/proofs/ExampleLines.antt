@@ -32,7 +32,7 @@ use Rattle.hippo_report.specs.Cells.{answer_line}
 use Rattle.hippo_report.specs.Notices.{number_line}
 use Rattle.hippo_report.specs.Refusals.{refusal_line}
 use Rattle.hippo_engine.specs.Effects.{Effect, effect_of, listed, question_rows}
-use Rattle.hippo_engine.specs.Deeds.{Question}
+use Rattle.hippo_judging.specs.Deeds.{Question}
 use Rattle.hippo_model.specs.declared.query.Form.TheVariants.{Plain as PlainForm}
 
 -- the replies to commands

@@ -42,18 +42,18 @@ use Rattle.hippo_engine.specs.declared.engine.Engine.{Engine}
 use Rattle.hippo_engine.specs.declared.faults.EngineFault.{EngineFault}
 use Rattle.hippo_engine.specs.declared.faults.EngineFault.TheVariants as engine
 use Rattle.hippo_engine.specs.Auditing.{ended}
-use Rattle.hippo_engine.specs.Carrying.{AtWork, as_call, is_carried, reply_room, shown, IsQuiet, AddsNothing, Carries}
+use Rattle.hippo_judging.specs.Checks.{reply_room, Checked, Finds, ◌>>=◌, by_console}
+use Rattle.hippo_engine.specs.Carrying.{AtWork, as_call, is_carried, shown, IsQuiet, AddsNothing, Carries}
 use Rattle.hippo_engine.specs.Changing.{IsRefused}
-use Rattle.hippo_engine.specs.Checks.{Checked, Finds, ◌>>=◌, by_console}
-use Rattle.hippo_engine.specs.Deeds.{Deed}
-use Rattle.hippo_engine.specs.Deeds as deeds
+use Rattle.hippo_judging.specs.Deeds.{Deed}
+use Rattle.hippo_judging.specs.Deeds as deeds
 use Rattle.hippo_engine.specs.Effects.{Effect, only_reply, carried_out, effect_of, stepped, step_flags, step_line, looked_upto, with_job, new_job, IsShort, IsShortStep, IsEffect}
 use Rattle.hippo_engine.specs.Jobs.{BeginsAt, FindsNone, BeginsJob, progress_line, step_text, SaysStep, TellsStep}
-use Rattle.hippo_engine.specs.Judging.{audit_in, judged}
+use Rattle.hippo_judging.specs.Judging.{audit_in, judged}
 use Rattle.hippo_engine.specs.Ledgers.{job_begun, job_stepped, job_dropped}
 use Rattle.hippo_engine.proofs.AuditingLemmas.{ended_same, undamaged_end}
 use Rattle.hippo_engine.proofs.CarryingLemmas.{AddsNothing-quiet}
-use Rattle.hippo_engine.proofs.LengthLemmas.{console_only_fits}
+use Rattle.hippo_judging.proofs.LengthLemmas.{console_only_fits}
 use Rattle.hippo_engine.proofs.LookingLemmas.{Carries-looked}
 use Rattle.hippo_engine.proofs.ShortLemmas.{refused, done_for}
 

@@ -3,13 +3,11 @@ mod RunExamples
 mod LedgerExamples
 pub mod EffectTheorem
 pub mod ShortLemmas
-pub mod LengthLemmas
 pub mod LedgerLemmas
 pub mod CarryingLemmas
 mod LineLemmas
 mod ChangeLemmas
 mod LoadLemmas
-mod AskingLemmas
 mod QuestionLemmas
 mod LookingLemmas
 mod ExplainingLemmas

@@ -9,7 +9,7 @@ use Rattle.hippo_lines.specs.Forms.{Form, says_nothing, sets_clock, asks, states
 use Rattle.hippo_commands.specs.Commands.{Command, clock_command, state_command, statement_in, command_by, command_of, commanded}
 use Rattle.hippo_commands.specs.Moments.{moment_in}
 use Rattle.hippo_engine.specs.Carrying.{IsOfLine}
-use Rattle.hippo_engine.proofs.LengthLemmas.{plain_fits}
+use Rattle.hippo_judging.proofs.LengthLemmas.{plain_fits}
 
 clock : (moment : Option Moment) → IsOfLine (clock_command moment)
 clock (Some moment) = tt

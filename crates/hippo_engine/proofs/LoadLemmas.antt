@@ -1,45 +1,21 @@
 -- From the checks of a record that is loaded to those of its INSERT.
-use Rattle.std.proofs.Common.{◌≡◌, ◌∙◌, inl, inr, refl, sym, ap, subst, ℕ, Some, Result, Ok, Err}
+use Rattle.std.proofs.Common.{◌≡◌, refl, ap, ℕ, Some, Result, Ok, Err}
 use Rattle.std.specs.Prelude.{OnOk, MatchResult}
 use Rattle.hippo_values.specs.Texts.{Txt}
 use Rattle.hippo_values.specs.declared.names.Name.{Name}
 use Rattle.hippo_model.specs.declared.entry.Entry.{Entry}
-use Rattle.hippo_model.specs.declared.statement.Stmt.{Stmt}
 use Rattle.hippo_model.specs.Terms.{History}
-use Rattle.hippo_catalog.specs.Catalogs.{KnownNames, known_at}
 use Rattle.hippo_replay.specs.Standing.{StandsFor}
 use Rattle.hippo_report.specs.declared.refusal.Refusal.{Refusal}
-use Rattle.hippo_world.specs.Worlds.{World}
 use Rattle.hippo_world.specs.Holding.{world_of}
 use Rattle.hippo_lines.specs.Forms.{loads}
 use Rattle.hippo_commands.specs.Commands.{ask}
 use Rattle.hippo_engine.specs.declared.engine.Engine.{Engine}
-use Rattle.hippo_engine.specs.Changing.{IsChange, FindsChange, Changes, IsRefused}
-use Rattle.hippo_engine.specs.Checks.{Checked, Refuses, ◌>>=◌}
-use Rattle.hippo_engine.specs.Deeds.{Deed}
-use Rattle.hippo_engine.specs.Judging.{judged_change, insert_of, judged_load}
+use Rattle.hippo_judging.specs.Changes.{IsChange, FindsChange}
+use Rattle.hippo_engine.specs.Changing.{Changes, IsRefused}
+use Rattle.hippo_judging.specs.Checks.{Refuses}
+use Rattle.hippo_judging.specs.Judging.{judged_load}
 use Rattle.hippo_engine.proofs.ChangeLemmas.{adds_change}
-
-module _ (history : History) (world : World) (session : ℕ) (table : Name) (text : Txt) (known : KnownNames) (console : session ≡ 0)
-    (names : known ≡ known_at history) where
-  -- at the console a record is judged once its INSERT is found
-  at_console : judged_load history world session table text ≡ (insert_of known table text >>= λ insert. judged_change history world 0 insert)
-  at_console =
-      ap (λ (n : ℕ). judged_load history world n table text) console
-      ∙ ap (λ (k : KnownNames). insert_of k table text >>= λ insert. judged_change history world 0 insert) (sym names)
-
-  pub load_found : (insert : Stmt) (found : Result Entry Refusal) → insert_of known table text ≡ Ok insert
-      → FindsChange history world (judged_change history world 0 insert) found
-      → FindsChange history world (judged_load history world session table text) found
-  load_found insert found is finds =
-      subst (λ (judgement : Checked Deed). FindsChange history world judgement found)
-      (sym (at_console ∙ ap (λ (checked : Checked Stmt). checked >>= λ insert. judged_change history world 0 insert) is)) finds
-
-  pub load_refused : (refusal : Refusal) → Refuses (insert_of known table text) refusal
-      → Refuses (judged_load history world session table text) refusal
-  load_refused refusal (inl is) =
-      inl (at_console ∙ ap (λ (checked : Checked Stmt). checked >>= λ insert. judged_change history world 0 insert) is)
-  load_refused refusal (inr memory) = inr memory
 
 -- a record that adds an entry
 found_load : (session : ℕ) (table : Name) (text : Txt) (entry : Entry) (engine : Engine) → session ≡ 0

@@ -13,7 +13,7 @@ use Rattle.hippo_commands.specs.Commands.{Command}
 use Rattle.hippo_engine.specs.declared.engine.Engine.{Engine}
 use Rattle.hippo_engine.specs.declared.faults.EngineFault.{EngineFault}
 use Rattle.hippo_engine.specs.declared.faults.EngineFault.TheVariants.{Damaged}
-use Rattle.hippo_engine.specs.Judging.{judged}
+use Rattle.hippo_judging.specs.Judging.{judged}
 use Rattle.hippo_engine.specs.Effects.{effect_of, IsEffect}
 use Rattle.hippo_engine.specs.Ledgers.{reads_kept, Tallies}
 use Rattle.hippo_engine.specs.Carrying.{Holds, AtWork, as_call, is_carried, shown, Carries}

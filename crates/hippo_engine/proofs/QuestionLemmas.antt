@@ -29,17 +29,18 @@ use Rattle.hippo_commands.specs.Commands.{Command, state, who_commands}
 use Rattle.hippo_engine.specs.declared.engine.Engine.{Engine}
 use Rattle.hippo_engine.specs.declared.faults.EngineFault.{EngineFault}
 use Rattle.hippo_engine.specs.declared.faults.EngineFault.TheVariants.{Keeper}
-use Rattle.hippo_engine.specs.declared.asking.Asking.{Asking}
-use Rattle.hippo_engine.specs.declared.asking.Delivery.{Delivery}
-use Rattle.hippo_engine.specs.declared.asking.Delivery.TheVariants as delivered
-use Rattle.hippo_engine.specs.Checks.{Checked, ◌>>=◌, refused_if, open_session}
-use Rattle.hippo_engine.specs.Deeds.{Deed, Question, asked_by}
-use Rattle.hippo_engine.specs.Judging.{deed_for, judged}
-use Rattle.hippo_engine.specs.Effects.{Effect, only_reply, next_entry, row_limit, question_rows, within_limit, asked, done, effect_of, IsShortAnswer, IsShort, IsEffect, may_do_nothing}
+use Rattle.hippo_judging.specs.declared.asking.Asking.{Asking}
+use Rattle.hippo_judging.specs.declared.asking.Delivery.{Delivery}
+use Rattle.hippo_judging.specs.declared.asking.Delivery.TheVariants as delivered
+use Rattle.hippo_judging.specs.Checks.{Checked, ◌>>=◌, refused_if, open_session}
+use Rattle.hippo_judging.specs.Deeds.{Deed, Question, asked_by, next_entry}
+use Rattle.hippo_judging.specs.Judging.{deed_for, judged}
+use Rattle.hippo_engine.specs.Effects.{Effect, only_reply, row_limit, question_rows, within_limit, asked, done, effect_of, IsShortAnswer, IsShort, IsEffect, may_do_nothing}
 use Rattle.hippo_engine.specs.Ledgers.{none_taken}
 use Rattle.hippo_engine.specs.Carrying.{Carries}
 use Rattle.hippo_engine.proofs.CarryingLemmas.{Holds-same, Holds-more}
-use Rattle.hippo_engine.specs.Asking.{question_of, deed_asked, entry_of, KeptAnswer, Asks, answer_said, world_left, HandsOut, Replies}
+use Rattle.hippo_judging.specs.Asking.{question_of, deed_asked}
+use Rattle.hippo_engine.specs.Questions.{entry_of, KeptAnswer, Asks, answer_said, world_left, HandsOut, Replies}
 use Rattle.hippo_engine.specs.Watching.{alarms_now}
 use Rattle.hippo_engine.proofs.ShortLemmas.{takes_some, short, refused, done_for}
 

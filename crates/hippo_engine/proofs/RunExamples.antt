@@ -11,8 +11,8 @@ use Rattle.hippo_model.specs.Terms.{History, ShownRow}
 use Rattle.hippo_model.proofs.Truths.{truths}
 use Rattle.hippo_model.proofs.ChangedOperands.{changes_of_operands}
 use Rattle.hippo_catalog.proofs.ComparedOperands.{comparisons_of}
-use Rattle.hippo_engine.specs.Deeds as deeds
-use Rattle.hippo_engine.specs.Judging.{judged}
+use Rattle.hippo_judging.specs.Deeds as deeds
+use Rattle.hippo_judging.specs.Judging.{judged}
 use Rattle.hippo_engine.specs.Effects.{asked}
 use Rattle.hippo_values.specs.Texts.{Txt}
 use Rattle.std.specs.List.{flat_map}

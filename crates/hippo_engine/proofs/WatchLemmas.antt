@@ -41,13 +41,13 @@ use Rattle.hippo_commands.specs.Commands.{Command, ask, state}
 use Rattle.hippo_engine.specs.declared.engine.Engine.{Engine}
 use Rattle.hippo_engine.specs.Carrying.{AddsNothing, shown}
 use Rattle.hippo_engine.specs.Changing.{IsRefused}
-use Rattle.hippo_engine.specs.Checks.{Checked, Finds, ◌>>=◌, by_console}
-use Rattle.hippo_engine.specs.Deeds.{Deed, Question, asked_by}
-use Rattle.hippo_engine.specs.Deeds as deeds
-use Rattle.hippo_engine.specs.Effects.{Effect, only_reply, done, effect_of, with_watch, alarm_line, alarms_from, next_entry, IsEffect}
-use Rattle.hippo_engine.specs.Judging.{audit_in, judged}
+use Rattle.hippo_judging.specs.Checks.{Checked, Finds, ◌>>=◌, by_console, held_watch}
+use Rattle.hippo_judging.specs.Deeds.{Deed, Question, asked_by, next_entry}
+use Rattle.hippo_judging.specs.Deeds as deeds
+use Rattle.hippo_engine.specs.Effects.{Effect, only_reply, done, effect_of, with_watch, alarm_line, alarms_from, IsEffect}
+use Rattle.hippo_judging.specs.Judging.{audit_in, judged}
 use Rattle.hippo_engine.specs.Ledgers.{none_taken}
-use Rattle.hippo_engine.specs.Watching.{AddsAlarm, AddsAlarms, alarms_now, held_watch, watch_set, Watches}
+use Rattle.hippo_engine.specs.Watching.{AddsAlarm, AddsAlarms, alarms_now, watch_set, Watches}
 use Rattle.hippo_engine.proofs.ShortLemmas.{short, refused, done_for}
 
 -- ---- one watch

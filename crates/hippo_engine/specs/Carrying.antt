@@ -17,13 +17,13 @@ use Rattle.hippo_replay.specs.TakingIn.{HasLoaded}
 use Rattle.hippo_report.specs.declared.refusal.Refusal.{Refusal}
 use Rattle.hippo_report.specs.declared.refusal.Refusal.TheVariants.{NoSuchQuery}
 use Rattle.hippo_report.specs.Refusals.{refusal_line}
-use Rattle.hippo_world.specs.declared.worlds.World.{World as HeldWorld}
 use Rattle.hippo_world.specs.Holding.{world_of, KeepsAudits, JobsFit, WatchesFit, taken_of}
 use Rattle.hippo_commands.specs.Commands.{Command, wrong}
 use Rattle.hippo_engine.specs.declared.engine.Engine.{Engine}
 use Rattle.hippo_engine.specs.declared.faults.EngineFault.{EngineFault}
 use Rattle.hippo_engine.specs.declared.faults.EngineFault.TheVariants.{Keeper, Write, Damaged}
-use Rattle.hippo_engine.specs.Judging.{judged}
+use Rattle.hippo_judging.specs.Checks.{reply_room}
+use Rattle.hippo_judging.specs.Judging.{judged}
 use Rattle.hippo_engine.specs.Effects.{Effect, only_reply, effect_of, IsEffect}
 use Rattle.hippo_engine.specs.Ledgers.{reads_kept, Tallies}
 
@@ -60,10 +60,6 @@ is_carried (Ok value) = true
 is_carried (Err Keeper) = false
 is_carried (Err Write) = true
 is_carried (Err (Damaged number)) = false
-
--- how many bytes of a reply there is always room for
-abbrev pub reply_room : ℕ
-reply_room = 64
 
 -- what holds of each command that a line gives: a refusal of nobody's line is short
 abbrev pub IsOfLine : Command → Type 0

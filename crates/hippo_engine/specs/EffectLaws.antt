@@ -5,8 +5,9 @@ use Rattle.hippo_model.specs.Terms.{History}
 use Rattle.hippo_report.specs.declared.refusal.Refusal.{Refusal}
 use Rattle.hippo_world.specs.Worlds.{World}
 use Rattle.hippo_commands.specs.Commands.{Command}
-use Rattle.hippo_engine.specs.Judging.{judged}
-use Rattle.hippo_engine.specs.Effects.{Effect, next_entry, effect_of}
+use Rattle.hippo_judging.specs.Judging.{judged}
+use Rattle.hippo_judging.specs.Deeds.{next_entry}
+use Rattle.hippo_engine.specs.Effects.{Effect, effect_of}
 
 -- an effect leaves history and world as they were
 pub record ChangesNothing (world : World) (effect : Effect) : Type 0 where

@@ -1,11 +1,10 @@
 -- What is done for a line: its reply, the entries that it adds, and the world after it.
-use Rattle.std.specs.Prelude.{◌≡◌, ◌⊎◌, ◌≤◌, ℕ, ◌+◌, Bool, true, false, nat_lt, List, [], ◌∷◌, ◌++◌, flat_map, length, Option, Some, None, Ok, Err, if◌then◌else◌, codes, decimal}
+use Rattle.std.specs.Prelude.{◌≡◌, ◌⊎◌, ◌≤◌, ℕ, ◌+◌, Bool, true, false, nat_lt, List, [], ◌∷◌, ◌++◌, flat_map, length, Option, Some, None, Ok, Err, if◌then◌else◌, codes}
 use Rattle.std.specs.List.{enumerate_from}
 use Rattle.std.specs.Option.{option_map_or}
 use Rattle.hippo_values.specs.Texts.{Txt}
 use Rattle.hippo_model.specs.declared.audit.Audit.{Audit}
 use Rattle.hippo_model.specs.declared.audit.Flag.{Flag}
-use Rattle.hippo_model.specs.declared.entry.Act.{Act}
 use Rattle.hippo_model.specs.declared.entry.Entry.{Entry}
 use Rattle.hippo_model.specs.Terms.{History, ShownRow}
 use Rattle.hippo_model.specs.Verdicts.{Context}
@@ -26,10 +25,10 @@ use Rattle.hippo_audit_job.specs.Jobs.{OpenAudit, step_end}
 use Rattle.hippo_world.specs.Worlds.{World, with_at, with_session, with_cursor, new_session, new_cursor, rows_next, moved_on}
 use Rattle.hippo_lines.specs.Forms.{steps}
 use Rattle.hippo_commands.specs.Commands.{Command, ask, who_commands, takes_memory}
-use Rattle.hippo_engine.specs.Deeds.{Deed, Question, asked_by}
-use Rattle.hippo_engine.specs.Deeds as deeds
-use Rattle.hippo_engine.specs.Checks.{Checked}
-use Rattle.hippo_engine.specs.Judging.{judged}
+use Rattle.hippo_judging.specs.Deeds.{Deed, Question, asked_by, next_entry}
+use Rattle.hippo_judging.specs.Deeds as deeds
+use Rattle.hippo_judging.specs.Checks.{Checked}
+use Rattle.hippo_judging.specs.Judging.{judged}
 
 -- what a line leaves: its reply, the entries that it adds to the history, and the world after it
 pub record Effect : Type 0 where
@@ -44,10 +43,6 @@ row_limit = 100000
 -- a reply alone
 abbrev pub only_reply : World → Txt → Effect
 only_reply world reply = record { reply = reply; added = []; world = world }
-
--- an act as the next entry
-abbrev pub next_entry : History → World → Act → Entry
-next_entry history world act = record { seq = length history + 1; moment = world.clock; act = act }
 
 -- a line for each member, and how many there are
 abbrev pub listed : {A : Type 0} → ℕ → (A → Txt) → List A → Txt

@@ -1,11 +1,8 @@
-pub mod Deeds
-pub mod Checks
-pub mod Judging
 pub mod Effects
 pub mod Ledgers
 pub mod Carrying
 pub mod Changing
-pub mod Asking
+pub mod Questions
 pub mod Watching
 pub mod Explaining
 pub mod Auditing

@@ -1,5 +1,5 @@
 -- What watches say of a question that is asked now, and when one is set or ended.
-use Rattle.std.specs.Prelude.{◌≡◌, ℕ, true, List, [], ◌++◌, Option, Some, IfSome, Result, Ok, ok_or}
+use Rattle.std.specs.Prelude.{◌≡◌, ℕ, true, List, [], ◌++◌, Option, Some, IfSome, Ok, ok_or}
 use Rattle.std.specs.Option.{option_map_or}
 use Rattle.hippo_values.specs.Texts.{Txt}
 use Rattle.hippo_values.specs.declared.moments.Moment.{Moment}
@@ -13,17 +13,17 @@ use Rattle.hippo_audit_job.specs.declared.past.Past.{Past}
 use Rattle.hippo_audit_job.specs.Examining.{IsAuditOf}
 use Rattle.hippo_watch.specs.Alarms.{IsAskedNext}
 use Rattle.hippo_replay.specs.Standing.{StandsFor}
-use Rattle.hippo_report.specs.declared.refusal.Refusal.TheVariants.{NoWatch, WatchLimit}
-use Rattle.hippo_world.specs.Worlds.{World, at_number, free_number}
+use Rattle.hippo_report.specs.declared.refusal.Refusal.TheVariants.{WatchLimit}
+use Rattle.hippo_world.specs.Worlds.{World, free_number}
 use Rattle.hippo_world.specs.Holding.{world_of}
 use Rattle.hippo_world.specs.Auditing.{AreWatching}
 use Rattle.hippo_commands.specs.Commands.{Command, who_commands}
 use Rattle.hippo_engine.specs.declared.engine.Engine.{Engine}
-use Rattle.hippo_engine.specs.Checks.{Checked, ◌>>=◌, by_console}
-use Rattle.hippo_engine.specs.Deeds.{Deed, Question, asked_by}
-use Rattle.hippo_engine.specs.Deeds as deeds
-use Rattle.hippo_engine.specs.Effects.{alarm_line, alarms_from, alarms, next_entry, may_do_nothing}
-use Rattle.hippo_engine.specs.Judging.{judged}
+use Rattle.hippo_judging.specs.Checks.{Checked, ◌>>=◌}
+use Rattle.hippo_judging.specs.Deeds.{Deed, Question, asked_by, next_entry}
+use Rattle.hippo_judging.specs.Deeds as deeds
+use Rattle.hippo_engine.specs.Effects.{alarm_line, alarms_from, alarms, may_do_nothing}
+use Rattle.hippo_judging.specs.Judging.{judged}
 
 -- what stands at a watch's number says of a question that is asked now is added to a text
 abbrev pub AddsAlarm :
@@ -41,11 +41,6 @@ AddsAlarms past tables moment pair query watches old new =
 -- what the watches of a world say of a question that is asked in it
 abbrev pub alarms_now : History → World → Question → Txt
 alarms_now history world question = alarms history world (next_entry history world (asked_by question))
-
--- a watch stands at this number
-abbrev pub held_watch : World → ℕ → ℕ → Checked (Unit {0})
-held_watch world number at =
-    by_console number >>= λ _. ok_or (at_number world.watches at) (NoWatch at) >>= λ audit. Ok tt
 
 -- a number that is free, for a watch
 abbrev pub watch_set : World → Audit → Checked Deed

@@ -1,13 +1,11 @@
 //! DURING: an audit of all that was asked so far.
-ghost use Rattle.std.specs.Prelude.{◌≡◌, ◌≢◌, ◌⊎◌, ◌++◌, [], true, flat_map, bytes_eq, Some, IfOk, OnOk, Err as Bad};
+ghost use Rattle.std.specs.Prelude.{◌≡◌, ◌≢◌, ◌⊎◌, ◌++◌, true, flat_map, bytes_eq, Some, OnOk};
+ghost use Rattle.std.specs.Prelude.{Err as Bad};
 ghost use Rattle.std.specs.List.{IsDistinct};
 ghost use Rattle.std.specs.Result.{result_map_both};
 ghost use Rattle.hippo_values.specs.Texts.{Txt as Text};
 ghost use Rattle.hippo_model.specs.declared.statement.Stmt.TheVariants as stmt;
-ghost use Rattle.hippo_model.specs.Terms.{History};
 ghost use Rattle.hippo_keeper.specs.Keeping.{IsReady};
-ghost use Rattle.hippo_audit_job.specs.Examining.{IsAuditOf};
-ghost use Rattle.hippo_replay.specs.Standing.{StandsFor, IsSound};
 ghost use Rattle.hippo_report.specs.declared.refusal.Refusal.TheVariants as refusals;
 ghost use Rattle.hippo_report.specs.Flags.{flag_line};
 ghost use Rattle.hippo_report.specs.Refusals.{refusal_line};
@@ -15,63 +13,22 @@ ghost use Rattle.hippo_commands.specs.Commands.{state as command};
 ghost use Rattle.hippo_engine.specs.declared.faults.EngineFault.TheVariants.{Write as WriteFailed};
 ghost use Rattle.hippo_engine.specs.Auditing.{FindsFlags, ended, told_flags, TellsFlags};
 ghost use Rattle.hippo_engine.specs.Carrying.{AtWork, Carries};
-ghost use Rattle.hippo_catalog.specs.AuditExpressions.{audit_refused, audit_of};
-ghost use Rattle.hippo_commands.specs.Moments.{period_in};
-ghost use Rattle.hippo_engine.specs.Checks.{Finds, meant};
 ghost use Rattle.hippo_engine.specs.Effects.{listed};
-ghost use Rattle.hippo_engine.specs.Judging.{audit_in};
 
-use crate::changes::check_console;
 use crate::engine::{Engine, Reply};
 use crate::faults::EngineFault;
-use crate::refusals::name_refusal;
 use crate::replies::refuse_for_memory;
 use hippo_audit_job::{Job, Past};
 use hippo_backlog::ReadFault;
-use hippo_catalog::Catalog;
 use hippo_combine::Combine;
+use hippo_judging::audit_in;
 use hippo_keeper::{Keeper, Steps};
 use hippo_model::{Audit, Flag, RawAudit};
 use hippo_replay::State;
-use hippo_report::{Format, Refusal, flag_line, number_line};
-use hippo_typing::resolve_audit;
+use hippo_report::{Format, flag_line, number_line};
 use hippo_values::Memory;
 use std::alloc::Global;
 use std::sync::ledger::Ledger;
-
-// What an audit expression means, by names, types and period.
-fn meaning(alloc: Global, catalog: &Catalog, written: &RawAudit) -> Result<Audit, Refusal>
-    ensures found { let period = period_in written.now in Finds (λ audit. audit)
-        (meant (audit_refused catalog.now.names period written.now)
-        (audit_of catalog.now.names period written.now)) result }
-    ensures unrefused { let period = period_in written.now in IfOk result (λ audit.
-        (audit_refused catalog.now.names period written.now ≡ [])
-        × (audit ≡ audit_of catalog.now.names period written.now)) }
-{
-    match resolve_audit(alloc, catalog, written) {
-        Ok(audit) => Ok(audit),
-        Err(fault) => Err(name_refusal(fault)),
-    }
-}
-
-/// The audit that an audit expression of the console means, or why it is refused.
-pub(crate) fn audit_in(
-    alloc: Global,
-    state: &State,
-    session: u8,
-    written: &RawAudit,
-) -> Result<Audit, Refusal>
-    requires sound { IsSound state.now }
-    ensures found { (history : History) → StandsFor state.now history
-        → Finds (λ audit. audit) (audit_in history session written.now) result }
-    ensures console { OnOk result (session ≡ 0) }
-    ensures audit { IfOk result (λ audit. (history : History) → StandsFor state.now history
-        → IsAuditOf history audit) }
-    ensures differ { IfOk result (λ audit. IsDistinct bytes_eq audit.tables) }
-{
-    check_console(session)?;
-    meaning(alloc, &state.catalog, written)
-}
 
 // A job that has looked at all that was asked so far.
 fn looked_over<P: Keeper, L: Ledger>(
@@ -179,8 +136,8 @@ fn tell_flags<P: Keeper, L: Ledger>(
 }
 
 impl Engine {
-    /// Lists the questions of all that was asked so far that an audit flags. Answers `Keeper` only where the keeper
-    /// failed, `Damaged` only where it does not tell what it keeps.
+    /// Lists the questions of all that was asked so far that an audit flags. Answers `Keeper` only
+    /// where the keeper failed, `Damaged` only where it does not tell what it keeps.
     pub(crate) fn audit<P: Keeper, L: Ledger>(
         &mut self,
         alloc: Global,

@@ -10,10 +10,10 @@ ghost use Rattle.hippo_commands.specs.Lent.{command};
 ghost use Rattle.hippo_engine.specs.declared.faults.EngineFault.TheVariants.{Write as WriteFailed};
 ghost use Rattle.hippo_engine.specs.Carrying.{IsOfLine, AtWork, is_carried, Carries};
 
-use crate::asking::Handing;
 use crate::faults::EngineFault;
 use hippo_commands::{Command, command_of};
 use hippo_io::{Line, Sink};
+use hippo_judging::Handing;
 use hippo_keeper::{Keeper, Steps};
 use hippo_model::Stmt;
 use hippo_replay::State;

@@ -1,5 +1,5 @@
 //! EXPLAIN: which cells were denied to a logged question, and by which rules.
-ghost use Rattle.std.specs.Prelude.{◌≡◌, ◌≢◌, ◌⊎◌, ◌++◌, ◌≤◌, ◌∷◌, [], true, flat_map, Some, OnOk, Err as Bad};
+ghost use Rattle.std.specs.Prelude.{◌≡◌, ◌≢◌, ◌⊎◌, ◌++◌, true, flat_map, Some, OnOk, Err as Bad};
 ghost use Rattle.hippo_values.specs.Texts.{Txt as Text};
 ghost use Rattle.hippo_model.specs.declared.statement.Stmt.TheVariants as stmt;
 ghost use Rattle.hippo_keeper.specs.Keeping.{IsReady};
@@ -8,20 +8,18 @@ ghost use Rattle.hippo_report.specs.Refusals.{refusal_line};
 ghost use Rattle.hippo_commands.specs.Commands.{state as command};
 ghost use Rattle.hippo_engine.specs.declared.faults.EngineFault.TheVariants.{Write as WriteFailed};
 ghost use Rattle.hippo_engine.specs.Carrying.{AtWork, Carries};
-ghost use Rattle.hippo_engine.specs.Checks.{is_question};
 ghost use Rattle.hippo_engine.specs.Effects.{denial_line, listed};
-ghost use Rattle.hippo_engine.specs.Explaining.{number_in, IsRead, ReadsEntry, ExplainsEntry, Explains};
-ghost use Rattle.hippo_engine.specs.Explaining.{explained_line, ended, TellsCells};
+ghost use Rattle.hippo_engine.specs.Explaining.{ExplainsEntry, Explains, explained_line, ended};
+ghost use Rattle.hippo_engine.specs.Explaining.{TellsCells};
 
-use crate::changes::check_console;
 use crate::engine::{Engine, Reply};
 use crate::faults::EngineFault;
 use crate::replies::{refuse, refuse_for_memory};
-use hippo_backlog::{ReadFault, fault_of};
+use hippo_backlog::ReadFault;
 use hippo_denials::{DenialsFault, Denied, denied_cells};
-use hippo_entry::decode;
+use hippo_judging::{check_console, is_question, number_in, read_entry};
 use hippo_keeper::{Keeper, Steps};
-use hippo_model::{Act, Entry, StoredEntry};
+use hippo_model::Entry;
 use hippo_replay::State;
 use hippo_report::{Refusal, denied_line, number_line};
 use hippo_values::{Memory, Sequence};
@@ -36,72 +34,6 @@ pub enum ExplainFault {
     /// No question has the number.
     NoQuestion,
     Denials(DenialsFault),
-}
-
-// The number of an entry among so many.
-fn number_in(number: &i64, count: u64) -> Option<u64>
-    ensures { result ≡ number_in number.now count }
-{
-    if *number < 1 {
-        return None;
-    }
-    let number = number.unsigned_abs();
-    if number <= count { Some(number) } else { None }
-}
-
-fn is_question(act: &Act) -> bool
-    ensures { result ≡ is_question act.now }
-{
-    matches!(act, Act::Asked { .. })
-}
-
-// The entry with a number that a stored form is.
-fn entry_of(alloc: Global, kept: &StoredEntry, number: u64) -> Result<Entry, ReadFault>
-    ensures { IsRead (kept.now ∷ []) number result }
-{
-    match decode(alloc, kept) {
-        Ok(Some(entry)) => {
-            if entry.seq == number {
-                Ok(entry)
-            } else {
-                drop(entry);
-                Err(ReadFault::Damaged(number))
-            }
-        }
-        Ok(None) => Err(ReadFault::Damaged(number)),
-        Err(Memory) => Err(ReadFault::Memory),
-    }
-}
-
-// The entry with a number, where it stands first.
-fn first_entry(alloc: Global, list: &[StoredEntry], number: u64) -> Result<Entry, ReadFault>
-    ensures { IsRead list.now number result }
-{
-    match list.first() {
-        Some(kept) => entry_of(alloc, kept, number),
-        None => Err(ReadFault::Damaged(number)),
-    }
-}
-
-// The entry with a number in the history that a keeper keeps.
-fn read_entry<P: Keeper, L: Ledger>(
-    alloc: Global,
-    keeper: &mut P,
-    number: u64,
-    steps: &mut Steps<L>,
-) -> Result<Entry, ReadFault>
-    requires ready { IsReady true (P.state keeper.old) }
-    requires some { 1 ≤ number }
-    ensures reads { ReadsEntry number result (P.state keeper.old) (P.state keeper.new) steps.old steps.new }
-{
-    match keeper.read_all(alloc, number - 1, 1, steps) {
-        Ok(list) => {
-            let entry = first_entry(alloc, list.as_slice(), number);
-            drop(list);
-            entry
-        }
-        Err(fault) => Err(fault_of(fault)),
-    }
 }
 
 // The cells that were denied to an entry, if it is a question.
@@ -239,8 +171,9 @@ fn tell_cells<P: Keeper, L: Ledger>(
 }
 
 impl Engine {
-    /// Tells the console which cells were denied to the question with a number, and by which rules, at the question's
-    /// own time. Answers `Keeper` only where the keeper failed, `Damaged` only where it does not tell what it keeps.
+    /// Tells the console which cells were denied to the question with a number, and by which rules,
+    /// at the question's own time. Answers `Keeper` only where the keeper failed, `Damaged` only
+    /// where it does not tell what it keeps.
     pub(crate) fn explain<P: Keeper, L: Ledger>(
         &mut self,
         alloc: Global,

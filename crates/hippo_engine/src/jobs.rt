@@ -12,14 +12,14 @@ ghost use Rattle.hippo_engine.specs.Auditing.{ended};
 ghost use Rattle.hippo_engine.specs.Carrying.{AtWork, AddsNothing, Carries};
 ghost use Rattle.hippo_engine.specs.Jobs.{BeginsJob, progress_line, step_text, SaysStep, TellsStep};
 
-use crate::auditing::{append_flags, audit_in};
-use crate::changes::check_console;
+use crate::auditing::append_flags;
 use crate::engine::{Engine, Reply};
 use crate::faults::EngineFault;
 use crate::fetching::{append_end, append_part};
 use crate::replies::{refuse, refuse_for_memory, say_done, say_number};
 use hippo_audit_job::Past;
 use hippo_backlog::ReadFault;
+use hippo_judging::{audit_in, check_console};
 use hippo_keeper::{Keeper, Steps};
 use hippo_model::{Audit, RawAudit};
 use hippo_report::{Format, Refusal};
@@ -89,7 +89,8 @@ fn tell_step(
 }
 
 impl Engine {
-    // A job begins at the lowest number that is free, over all that was asked so far. Takes no memory.
+    // A job begins at the lowest number that is free, over all that was asked so far. Takes no
+    // memory.
     fn begin_job(&mut self, alloc: Global, audit: Audit)
         requires differ { IsDistinct bytes_eq audit.tables }
         ensures { BeginsJob (free_number self.old.world.jobs) audit self.old self.new }
@@ -155,9 +156,10 @@ impl Engine {
         }
     }
 
-    /// Lets an audit job of the console look at so many further entries. The flags that it finds are printed, or they
-    /// wait where memory is short. Answers `Keeper` only where the keeper failed, and `Damaged` only where it does not
-    /// tell what it keeps. Each version that is read counts as a step.
+    /// Lets an audit job of the console look at so many further entries. The flags that it finds
+    /// are printed, or they wait where memory is short. Answers `Keeper` only where the keeper
+    /// failed, and `Damaged` only where it does not tell what it keeps. Each version that is read
+    /// counts as a step.
     pub(crate) fn step_job<P: Keeper, L: Ledger>(
         &mut self,
         alloc: Global,

@@ -1,7 +1,6 @@
 //! What each line of the input does, and the engine that does it.
 #![tactic(auto)]
 
-mod asking;
 mod auditing;
 mod changes;
 mod engine;
@@ -13,9 +12,7 @@ pub mod laws;
 mod loading;
 mod plain;
 mod questions;
-mod refusals;
 mod replies;
-mod session_checks;
 mod sessions;
 mod watches;
 

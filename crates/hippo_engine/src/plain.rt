@@ -1,5 +1,5 @@
 //! What a line does that says nothing or is refused whatever the history; and writing a reply.
-ghost use Rattle.std.specs.Prelude.{◌≡◌, ◌≢◌, true, false, Err, OnOk};
+ghost use Rattle.std.specs.Prelude.{◌≡◌, ◌≢◌, true, Err, OnOk};
 ghost use Rattle.hippo_io.specs.Faults.{HasRisen};
 ghost use Rattle.hippo_io.specs.Told.{Appends, AppendsFront};
 ghost use Rattle.hippo_commands.specs.Commands.{nothing, wrong};

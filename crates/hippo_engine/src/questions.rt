@@ -1,5 +1,6 @@
 //! Questions: each is kept before it is answered.
-ghost use Rattle.std.specs.Prelude.{◌≡◌, ◌≢◌, ◌⊎◌, ℕ, ◌+◌, ◌<◌, ◌≤◌, ◌^◌, List, [], ◌∷◌, ◌++◌, length, true, Some, Ok as Good, Err as Bad, IfOk, OnOk};
+ghost use Rattle.std.specs.Prelude.{◌≡◌, ◌≢◌, ◌⊎◌, ℕ, ◌+◌, ◌<◌, ◌≤◌, ◌^◌, List, [], ◌∷◌, ◌++◌};
+ghost use Rattle.std.specs.Prelude.{length, true, Some, Err as Bad, IfOk, OnOk};
 ghost use Rattle.hippo_model.specs.declared.entry.Act.TheVariants.{Asked};
 ghost use Rattle.hippo_model.specs.Terms.{History, ShownRow};
 ghost use Rattle.hippo_model.specs.Validity.{may_follow};
@@ -17,10 +18,10 @@ ghost use Rattle.hippo_commands.specs.Commands.{state};
 ghost use Rattle.hippo_engine.specs.declared.faults.EngineFault.TheVariants.{Write as WriteFailed};
 ghost use Rattle.hippo_engine.specs.Carrying.{AtWork, IsBacked, Carries};
 ghost use Rattle.hippo_engine.specs.Effects.{row_limit, question_rows, listed};
-ghost use Rattle.hippo_engine.specs.Asking.{question_of, statement_asked, IsAnswerable, entry_of, Asks};
-ghost use Rattle.hippo_engine.specs.Asking.{short_line, answer_said, world_left, IsUnkept, IsHandedOut, IsShort, HandsOut, Replies};
+ghost use Rattle.hippo_judging.specs.Asking.{question_of, statement_asked, IsAnswerable};
+ghost use Rattle.hippo_engine.specs.Questions.{entry_of, Asks, short_line, answer_said, world_left};
+ghost use Rattle.hippo_engine.specs.Questions.{IsUnkept, IsHandedOut, IsShort, HandsOut, Replies};
 
-use crate::asking::{Asking, Delivery, Handing, asks};
 use crate::engine::{Engine, Reply};
 use crate::faults::EngineFault;
 use crate::replies::{refuse, refuse_for_memory};
@@ -28,6 +29,7 @@ use crate::watches::alarms_of;
 use hippo_answering::answer;
 use hippo_csv::extract_lines;
 use hippo_eval::EvalFault;
+use hippo_judging::{Asking, Delivery, Handing, asks};
 use hippo_keeper::{Keeper, KeeperFault};
 use hippo_model::{Act, Answer, CellRow, Entry, RawSelect};
 use hippo_replay::State;
@@ -172,7 +174,8 @@ fn append_records(
     number_line(session, "end", rows.len() as u64, reply)
 }
 
-// What is said of an answer: its rows, its rows as records, or the number of the cursor that is to hold it.
+// What is said of an answer: its rows, its rows as records, or the number of the cursor that is to
+// hold it.
 fn append_answer(
     alloc: Global,
     session: u8,
@@ -275,8 +278,8 @@ fn say_too_many(session: u8, alarms: &str, reply: &mut Reply)
     }
 }
 
-// Hands out an answer: says its rows, or opens a cursor over them; or says that they are too many, or that memory was
-// short.
+// Hands out an answer: says its rows, or opens a cursor over them; or says that they are too many,
+// or that memory was short.
 fn hand_out_answer(
     alloc: Global,
     session: u8,
@@ -359,8 +362,9 @@ fn reply_to(
 }
 
 impl Engine {
-    /// Answers a question of a session, by its rows, by its rows as records or by a cursor over them: it is kept first,
-    /// and then answered over the history before it. Answers `Keeper` only where the keeper failed.
+    /// Answers a question of a session, by its rows, by its rows as records or by a cursor over
+    /// them: it is kept first, and then answered over the history before it. Answers `Keeper` only
+    /// where the keeper failed.
     pub(crate) fn question<P: Keeper>(
         &mut self,
         alloc: Global,

@@ -1,9 +1,10 @@
 //! Replies that are made anew, in a text that has room for them.
 ghost use Rattle.std.specs.Prelude.{◌≡◌, ◌⊎◌, ◌≤◌, Some, None, length};
-ghost use Rattle.hippo_report.specs.declared.refusal.Refusal.TheVariants.{Memory as NoMemory, MomentBack as IsBefore};
+ghost use Rattle.hippo_report.specs.declared.refusal.Refusal.TheVariants.{Memory as NoMemory};
+ghost use Rattle.hippo_report.specs.declared.refusal.Refusal.TheVariants.{MomentBack as IsBefore};
 ghost use Rattle.hippo_report.specs.Notices.{done_line, number_line};
 ghost use Rattle.hippo_report.specs.Refusals.{refusal_line};
-ghost use Rattle.hippo_engine.specs.Carrying.{reply_room};
+ghost use Rattle.hippo_judging.specs.Checks.{reply_room};
 
 use crate::engine::Reply;
 use hippo_report::{Refusal, done_line, number_line, refusal_line};
@@ -38,8 +39,8 @@ pub fn refuse_for_memory(who: Option<u8>, reply: &mut Reply)
     }
 }
 
-/// Makes the reply to a line that is not carried out: that of its refusal, or that of want of memory where the refusal
-/// is longer than the room and memory is short.
+/// Makes the reply to a line that is not carried out: that of its refusal, or that of want of
+/// memory where the refusal is longer than the room and memory is short.
 pub fn refuse(who: Option<u8>, refusal: &Refusal, reply: &mut Reply)
     ensures said { (reply.new ≡ refusal_line who refusal.now) ⊎ (reply.new ≡ refusal_line who NoMemory) }
     ensures fits { length (refusal_line who refusal.now) ≤ reply_room → reply.new ≡ refusal_line who refusal.now }

@@ -1,5 +1,5 @@
 //! The clock, and what short words ask for.
-ghost use Rattle.std.specs.Prelude.{◌≡◌, ◌≢◌, ℕ, int_lt, IfOk, Err};
+ghost use Rattle.std.specs.Prelude.{◌≡◌, ◌≢◌, int_lt, IfOk, Err};
 ghost use Rattle.hippo_lines.specs.Forms.{logs_in, logs_out, fetches, closes};
 ghost use Rattle.hippo_lines.specs.Lent.{request};
 ghost use Rattle.hippo_commands.specs.Commands as commands;
@@ -10,7 +10,7 @@ use crate::engine::Engine;
 use crate::faults::EngineFault;
 use crate::fetching::print_next;
 use crate::replies::{refuse, refuse_for_memory, refuse_moment, say_done};
-use crate::session_checks::{check_login, open_cursor, open_session};
+use hippo_judging::{check_login, open_cursor, open_session};
 use hippo_keeper::{Keeper, Steps};
 use hippo_lines::{RequestForm, WrittenName};
 use hippo_model::Pair;
@@ -94,7 +94,8 @@ impl Engine {
         }
     }
 
-    // Hands out rows of a cursor: they are printed first, and the cursor moves on where the reply is whole.
+    // Hands out rows of a cursor: they are printed first, and the cursor moves on where the reply
+    // is whole.
     fn fetch(&mut self, session: u8, cursor: u8, count: u32)
         ensures { IsQuiet (commands.ask session (fetches cursor count)) self.old self.new }
     {
@@ -119,8 +120,9 @@ impl Engine {
         }
     }
 
-    /// Does what a short word asks for in a session or at the console. Answers `Keeper` only where the keeper failed, and
-    /// `Damaged` only where it does not tell what it keeps. Each version that is read counts as a step.
+    /// Does what a short word asks for in a session or at the console. Answers `Keeper` only where
+    /// the keeper failed, and `Damaged` only where it does not tell what it keeps. Each version
+    /// that is read counts as a step.
     pub(crate) fn ask<P: Keeper, L: Ledger>(
         &mut self,
         alloc: Global,

@@ -1,5 +1,6 @@
 //! Watches: how one is set and ended, and what all say of a question that is asked now.
-ghost use Rattle.std.specs.Prelude.{◌≡◌, ◌+◌, ◌<◌, ◌≤◌, ◌^◌, ◌++◌, ℕ, [], Some, length, is_some, bytes_eq, IfOk, OnOk, IfErr};
+ghost use Rattle.std.specs.Prelude.{◌≡◌, ◌+◌, ◌<◌, ◌^◌, ◌++◌, ℕ, [], Some, is_some, bytes_eq, IfOk};
+ghost use Rattle.std.specs.Prelude.{OnOk};
 ghost use Rattle.std.specs.List.{IsDistinct, list_any};
 ghost use Rattle.std.specs.Option.{option_map_or};
 ghost use Rattle.hippo_values.specs.Texts.{Txt as Text};
@@ -10,19 +11,17 @@ ghost use Rattle.hippo_typing.specs.Meanings.{meaning};
 ghost use Rattle.hippo_watch.specs.Alarms.{AreOfSome};
 ghost use Rattle.hippo_watch.specs.AlarmLines.{alarm_text};
 ghost use Rattle.hippo_replay.specs.Standing.{StandsFor, IsSound};
-ghost use Rattle.hippo_report.specs.Refusals.{refusal_line};
 ghost use Rattle.hippo_world.specs.Holding.{world_of, WatchesFit};
 ghost use Rattle.hippo_commands.specs.Commands.{Command, ask, state as command};
-ghost use Rattle.hippo_engine.specs.Asking.{question_of};
-ghost use Rattle.hippo_engine.specs.Deeds.{Question as AskedQuestion};
-ghost use Rattle.hippo_engine.specs.Carrying.{reply_room, AddsNothing};
-ghost use Rattle.hippo_engine.specs.Watching.{AddsAlarm, AddsAlarms, alarms_now, held_watch, Watches};
+ghost use Rattle.hippo_judging.specs.Asking.{question_of};
+ghost use Rattle.hippo_judging.specs.Deeds.{Question as AskedQuestion};
+ghost use Rattle.hippo_engine.specs.Carrying.{AddsNothing};
+ghost use Rattle.hippo_engine.specs.Watching.{AddsAlarm, AddsAlarms, alarms_now, Watches};
 
-use crate::asking::Asking;
-use crate::auditing::audit_in;
 use crate::engine::{Engine, Reply};
 use crate::replies::{refuse, say_done, say_number};
 use hippo_audit_job::Past;
+use hippo_judging::{Asking, audit_in, held_watch};
 use hippo_model::{Audit, Pair, Query, RawAudit, SharedTuple};
 use hippo_replay::State;
 use hippo_report::Refusal;
@@ -224,7 +223,8 @@ fn tell_watched(
     }
 }
 
-/// What all watches say of a question that is asked now, in the order of their numbers; or want of memory.
+/// What all watches say of a question that is asked now, in the order of their numbers; or want of
+/// memory.
 pub(crate) fn alarms_of(
     alloc: Global,
     state: &State,
@@ -240,20 +240,6 @@ pub(crate) fn alarms_of(
     let mut said = Reply::with_room(alloc)?;
     tell_watched(alloc, state, world, asking, &mut said)?;
     Ok(said)
-}
-
-// Whether a watch stands at a number, for the console. Its refusals are short.
-fn held_watch(world: &World, session: u8, number: u8) -> Result<(), Refusal>
-    ensures found { result ≡ held_watch (world_of world.now) session number }
-    ensures fits { IfErr result (λ refusal. length (refusal_line (Some session) refusal) ≤ reply_room) }
-{
-    if session != 0 {
-        return Err(Refusal::ConsoleOnly);
-    }
-    match world.watches.at(usize::from(number)) {
-        Some(_) => Ok(()),
-        None => Err(Refusal::NoWatch(u64::from(number))),
-    }
 }
 
 impl Engine {
@@ -274,7 +260,8 @@ impl Engine {
         }
     }
 
-    /// Watches from now on for what an audit flags, at the console alone, where its names and types mean something.
+    /// Watches from now on for what an audit flags, at the console alone, where its names and types
+    /// mean something.
     pub(crate) fn watch(&mut self, alloc: Global, session: u8, written: &RawAudit)
         requires { IsSound self.old.state }
         ensures { (text : Text) → AddsNothing (command session (stmt.Watch written.now) text) self.old self.new }

@@ -27,14 +27,14 @@ use Rattle.hippo_world.specs.Worlds.{World, at_number, free_number}
 use Rattle.hippo_lines.specs.Forms.{logs_in, logs_out, fetches, closes, steps, drops, unwatches, loads}
 use Rattle.hippo_commands.specs.Commands.{Command, nothing, wrong, ask, state}
 use Rattle.hippo_commands.specs.Commands as commands
-use Rattle.hippo_engine.specs.declared.asking.Delivery.{Delivery}
-use Rattle.hippo_engine.specs.declared.asking.Delivery.TheVariants as delivered
-use Rattle.hippo_engine.specs.declared.asking.Handing.{Handing}
-use Rattle.hippo_engine.specs.declared.asking.Handing.TheVariants.{Rows, Records, Cursor}
-use Rattle.hippo_engine.specs.Deeds.{Deed, Question}
-use Rattle.hippo_engine.specs.Deeds as deeds
-use Rattle.hippo_engine.specs.Checks.{Checked, ◌>>=◌, refused_if, by_console, open_session, may_log_in, meant, act_made, has_room, question_at}
-use Rattle.hippo_engine.specs.Judging.{judged, judged_login, judged_fetch, judged_close, judged_step, judged_drop, judged_unwatch, judged_wanted, judged_change, insert_of, judged_load, text_between, question_in, delivery_for, deed_for, judged_question, audit_in, judged_begin, judged_watch}
+use Rattle.hippo_judging.specs.declared.asking.Delivery.{Delivery}
+use Rattle.hippo_judging.specs.declared.asking.Delivery.TheVariants as delivered
+use Rattle.hippo_judging.specs.declared.asking.Handing.{Handing}
+use Rattle.hippo_judging.specs.declared.asking.Handing.TheVariants.{Rows, Records, Cursor}
+use Rattle.hippo_judging.specs.Deeds.{Deed, Question}
+use Rattle.hippo_judging.specs.Deeds as deeds
+use Rattle.hippo_judging.specs.Checks.{Checked, ◌>>=◌, refused_if, by_console, open_session, may_log_in, meant, act_made, has_room, question_at}
+use Rattle.hippo_judging.specs.Judging.{judged, judged_login, judged_fetch, judged_close, judged_step, judged_drop, judged_unwatch, judged_wanted, judged_change, insert_of, judged_load, text_between, question_in, delivery_for, deed_for, judged_question, audit_in, judged_begin, judged_watch}
 
 -- a job that is stepped stands at its number, and what begins gets a free one
 abbrev pub IsFounded : World → Checked Deed → Type 0

@@ -18,10 +18,10 @@ use Rattle.hippo_report.specs.declared.refusal.Refusal.TheVariants.{Memory}
 use Rattle.hippo_audit_job.specs.Jobs.{OpenAudit, step_end}
 use Rattle.hippo_world.specs.Worlds.{World, at_number, with_at, free_number}
 use Rattle.hippo_commands.specs.Commands.{Command, command_of, who_commands}
-use Rattle.hippo_engine.specs.Deeds.{Deed}
-use Rattle.hippo_engine.specs.Deeds as deeds
-use Rattle.hippo_engine.specs.Checks.{Checked}
-use Rattle.hippo_engine.specs.Judging.{judged}
+use Rattle.hippo_judging.specs.Deeds.{Deed}
+use Rattle.hippo_judging.specs.Deeds as deeds
+use Rattle.hippo_judging.specs.Checks.{Checked}
+use Rattle.hippo_judging.specs.Judging.{judged}
 use Rattle.hippo_engine.specs.Effects.{Effect, done, carried_out, row_limit, question_rows, only_reply, flag_lines, step_flags, looked_upto, with_job, new_job, IsShort, IsEffect}
 use Rattle.hippo_engine.specs.Runs.{IsRun, world_after}
 use Rattle.hippo_run_laws.specs.Lines.{OfEachLine, NoneAsks}

@@ -37,7 +37,7 @@ use Rattle.hippo_spj_reader.specs.SelectFinder.{leading_item, leading_member, le
 use Rattle.hippo_stmt_reader.specs.StatementFinder.{placed_select_of, open_of, extract_of, select_of, statement_of}
 use Rattle.hippo_typing.specs.Meanings.{meaning, meaning_in}
 use Rattle.std.specs.Option.{option_map_or}
-use Rattle.hippo_engine.specs.Deeds as deeds
+use Rattle.hippo_judging.specs.Deeds as deeds
 use Rattle.hippo_engine.specs.Effects.{Effect, effect_of, done, alarms, only_reply, with_job, with_watch, new_job, looked_upto}
 use Rattle.hippo_engine.specs.Runs.{IsRun}
 use Rattle.hippo_engine.proofs.ExampleLines.{patient, treatment, nurse, entry, nurses_pair, clinic, world_within, question, all_rows, asked_for}

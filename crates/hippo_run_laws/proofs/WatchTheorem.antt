@@ -16,11 +16,11 @@ use Rattle.hippo_report.specs.Refusals.{refusal_line}
 use Rattle.hippo_report.specs.declared.refusal.Refusal.TheVariants.{Memory}
 use Rattle.hippo_world.specs.Worlds.{World, at_number, free_number}
 use Rattle.hippo_commands.specs.Commands.{Command, command_of, who_commands}
-use Rattle.hippo_engine.specs.Deeds.{Deed, Question, asked_by}
-use Rattle.hippo_engine.specs.Deeds as deeds
-use Rattle.hippo_engine.specs.Checks.{Checked}
-use Rattle.hippo_engine.specs.Judging.{judged}
-use Rattle.hippo_engine.specs.Effects.{Effect, row_limit, next_entry, question_rows, alarm_line, asked, opened, done, carried_out, IsShort, IsEffect}
+use Rattle.hippo_judging.specs.Deeds.{Deed, Question, asked_by, next_entry}
+use Rattle.hippo_judging.specs.Deeds as deeds
+use Rattle.hippo_judging.specs.Checks.{Checked}
+use Rattle.hippo_judging.specs.Judging.{judged}
+use Rattle.hippo_engine.specs.Effects.{Effect, row_limit, question_rows, alarm_line, asked, opened, done, carried_out, IsShort, IsEffect}
 use Rattle.hippo_engine.specs.Runs.{IsRun}
 use Rattle.hippo_run_laws.specs.Lines.{NoneAsks}
 use Rattle.hippo_run_laws.specs.Watches.{alarm_of, alarm_texts, answer_to, question_answered, Heard, DeedHeard, JudgedHeard, flags_at, HasHeard}

@@ -15,10 +15,10 @@ use Rattle.hippo_report.specs.Refusals.{refusal_line}
 use Rattle.hippo_audit_job.specs.Jobs.{OpenAudit, step_end}
 use Rattle.hippo_world.specs.Worlds.{World, at_number}
 use Rattle.hippo_commands.specs.Commands.{Command, who_commands}
-use Rattle.hippo_engine.specs.Deeds.{Deed}
-use Rattle.hippo_engine.specs.Deeds as deeds
-use Rattle.hippo_engine.specs.Checks.{Checked}
-use Rattle.hippo_engine.specs.Judging.{judged}
+use Rattle.hippo_judging.specs.Deeds.{Deed}
+use Rattle.hippo_judging.specs.Deeds as deeds
+use Rattle.hippo_judging.specs.Checks.{Checked}
+use Rattle.hippo_judging.specs.Judging.{judged}
 use Rattle.hippo_engine.specs.Effects.{Effect, flag_lines}
 use Rattle.hippo_engine.specs.Runs.{world_after}
 use Rattle.hippo_run_laws.specs.Lines.{OfEachLine}

@@ -9,9 +9,9 @@ use Rattle.hippo_typing.specs.Meanings.{meaning}
 use Rattle.hippo_report.specs.Notices.{number_line}
 use Rattle.hippo_world.specs.Worlds.{World}
 use Rattle.hippo_commands.specs.Commands.{Command, command_of}
-use Rattle.hippo_engine.specs.Deeds.{Deed, Question, asked_by}
-use Rattle.hippo_engine.specs.Deeds as deeds
-use Rattle.hippo_engine.specs.Effects.{Effect, next_entry, done, flag_lines}
+use Rattle.hippo_judging.specs.Deeds.{Deed, Question, asked_by, next_entry}
+use Rattle.hippo_judging.specs.Deeds as deeds
+use Rattle.hippo_engine.specs.Effects.{Effect, done, flag_lines}
 use Rattle.hippo_engine.specs.Runs.{IsRun}
 use Rattle.hippo_run_laws.specs.Lines.{Does, NoneAsks}
 use Rattle.hippo_run_laws.specs.Jobs.{HasWritten, last_end, flags_in}

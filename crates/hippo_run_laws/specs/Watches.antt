@@ -15,11 +15,11 @@ use Rattle.hippo_report.specs.Refusals.{refusal_line}
 use Rattle.hippo_watch.specs.AlarmLines.{alarm_text}
 use Rattle.hippo_world.specs.Worlds.{World, at_number}
 use Rattle.hippo_commands.specs.Commands.{Command, who_commands}
-use Rattle.hippo_engine.specs.Deeds.{Deed, Question, asked_by}
-use Rattle.hippo_engine.specs.Deeds as deeds
-use Rattle.hippo_engine.specs.Checks.{Checked}
-use Rattle.hippo_engine.specs.Judging.{judged}
-use Rattle.hippo_engine.specs.Effects.{Effect, next_entry, done}
+use Rattle.hippo_judging.specs.Deeds.{Deed, Question, asked_by, next_entry}
+use Rattle.hippo_judging.specs.Deeds as deeds
+use Rattle.hippo_judging.specs.Checks.{Checked}
+use Rattle.hippo_judging.specs.Judging.{judged}
+use Rattle.hippo_engine.specs.Effects.{Effect, done}
 use Rattle.hippo_engine.specs.Runs.{history_after}
 use Rattle.hippo_run_laws.specs.Lines.{OfEachLine}
 

@@ -18,11 +18,11 @@ use Rattle.hippo_commands.specs.Commands.{Command, command_of, who_commands}
 use Rattle.hippo_engine.specs.declared.engine.Engine.{Engine}
 use Rattle.hippo_engine.specs.Carrying.{Holds, AtWork, Carries, HasEffect}
 use Rattle.hippo_engine.proofs.CarryingLemmas.{Holds-opening}
-use Rattle.hippo_engine.specs.Checks.{Checked}
-use Rattle.hippo_engine.specs.Deeds as deeds
-use Rattle.hippo_engine.specs.Deeds.{Deed}
+use Rattle.hippo_judging.specs.Checks.{Checked}
+use Rattle.hippo_judging.specs.Deeds as deeds
+use Rattle.hippo_judging.specs.Deeds.{Deed}
 use Rattle.hippo_engine.specs.Effects.{Effect, effect_of, IsEffect, IsShort}
-use Rattle.hippo_engine.specs.Judging.{judged}
+use Rattle.hippo_judging.specs.Judging.{judged}
 use Rattle.hippo_engine.specs.Runs.{history_after}
 use Rattle.hippo_serve.specs.declared.drilling.Drilling.{Drilling}
 use Rattle.hippo_serve.specs.Drilling.{drill_limit, effects_of, drill_effects, replies_of, HasDone, HasDrilled}

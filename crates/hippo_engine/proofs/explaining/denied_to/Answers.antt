@@ -1,5 +1,6 @@
 use Rattle.std.proofs.Common.{sym}
-use Rattle.hippo_engine.proofs.ExplainingLemmas.{is_number, none_explains, entry_explains, unread_explains}
+use Rattle.hippo_judging.proofs.EntryLemmas.{is_number}
+use Rattle.hippo_engine.proofs.ExplainingLemmas.{none_explains, entry_explains, unread_explains}
 use Rattle.hippo_engine.proofs.explaining.denied_to.Goals as goal
 
 pub read_entry-requires-clause-some : goal.read_entry-requires-clause-some

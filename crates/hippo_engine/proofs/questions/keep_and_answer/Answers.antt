@@ -2,7 +2,8 @@
 use Rattle.std.proofs.Common.{subst}
 use Rattle.hippo_model.specs.declared.entry.Entry.{Entry}
 use Rattle.hippo_world.specs.Holding.{world_of}
-use Rattle.hippo_engine.specs.Asking.{question_of, Asks}
+use Rattle.hippo_judging.specs.Asking.{question_of}
+use Rattle.hippo_engine.specs.Questions.{Asks}
 use Rattle.hippo_engine.proofs.questions.keep_and_answer.Goals as goal
 
 pub returns-in-Ok : goal.returns-in-Ok

@@ -1,5 +1,5 @@
 use Rattle.std.proofs.Common.{None}
-use Rattle.hippo_engine.proofs.LengthLemmas.{moment_back_fits}
+use Rattle.hippo_judging.proofs.LengthLemmas.{moment_back_fits}
 use Rattle.hippo_engine.proofs.replies.refuse_moment.Goals as goal
 
 pub returns : goal.returns

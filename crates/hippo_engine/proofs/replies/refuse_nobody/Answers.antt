@@ -1,5 +1,5 @@
 use Rattle.std.proofs.Common.{None, sym, ◌∙◌}
-use Rattle.hippo_engine.proofs.LengthLemmas.{memory_fits, never_short}
+use Rattle.hippo_judging.proofs.LengthLemmas.{memory_fits, never_short}
 use Rattle.hippo_engine.proofs.replies.refuse_nobody.Goals as goal
 
 pub unreachable-requires : goal.unreachable-requires

@@ -1,6 +1,6 @@
 use Rattle.std.proofs.Common.{None, sym, ◌∙◌}
 use Rattle.hippo_report.specs.Notices.{done_line}
-use Rattle.hippo_engine.proofs.LengthLemmas.{done_fits, never_short}
+use Rattle.hippo_judging.proofs.LengthLemmas.{done_fits, never_short}
 use Rattle.hippo_engine.proofs.replies.say_done_to_nobody.Goals as goal
 
 pub unreachable-requires : goal.unreachable-requires

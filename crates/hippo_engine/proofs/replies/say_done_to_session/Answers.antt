@@ -1,5 +1,5 @@
 use Rattle.std.proofs.Common.{Some, arith, sym, ◌∙◌}
-use Rattle.hippo_engine.proofs.LengthLemmas.{done_fits, never_short}
+use Rattle.hippo_judging.proofs.LengthLemmas.{done_fits, never_short}
 use Rattle.hippo_engine.proofs.replies.say_done_to_session.Goals as goal
 
 pub unreachable-requires : goal.unreachable-requires

@@ -1,5 +1,5 @@
 use Rattle.std.proofs.Common.{◌<◌, ◌^◌, arith, sym, ◌∙◌}
-use Rattle.hippo_engine.proofs.LengthLemmas.{number_fits, never_short}
+use Rattle.hippo_judging.proofs.LengthLemmas.{number_fits, never_short}
 use Rattle.hippo_engine.proofs.replies.say_number.Goals as goal
 
 pub unreachable-requires : goal.unreachable-requires

@@ -2,7 +2,7 @@
 use Rattle.std.proofs.Common.{◌∙◌, ◌++◌, ap}
 use Rattle.hippo_values.specs.Texts.{Txt}
 use Rattle.hippo_world.specs.Holding.{world_of}
-use Rattle.hippo_engine.specs.Asking.{question_of}
+use Rattle.hippo_judging.specs.Asking.{question_of}
 use Rattle.hippo_engine.specs.Watching.{alarms_now}
 use Rattle.hippo_engine.proofs.watches.alarms_of.Goals as goal
 

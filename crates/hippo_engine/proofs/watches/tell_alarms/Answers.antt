@@ -1,6 +1,6 @@
 -- What the text means by the names that are known is what it means after the history.
 use Rattle.std.proofs.Common.{refl}
-use Rattle.hippo_engine.specs.Asking.{question_of}
+use Rattle.hippo_judging.specs.Asking.{question_of}
 use Rattle.hippo_engine.proofs.WatchLemmas.{on_ok, means_then}
 use Rattle.hippo_engine.proofs.watches.tell_alarms.Goals as goal
 

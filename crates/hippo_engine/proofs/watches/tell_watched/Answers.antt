@@ -1,6 +1,6 @@
 -- Where there is no watch, nothing is said.
 use Rattle.std.proofs.Common.{rules}
-use Rattle.hippo_engine.specs.Asking.{question_of}
+use Rattle.hippo_judging.specs.Asking.{question_of}
 use Rattle.hippo_engine.proofs.WatchLemmas.{nobody_now}
 use Rattle.hippo_engine.proofs.watches.tell_watched.Goals as goal
 

@@ -3,7 +3,7 @@ use Rattle.std.proofs.Common.{◌≡◌, refl, sym, subst, ℕ, Ok}
 use Rattle.hippo_model.specs.declared.statement.Stmt.TheVariants as stmt
 use Rattle.hippo_commands.specs.Commands.{state}
 use Rattle.hippo_engine.specs.Carrying.{AddsNothing}
-use Rattle.hippo_engine.specs.Judging.{audit_in}
+use Rattle.hippo_judging.specs.Judging.{audit_in}
 use Rattle.hippo_engine.proofs.CarryingLemmas.{AddsNothing-quiet}
 use Rattle.hippo_engine.proofs.JobLemmas.{AddsNothing-begun, refused_begin}
 use Rattle.hippo_engine.proofs.engine.Engine.begin_audit.Goals as goal

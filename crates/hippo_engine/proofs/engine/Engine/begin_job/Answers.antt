@@ -2,7 +2,7 @@
 use Rattle.std.proofs.Common.{refl, subst, arith, Some, Option, ℕ}
 use Rattle.hippo_engine.specs.declared.engine.Engine.{Engine}
 use Rattle.hippo_engine.specs.Jobs.{BeginsJob}
-use Rattle.hippo_engine.proofs.LengthLemmas.{job_limit_fits}
+use Rattle.hippo_judging.proofs.LengthLemmas.{job_limit_fits}
 use Rattle.hippo_engine.proofs.engine.Engine.begin_job.Goals as goal
 
 pub returns-in-Some : goal.returns-in-Some

@@ -6,7 +6,7 @@ use Rattle.hippo_report.specs.declared.refusal.Refusal.TheVariants.{NoJob}
 use Rattle.hippo_report.specs.Refusals.{refusal_line}
 use Rattle.hippo_engine.specs.declared.engine.Engine.{Engine}
 use Rattle.hippo_engine.specs.Carrying.{AddsNothing}
-use Rattle.hippo_engine.proofs.LengthLemmas.{no_job_fits}
+use Rattle.hippo_judging.proofs.LengthLemmas.{no_job_fits}
 use Rattle.hippo_engine.proofs.JobLemmas.{AddsNothing-dropped, AddsNothing-missing}
 use Rattle.hippo_engine.proofs.engine.Engine.drop_held.Goals as goal
 

@@ -7,8 +7,8 @@ use Rattle.hippo_report.specs.declared.refusal.Refusal.TheVariants.{NoJob}
 use Rattle.hippo_world.specs.Holding.{world_of}
 use Rattle.hippo_world.specs.Worlds.{at_number}
 use Rattle.hippo_engine.specs.declared.engine.Engine.{Engine}
-use Rattle.hippo_engine.specs.Checks.{◌>>=◌}
-use Rattle.hippo_engine.specs.Deeds.{drop_job}
+use Rattle.hippo_judging.specs.Checks.{◌>>=◌}
+use Rattle.hippo_judging.specs.Deeds.{drop_job}
 use Rattle.hippo_engine.proofs.CarryingLemmas.{AddsNothing-quiet}
 use Rattle.hippo_engine.proofs.JobLemmas.{not_console}
 use Rattle.hippo_engine.proofs.engine.Engine.drop_job.Goals as goal

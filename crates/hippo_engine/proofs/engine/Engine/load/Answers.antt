@@ -7,5 +7,5 @@ use Rattle.hippo_engine.proofs.engine.Engine.load.Goals as goal
 pub returns-clause-carries : goal.returns-clause-carries
 returns-clause-carries g c = λ steps.
     c.record_found.ensures.carries (ask c.args.session (loads c.args.table.now c.args.text.now)) steps
-    (load_judged c.args.session c.args.table.now c.args.text.now c.args.self.now c.entry_loaded-found.result
-    c.entry_loaded-found.ensures.found c.entry_loaded-found.ensures.console)
+    (load_judged c.args.session c.args.table.now c.args.text.now c.args.self.now c.entry_of_record-found.result
+    c.entry_of_record-found.ensures.found c.entry_of_record-found.ensures.console)

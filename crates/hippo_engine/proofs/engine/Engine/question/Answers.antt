@@ -2,7 +2,7 @@
 use Rattle.std.proofs.Common.{refl}
 use Rattle.hippo_world.specs.Holding.{world_of}
 use Rattle.hippo_commands.specs.Commands.{state}
-use Rattle.hippo_engine.specs.Asking.{statement_asked}
+use Rattle.hippo_judging.specs.Asking.{statement_asked}
 use Rattle.hippo_engine.proofs.CarryingLemmas.{IsBacked-of, Carries-quiet}
 use Rattle.hippo_engine.proofs.QuestionLemmas.{refused_effect, Carries-question}
 use Rattle.hippo_engine.proofs.engine.Engine.question.Goals as goal

@@ -7,7 +7,7 @@ use Rattle.hippo_report.specs.Refusals.{refusal_line}
 use Rattle.hippo_world.specs.Worlds.{with_at}
 use Rattle.hippo_engine.specs.declared.engine.Engine.{Engine}
 use Rattle.hippo_engine.specs.Carrying.{Carries}
-use Rattle.hippo_engine.proofs.LengthLemmas.{no_job_fits}
+use Rattle.hippo_judging.proofs.LengthLemmas.{no_job_fits}
 use Rattle.hippo_engine.proofs.CarryingLemmas.{Carries-quiet}
 use Rattle.hippo_engine.proofs.JobLemmas.{Carries-stepped, missing_step}
 use Rattle.hippo_engine.proofs.engine.Engine.step_held.Goals as goal

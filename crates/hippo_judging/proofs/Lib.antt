@@ -1,0 +1,6 @@
+pub mod LengthLemmas
+pub mod ChangeLemmas
+mod LoadLemmas
+pub mod AskingLemmas
+pub mod AuditLemmas
+pub mod EntryLemmas

@@ -1,0 +1,15 @@
+-- The INSERT of a record is found and judged, or the record is refused.
+use Rattle.hippo_world.specs.Holding.{world_of}
+use Rattle.hippo_judging.proofs.LoadLemmas.{load_found, load_refused}
+use Rattle.hippo_judging.proofs.loading.entry_of_record.Goals as goal
+
+pub returns-in-Ok-clause-found : goal.returns-in-Ok-clause-found
+returns-in-Ok-clause-found c = λ history stands.
+    load_found history (world_of c.args.world.now) c.args.session c.args.table.now c.args.text.now c.args.state.now.catalog.names
+    c.in_ok-check_console.ensures.console stands.names c.in-Ok.insert c.entry_for-found.result c.in-Ok.ensures
+    (c.entry_for-found.ensures.found history stands)
+
+pub returns-in-Err-clause-found : goal.returns-in-Err-clause-found
+returns-in-Err-clause-found c = λ history stands.
+    load_refused history (world_of c.args.world.now) c.args.session c.args.table.now c.args.text.now c.args.state.now.catalog.names
+    c.in_ok-check_console.ensures.console stands.names c.in-Err.refusal c.in-Err.ensures

@@ -1,0 +1,52 @@
+-- What is found where a question may be asked.
+use Rattle.std.specs.Prelude.{ℕ, nat_le, Ok, Err}
+use Rattle.hippo_model.specs.declared.query.Query.{Query}
+use Rattle.hippo_model.specs.declared.statement.RawSelect.{RawSelect}
+use Rattle.hippo_model.specs.declared.statement.Stmt.{Stmt}
+use Rattle.hippo_model.specs.declared.statement.Stmt.TheVariants as stmt
+use Rattle.hippo_report.specs.declared.refusal.Refusal.TheVariants.{HistoryFull}
+use Rattle.hippo_answering.specs.States.{AreKept}
+use Rattle.hippo_replay.specs.declared.state.State.{State}
+use Rattle.hippo_world.specs.declared.sessions.Session.{Session}
+use Rattle.hippo_judging.specs.declared.asking.Asking.{Asking}
+use Rattle.hippo_judging.specs.declared.asking.Delivery.{Delivery}
+use Rattle.hippo_judging.specs.declared.asking.Handing.{Handing}
+use Rattle.hippo_judging.specs.declared.asking.Handing.TheVariants.{Rows, Records, Cursor}
+use Rattle.hippo_judging.specs.Checks.{Checked, ◌>>=◌, refused_if}
+use Rattle.hippo_judging.specs.Deeds.{Deed, Question}
+use Rattle.hippo_judging.specs.Judging.{delivery_for, deed_for}
+
+-- the question that is asked in a session, whose asker and text are lent
+abbrev pub question_of : ℕ → Asking → Question
+question_of session asking = record {
+  session = session;
+  user = asking.asker.now.user;
+  pair = asking.asker.now.pair;
+  text = asking.text.now;
+  query = asking.query;
+}
+
+-- the statement that asks so
+abbrev pub statement_asked : Handing → RawSelect → ℕ → ℕ → Stmt
+statement_asked Rows select start end = stmt.Select select start end
+statement_asked Records select start end = stmt.Extract select start end
+statement_asked Cursor select start end = stmt.Ask select start end
+
+-- how an answer is handed out, where there is room for one entry more
+abbrev pub delivery_in_room : Handing → Session → ℕ → ℕ → Checked Delivery
+delivery_in_room handing session count limit = do
+  delivery ← delivery_for handing session
+  room ← refused_if (nat_le limit count) HistoryFull
+  Ok delivery
+
+abbrev pub asking_with : Asking → Checked Delivery → Checked Asking
+asking_with asking (Ok delivery) = Ok (record asking { delivery = delivery })
+asking_with asking (Err refusal) = Err refusal
+
+-- what is to be done for a question that was found
+abbrev pub deed_asked : ℕ → Asking → Deed
+deed_asked session asking = deed_for asking.asker.now (question_of session asking) asking.delivery
+
+-- a query that a state can answer: its tables are kept
+pub record IsAnswerable (state : State) (query : Query) : Type 0 where
+  pub tables : AreKept state.tables query.tables

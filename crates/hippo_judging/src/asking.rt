@@ -1,0 +1,197 @@
+//! Questions of sessions: what is asked, or why it may not be.
+ghost use Rattle.std.specs.Prelude.{◌≡◌, ◌+◌, ◌<◌, ◌^◌, MatchResult, IfOk, OnOk, Ok as Good};
+ghost use Rattle.std.specs.Prelude.{Err as Bad};
+ghost use Rattle.hippo_model.specs.Terms.{History};
+ghost use Rattle.hippo_report.specs.declared.refusal.Refusal.TheVariants.{Memory as NoMemory};
+ghost use Rattle.hippo_catalog.specs.Catalogs.{known_at};
+ghost use Rattle.hippo_catalog.specs.Selects.{select_refused, query_of};
+ghost use Rattle.hippo_replay.specs.Standing.{StandsFor, IsSound};
+ghost use Rattle.hippo_world.specs.Holding.{world_of};
+ghost use Rattle.hippo_commands.specs.Commands.{state as command};
+ghost use Rattle.hippo_judging.specs.Checks.{Finds, open_session, meant};
+ghost use Rattle.hippo_judging.specs.declared.asking.Delivery.TheVariants as delivered;
+ghost use Rattle.hippo_judging.specs.Judging.{text_between, delivery_for, judged_question, judged};
+ghost use Rattle.hippo_judging.specs.Asking.{IsAnswerable, statement_asked, delivery_in_room};
+ghost use Rattle.hippo_judging.specs.Asking.{asking_with, deed_asked};
+
+use crate::refusals::{check_room, name_refusal};
+use crate::session_checks::{check_allowed, open_session};
+use hippo_model::{Query, RawSelect};
+use hippo_replay::State;
+use hippo_report::Refusal;
+use hippo_typing::resolve_select;
+use hippo_world::{Session, World};
+use std::alloc::Global;
+
+/// What a question wants its answer to be: rows or records, which are the reply, or a cursor that
+/// holds it.
+#[derive(Clone, Copy, Debug, PartialEq, Eq)]
+pub enum Handing {
+    Rows,
+    Records,
+    Cursor,
+}
+
+/// How an answer is handed out: as wanted, with the number of the cursor that is to hold it.
+#[derive(Clone, Copy, Debug, PartialEq, Eq)]
+pub enum Delivery {
+    Rows,
+    Records,
+    Cursor(u8),
+}
+
+/// A question that may be asked: by whom, its text, the query that it means, and how its answer is
+/// handed out.
+#[derive(Drop)]
+pub struct Asking<'a> {
+    pub asker: &'a Session,
+    pub text: &'a str,
+    pub query: Query,
+    pub delivery: Delivery,
+}
+
+// Who asks in a session.
+fn asker(world: &World, session: u8) -> Result<&Session, Refusal>
+    ensures { MatchResult result (λ asker. open_session (world_of world.now) session ≡ Good asker.now)
+        (λ refusal. open_session (world_of world.now) session ≡ Bad refusal) }
+{
+    open_session(world, session)
+}
+
+// The query that a select means.
+fn meaning(alloc: Global, state: &State, select: &RawSelect) -> Result<Query, Refusal>
+    requires { IsSound state.now }
+    ensures found { (history : History) → StandsFor state.now history
+        → Finds (λ query. query)
+        (meant (select_refused (known_at history) select.now) (query_of (known_at history) select.now)) result }
+    ensures answerable { IfOk result (λ query. IsAnswerable state.now query) }
+{
+    match resolve_select(alloc, &state.catalog, select) {
+        Ok(query) => Ok(query),
+        Err(fault) => Err(name_refusal(fault)),
+    }
+}
+
+// A number that a cursor may have; one that none has is answered by want of memory.
+fn cursor_number(number: usize) -> Result<Delivery, Refusal>
+    ensures { MatchResult result (λ delivery. delivery ≡ delivered.Cursor number) (λ refusal. refusal ≡ NoMemory) }
+{
+    match u8::try_from(number) {
+        Ok(number) => Ok(Delivery::Cursor(number)),
+        Err(_) => Err(Refusal::Memory),
+    }
+}
+
+fn free_cursor(asker: &Session) -> Result<Delivery, Refusal>
+    ensures { Finds (λ delivery. delivery) (delivery_for Handing.Cursor asker.now) result }
+{
+    match asker.cursors.free() {
+        Some(number) => cursor_number(number),
+        None => Err(Refusal::CursorLimit),
+    }
+}
+
+// How an answer is handed out.
+fn delivery_for(handing: Handing, asker: &Session) -> Result<Delivery, Refusal>
+    ensures { Finds (λ delivery. delivery) (delivery_for handing asker.now) result }
+{
+    match handing {
+        Handing::Rows => Ok(Delivery::Rows),
+        Handing::Records => Ok(Delivery::Records),
+        Handing::Cursor => free_cursor(asker),
+    }
+}
+
+// The same, where the history has room for an entry more.
+fn delivery_in_room(
+    handing: Handing,
+    asker: &Session,
+    count: u64,
+    limit: u32,
+) -> Result<Delivery, Refusal>
+    ensures found { Finds (λ delivery. delivery) (delivery_in_room handing asker.now count limit) result }
+    ensures below { OnOk result (count + 1 < 2 ^ 63) }
+{
+    let delivery = delivery_for(handing, asker)?;
+    check_room(count, limit)?;
+    Ok(delivery)
+}
+
+// A question whose answer is handed out so; it falls where that is refused.
+fn with_delivery(
+    asking: Asking<'_>,
+    delivery: Result<Delivery, Refusal>,
+) -> Result<Asking<'_>, Refusal>
+    ensures { result ≡ asking_with asking.entry delivery }
+{
+    match delivery {
+        Ok(delivery) => Ok(Asking { delivery, ..asking }),
+        Err(refusal) => Err(refusal),
+    }
+}
+
+// What a question asks.
+fn question<'a>(
+    alloc: Global,
+    state: &State,
+    world: &'a World,
+    session: u8,
+    handing: Handing,
+    select: &RawSelect,
+    text: &'a str,
+) -> Result<Asking<'a>, Refusal>
+    requires { IsSound state.now }
+    ensures found { (history : History) → StandsFor state.now history → Finds (deed_asked session)
+        (judged_question handing history (world_of world.now) session select.now text.now) result }
+    ensures asker { IfOk result (λ asking. open_session (world_of world.now) session ≡ Good asking.asker.now) }
+    ensures answerable { IfOk result (λ asking. IsAnswerable state.now asking.query) }
+    ensures below { OnOk result (state.now.count + 1 < 2 ^ 63) }
+{
+    let asker = asker(world, session)?;
+    check_allowed(state, &asker.user, &asker.pair)?;
+    let query = meaning(alloc, state, select)?;
+    let delivery = delivery_in_room(handing, asker, state.count, world.limit);
+    let asking = Asking {
+        asker,
+        text,
+        query,
+        delivery: Delivery::Rows,
+    };
+    with_delivery(asking, delivery)
+}
+
+// The text of a question; one that cannot be cut out is answered by want of memory.
+fn cut(text: &str, start: usize, end: usize) -> Result<&str, Refusal>
+    ensures { MatchResult result (λ cut. cut.now ≡ text_between text.now start end) (λ refusal. refusal ≡ NoMemory) }
+{
+    match text.get(start..end) {
+        Some(cut) => Ok(cut),
+        None => Err(Refusal::Memory),
+    }
+}
+
+/// What a SELECT, an EXTRACT or an OPEN asks, or why it may not be asked: its session has to be
+/// open, its user still authorized, its names and types have to mean something, an OPEN's session
+/// has to have a cursor left, and the history has to have room. Want of memory may refuse it, too.
+pub fn asks<'a>(
+    alloc: Global,
+    state: &State,
+    world: &'a World,
+    session: u8,
+    handing: Handing,
+    select: &RawSelect,
+    text: &'a str,
+    start: usize,
+    end: usize,
+) -> Result<Asking<'a>, Refusal>
+    requires { IsSound state.now }
+    ensures found { (history : History) → StandsFor state.now history → Finds (deed_asked session)
+        (judged history (world_of world.now)
+        (command session (statement_asked handing select.now start end) text.now)) result }
+    ensures asker { IfOk result (λ asking. open_session (world_of world.now) session ≡ Good asking.asker.now) }
+    ensures answerable { IfOk result (λ asking. IsAnswerable state.now asking.query) }
+    ensures below { OnOk result (state.now.count + 1 < 2 ^ 63) }
+{
+    let text = cut(text, start, end)?;
+    question(alloc, state, world, session, handing, select, text)
+}

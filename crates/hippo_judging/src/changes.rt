@@ -1,0 +1,131 @@
+//! Statements that change something: the entry that each adds to the history, or why it is refused.
+ghost use Rattle.std.specs.Prelude.{◌≡◌, ◌^◌, ◌<◌, length, IfOk, OnOk};
+ghost use Rattle.hippo_model.specs.Terms.{History};
+ghost use Rattle.hippo_tables.specs.Finished.{finished};
+ghost use Rattle.hippo_tables.specs.Standing.{StandsFor as TablesStandFor};
+ghost use Rattle.hippo_replay.specs.Standing.{StandsFor};
+ghost use Rattle.hippo_world.specs.Holding.{world_of};
+ghost use Rattle.hippo_judging.specs.Checks.{Finds, rows_refusal, act_made};
+ghost use Rattle.hippo_judging.specs.Judging.{judged_wanted, judged_change};
+ghost use Rattle.hippo_judging.specs.Changes.{FindsChange, wanted_in, change_in_room};
+
+use crate::console_checks::check_console;
+use crate::refusals::name_refusal;
+use hippo_catalog::Catalog;
+use hippo_changes::check_change;
+use hippo_model::{Act, Entry, Stmt, TableFault, Wanted};
+use hippo_replay::State;
+use hippo_report::Refusal;
+use hippo_tables::Tables;
+use hippo_world::World;
+use std::alloc::Global;
+
+fn rows_refusal(fault: TableFault) -> Refusal
+    ensures { result ≡ rows_refusal fault }
+{
+    match fault {
+        TableFault::KeyThere(number) => Refusal::KeyThere(number),
+        TableFault::KeyMissing => Refusal::KeyMissing,
+        TableFault::Memory => Refusal::Memory,
+    }
+}
+
+// What a statement asks for, by names and types.
+fn check_names(alloc: Global, catalog: &Catalog, statement: &Stmt) -> Result<Wanted, Refusal>
+    ensures { Finds (λ found. found) (wanted_in catalog.now.names statement.now) result }
+{
+    match check_change(alloc, catalog, statement) {
+        Ok(wanted) => Ok(wanted),
+        Err(fault) => Err(name_refusal(fault)),
+    }
+}
+
+// What is wanted is made, where the rows that are there let it be.
+fn check_rows(alloc: Global, tables: &Tables, wanted: &Wanted) -> Result<Act, Refusal>
+    ensures { (history : History) → TablesStandFor tables.now history
+        → Finds (λ found. found) (act_made (finished history wanted.now)) result }
+{
+    match tables.finish(alloc, wanted) {
+        Ok(act) => Ok(act),
+        Err(fault) => Err(rows_refusal(fault)),
+    }
+}
+
+// The next entry with an act, where the history has room for it.
+fn entry_in_room(count: u64, world: &World, act: Act) -> Result<Entry, Refusal>
+    ensures found { (history : History) → count ≡ length history
+        → FindsChange history (world_of world.now) (change_in_room history (world_of world.now) act) result }
+    ensures number { IfOk result (λ entry. entry.seq < 2 ^ 63) }
+{
+    if count < u64::from(world.limit) {
+        Ok(Entry {
+            seq: count + 1,
+            moment: world.clock,
+            act,
+        })
+    } else {
+        drop(act);
+        Err(Refusal::HistoryFull)
+    }
+}
+
+// The entry that makes what is wanted, where rows and room let it be.
+fn entry_wanted(
+    alloc: Global,
+    state: &State,
+    world: &World,
+    wanted: &Wanted,
+) -> Result<Entry, Refusal>
+    ensures found { (history : History) → StandsFor state.now history
+        → FindsChange history (world_of world.now)
+        (judged_wanted history (world_of world.now) wanted.now) result }
+    ensures number { IfOk result (λ entry. entry.seq < 2 ^ 63) }
+{
+    match check_rows(alloc, &state.tables, wanted) {
+        Ok(act) => entry_in_room(state.count, world, act),
+        Err(refusal) => Err(refusal),
+    }
+}
+
+/// The entry that a statement of the console which changes something adds, or its first refusal.
+pub(crate) fn entry_for(
+    alloc: Global,
+    state: &State,
+    world: &World,
+    statement: &Stmt,
+) -> Result<Entry, Refusal>
+    ensures found { (history : History) → StandsFor state.now history
+        → FindsChange history (world_of world.now)
+        (judged_change history (world_of world.now) 0 statement.now) result }
+    ensures number { IfOk result (λ entry. entry.seq < 2 ^ 63) }
+{
+    match check_names(alloc, &state.catalog, statement) {
+        Ok(wanted) => {
+            let found = entry_wanted(alloc, state, world, &wanted);
+            drop(wanted);
+            found
+        }
+        Err(refusal) => Err(refusal),
+    }
+}
+
+/// The entry that a statement which changes something adds: the next one, with the clock's moment.
+/// Or its first refusal: that it is a session's, that its names or types are wrong, that the rows
+/// which are there do not let it be, or that the history is full. Want of memory may refuse it,
+/// too.
+pub fn entry_of_change(
+    alloc: Global,
+    state: &State,
+    world: &World,
+    session: u8,
+    statement: &Stmt,
+) -> Result<Entry, Refusal>
+    ensures found { (history : History) → StandsFor state.now history
+        → FindsChange history (world_of world.now)
+        (judged_change history (world_of world.now) session statement.now) result }
+    ensures number { IfOk result (λ entry. entry.seq < 2 ^ 63) }
+    ensures console { OnOk result (session ≡ 0) }
+{
+    check_console(session)?;
+    entry_for(alloc, state, world, statement)
+}

@@ -1,0 +1,82 @@
+//! The entry with a number, read from the history that a keeper keeps.
+ghost use Rattle.std.specs.Prelude.{◌≡◌, ◌≤◌, ◌∷◌, [], true};
+ghost use Rattle.hippo_keeper.specs.Keeping.{IsReady};
+ghost use Rattle.hippo_judging.specs.Checks.{is_question};
+ghost use Rattle.hippo_judging.specs.Entries.{number_in, IsRead, ReadsEntry};
+
+use hippo_backlog::{ReadFault, fault_of};
+use hippo_entry::decode;
+use hippo_keeper::{Keeper, Steps};
+use hippo_model::{Act, Entry, StoredEntry};
+use hippo_values::Memory;
+use std::alloc::Global;
+use std::sync::ledger::Ledger;
+
+/// A number as that of one of so many entries; none where it is below one or above their count.
+pub fn number_in(number: &i64, count: u64) -> Option<u64>
+    ensures { result ≡ number_in number.now count }
+{
+    if *number < 1 {
+        return None;
+    }
+    let number = number.unsigned_abs();
+    if number <= count { Some(number) } else { None }
+}
+
+/// Whether an act is a question.
+pub fn is_question(act: &Act) -> bool
+    ensures { result ≡ is_question act.now }
+{
+    matches!(act, Act::Asked { .. })
+}
+
+// The entry with a number that a stored form is.
+fn entry_of(alloc: Global, kept: &StoredEntry, number: u64) -> Result<Entry, ReadFault>
+    ensures { IsRead (kept.now ∷ []) number result }
+{
+    match decode(alloc, kept) {
+        Ok(Some(entry)) => {
+            if entry.seq == number {
+                Ok(entry)
+            } else {
+                drop(entry);
+                Err(ReadFault::Damaged(number))
+            }
+        }
+        Ok(None) => Err(ReadFault::Damaged(number)),
+        Err(Memory) => Err(ReadFault::Memory),
+    }
+}
+
+// The entry with a number, where it stands first.
+fn first_entry(alloc: Global, list: &[StoredEntry], number: u64) -> Result<Entry, ReadFault>
+    ensures { IsRead list.now number result }
+{
+    match list.first() {
+        Some(kept) => entry_of(alloc, kept, number),
+        None => Err(ReadFault::Damaged(number)),
+    }
+}
+
+/// The entry with a number in the history that a keeper keeps. Or a fault: `Keeper` only where the
+/// keeper failed, `Damaged` only where it does not tell what it keeps, or want of memory. A version
+/// that is read counts as a step.
+pub fn read_entry<P: Keeper, L: Ledger>(
+    alloc: Global,
+    keeper: &mut P,
+    number: u64,
+    steps: &mut Steps<L>,
+) -> Result<Entry, ReadFault>
+    requires ready { IsReady true (P.state keeper.old) }
+    requires some { 1 ≤ number }
+    ensures reads { ReadsEntry number result (P.state keeper.old) (P.state keeper.new) steps.old steps.new }
+{
+    match keeper.read_all(alloc, number - 1, 1, steps) {
+        Ok(list) => {
+            let entry = first_entry(alloc, list.as_slice(), number);
+            drop(list);
+            entry
+        }
+        Err(fault) => Err(fault_of(fault)),
+    }
+}

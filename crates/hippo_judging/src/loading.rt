@@ -1,0 +1,125 @@
+//! Records that are loaded: each is an INSERT of its row.
+ghost use Rattle.std.specs.Prelude.{◌≡◌, ◌⊎◌, ◌^◌, ◌<◌, IfOk, OnOk};
+ghost use Rattle.std.specs.Result.{result_map_both};
+ghost use Rattle.hippo_model.specs.Terms.{History};
+ghost use Rattle.hippo_csv.specs.declared.faults.CsvFault.TheVariants as fields;
+ghost use Rattle.hippo_csv.specs.Loading.{row_of_fields};
+ghost use Rattle.hippo_replay.specs.Standing.{StandsFor};
+ghost use Rattle.hippo_report.specs.declared.refusal.Refusal.TheVariants.{Memory as NoMemory};
+ghost use Rattle.hippo_world.specs.Holding.{world_of};
+ghost use Rattle.hippo_judging.specs.Checks.{Finds};
+ghost use Rattle.hippo_judging.specs.Judging.{record_refusal, loaded_row, insert_of, judged_load};
+ghost use Rattle.hippo_judging.specs.Changes.{FindsChange};
+
+use crate::changes::entry_for;
+use crate::console_checks::check_console;
+use hippo_catalog::Catalog;
+use hippo_csv::{CsvFault, Fields, field_values, read_fields};
+use hippo_lines::WrittenName;
+use hippo_model::{Cells, Entry, NameFault, Schema, Stmt};
+use hippo_replay::State;
+use hippo_report::Refusal;
+use hippo_values::{Duplicate, Memory, Name};
+use hippo_world::World;
+use std::alloc::Global;
+
+// The refusal of the field at a place, which names its column.
+fn field_refusal(alloc: Global, schema: &Schema, place: usize) -> Refusal
+    ensures { (result ≡ record_refusal schema.now (fields.Field place)) ⊎ (result ≡ NoMemory) }
+{
+    match schema.columns.as_slice().get(place) {
+        Some(column) => match column.name.copy(alloc) {
+            Ok(name) => Refusal::BadField(name),
+            Err(Memory) => Refusal::Memory,
+        },
+        None => Refusal::Memory,
+    }
+}
+
+fn record_refusal(alloc: Global, schema: &Schema, fault: CsvFault) -> Refusal
+    ensures { (result ≡ record_refusal schema.now fault) ⊎ (result ≡ NoMemory) }
+{
+    match fault {
+        CsvFault::Count => Refusal::Meaningless(NameFault::WrongCount(schema.columns.len() as u64)),
+        CsvFault::Field(place) => field_refusal(alloc, schema, place),
+        CsvFault::Memory => Refusal::Memory,
+    }
+}
+
+// The row that fields are, or why they are none.
+fn row_of(alloc: Global, schema: &Schema, fields: &Fields) -> Result<Cells, Refusal>
+    ensures { Finds (λ row. row)
+        (result_map_both (λ row. row) (record_refusal schema.now) (row_of_fields schema.now fields.now)) result }
+{
+    match field_values(alloc, schema, fields) {
+        Ok(row) => Ok(row),
+        Err(fault) => Err(record_refusal(alloc, schema, fault)),
+    }
+}
+
+// The row that a text is, as one record.
+fn loaded_row(alloc: Global, schema: &Schema, text: &str) -> Result<Cells, Refusal>
+    ensures { Finds (λ row. row) (loaded_row schema.now text.now) result }
+{
+    match read_fields(alloc, text) {
+        Ok(Some(fields)) => row_of(alloc, schema, &fields),
+        Ok(None) => Err(Refusal::BadRecord),
+        Err(Memory) => Err(Refusal::Memory),
+    }
+}
+
+// The INSERT of that row into a table.
+fn insert_into(alloc: Global, catalog: &Catalog, table: Name, text: &str) -> Result<Stmt, Refusal>
+    ensures { Finds (λ insert. insert) (insert_of catalog.now.names table text.now) result }
+{
+    match catalog.table(&table) {
+        Some(schema) => {
+            let values = loaded_row(alloc, schema, text)?;
+            Ok(Stmt::Insert { table, values })
+        }
+        None => Err(Refusal::Meaningless(NameFault::UnknownTable(table))),
+    }
+}
+
+fn insert_of(
+    alloc: Global,
+    catalog: &Catalog,
+    table: &WrittenName<'_>,
+    text: &str,
+) -> Result<Stmt, Refusal>
+    ensures { Finds (λ insert. insert) (insert_of catalog.now.names table.now text.now) result }
+{
+    match table.name(alloc) {
+        Ok(table) => insert_into(alloc, catalog, table, text),
+        Err(Memory) => Err(Refusal::Memory),
+    }
+}
+
+/// The entry that a record for a table adds, which is that of its row's INSERT. Or its first
+/// refusal: that it is a session's, that there is no such table, that the text is not one record
+/// with a field of its form for each column, or that of the INSERT. Want of memory may refuse it,
+/// too.
+pub fn entry_of_record(
+    alloc: Global,
+    state: &State,
+    world: &World,
+    session: u8,
+    table: &WrittenName<'_>,
+    text: &str,
+) -> Result<Entry, Refusal>
+    ensures found { (history : History) → StandsFor state.now history
+        → FindsChange history (world_of world.now)
+        (judged_load history (world_of world.now) session table.now text.now) result }
+    ensures number { IfOk result (λ entry. entry.seq < 2 ^ 63) }
+    ensures console { OnOk result (session ≡ 0) }
+{
+    check_console(session)?;
+    match insert_of(alloc, &state.catalog, table, text) {
+        Ok(insert) => {
+            let found = entry_for(alloc, state, world, &insert);
+            drop(insert);
+            found
+        }
+        Err(refusal) => Err(refusal),
+    }
+}

@@ -1,0 +1,30 @@
+//! Refusals that several statements share.
+ghost use Rattle.std.specs.Prelude.{◌≡◌, ◌≢◌, ◌⊎◌, ◌+◌, ◌<◌, ◌^◌, nat_le, OnOk};
+ghost use Rattle.hippo_model.specs.declared.name_fault.NameFault.TheVariants as faults;
+ghost use Rattle.hippo_report.specs.declared.refusal.Refusal.TheVariants as refusals;
+ghost use Rattle.hippo_judging.specs.Checks.{refused_if};
+
+use hippo_model::NameFault;
+use hippo_report::Refusal;
+
+/// The refusal of a statement that means nothing, or of one for which memory was short.
+pub(crate) fn name_refusal(fault: NameFault) -> Refusal
+    ensures { (fault ≢ faults.Memory × result ≡ refusals.Meaningless fault) ⊎ (result ≡ refusals.Memory) }
+{
+    match fault {
+        NameFault::Memory => Refusal::Memory,
+        fault => Refusal::Meaningless(fault),
+    }
+}
+
+/// Whether a history with so many entries may have one more.
+pub(crate) fn check_room(count: u64, limit: u32) -> Result<(), Refusal>
+    ensures is { result ≡ refused_if (nat_le limit count) refusals.HistoryFull }
+    ensures below { OnOk result (count + 1 < 2 ^ 63) }
+{
+    if u64::from(limit) <= count {
+        Err(Refusal::HistoryFull)
+    } else {
+        Ok(())
+    }
+}

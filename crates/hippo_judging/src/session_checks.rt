@@ -1,0 +1,102 @@
+//! What is checked of sessions and cursors.
+ghost use Rattle.std.specs.Prelude.{◌≡◌, ◌≤◌, Some, length, ok_or, IfErr};
+ghost use Rattle.std.specs.Result.{result_map_both};
+ghost use Rattle.hippo_model.specs.Terms.{History};
+ghost use Rattle.hippo_replay.specs.Standing.{StandsFor};
+ghost use Rattle.hippo_report.specs.declared.refusal.Refusal.TheVariants.{NoCursor as CursorMissing};
+ghost use Rattle.hippo_report.specs.Refusals.{refusal_line};
+ghost use Rattle.hippo_world.specs.Worlds.{at_number};
+ghost use Rattle.hippo_world.specs.Holding.{world_of};
+ghost use Rattle.hippo_judging.specs.Checks.{open_session, open_cursor, closed_session, authorized};
+ghost use Rattle.hippo_judging.specs.Checks.{may_log_in, reply_room};
+
+use hippo_model::{Authorization, Pair};
+use hippo_replay::State;
+use hippo_report::Refusal;
+use hippo_values::Name;
+use hippo_world::{Cursor, Session, World};
+
+/// The open session with a number; or the refusal that only a session may, or that none is open
+/// with it. Its refusals are short.
+pub fn open_session(world: &World, number: u8) -> Result<&Session, Refusal>
+    ensures found { result_map_both (λ session. session.now) (λ refusal. refusal) result
+        ≡ open_session (world_of world.now) number }
+    ensures fits { IfErr result (λ refusal. length (refusal_line (Some number) refusal) ≤ reply_room) }
+{
+    if number == 0 {
+        return Err(Refusal::SessionsOnly);
+    }
+    match world.session(number) {
+        Some(session) => Ok(session),
+        None => Err(Refusal::NoSession),
+    }
+}
+
+fn held_cursor(session: &Session, number: u8, cursor: u8) -> Result<&Cursor, Refusal>
+    ensures found { result_map_both (λ held. held.now) (λ refusal. refusal) result
+        ≡ ok_or (at_number session.now.cursors cursor) (CursorMissing cursor) }
+    ensures fits { IfErr result (λ refusal. length (refusal_line (Some number) refusal) ≤ reply_room) }
+{
+    match session.cursors.at(usize::from(cursor)) {
+        Some(held) => Ok(held),
+        None => Err(Refusal::NoCursor(u64::from(cursor))),
+    }
+}
+
+/// The cursor with a number in the open session with a number; or the refusal of `open_session`, or
+/// that there is no such cursor. Its refusals are short.
+pub fn open_cursor(world: &World, number: u8, cursor: u8) -> Result<&Cursor, Refusal>
+    ensures found { result_map_both (λ held. held.now) (λ refusal. refusal) result
+        ≡ open_cursor (world_of world.now) number cursor }
+    ensures fits { IfErr result (λ refusal. length (refusal_line (Some number) refusal) ≤ reply_room) }
+{
+    match open_session(world, number) {
+        Ok(session) => held_cursor(session, number, cursor),
+        Err(refusal) => Err(refusal),
+    }
+}
+
+// Whether a number is that of a session, and none is open with it.
+fn check_closed(world: &World, number: u8) -> Result<(), Refusal>
+    ensures { result ≡ closed_session (world_of world.now) number }
+{
+    if number == 0 {
+        return Err(Refusal::SessionsOnly);
+    }
+    match world.session(number) {
+        Some(_) => Err(Refusal::SessionOpen),
+        None => Ok(()),
+    }
+}
+
+/// Whether a user may ask for a purpose and recipient.
+pub(crate) fn check_allowed(state: &State, user: &Name, pair: &Pair) -> Result<(), Refusal>
+    ensures { (history : History) → StandsFor state.now history → result ≡ authorized history user.now pair.now }
+{
+    let word = state
+        .book
+        .authorized_at(state.count, user, &pair.purpose, &pair.recipient);
+    match word {
+        Authorization::Yes => Ok(()),
+        Authorization::No(number) => Err(Refusal::NotAuthorized(number)),
+    }
+}
+
+/// Whether a user may open the session with a number, to ask for a purpose and recipient; or the
+/// refusal that only a session may, that one is open with the number, or that the user is not
+/// authorized.
+pub fn check_login(
+    state: &State,
+    world: &World,
+    number: u8,
+    user: &Name,
+    pair: &Pair,
+) -> Result<(), Refusal>
+    ensures { (history : History) → StandsFor state.now history
+        → result ≡ may_log_in history (world_of world.now) number user.now pair.now }
+{
+    match check_closed(world, number) {
+        Ok(()) => check_allowed(state, user, pair),
+        Err(refusal) => Err(refusal),
+    }
+}
