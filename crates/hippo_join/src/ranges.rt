@@ -54,7 +54,10 @@ fn stands_low(set: &RowSet, front: &[Value], past: bool, place: usize) -> bool
     requires { place < length set.now.rows }
     ensures { result ≡ stands_low set.now front.now past place }
 {
-    is_low(front_order(set.row(place).as_slice(), set.key().as_slice(), front), past)
+    is_low(
+        front_order(set.row(place).as_slice(), set.key().as_slice(), front),
+        past,
+    )
 }
 
 // Where the rows end that stand before those whose key begins with these values; or these end, where they are passed

@@ -212,8 +212,7 @@ impl<'a, C: ChoiceView> Side<'a, C> {
         ensures listed { IfOk result (λ stage. lists ≡ true → stage.by_key ≡ false) }
         ensures table { IfOk result (λ stage. stage.table ≡ table) }
     {
-        let by_key =
-            !lists && (self.tells_key(table, slots) || self.tells_front(table, slots));
+        let by_key = !lists && (self.tells_key(table, slots) || self.tells_front(table, slots));
         let tests = self.tests_at(alloc, table, slots, by_key)?;
         if by_key {
             Ok(Stage {

@@ -61,11 +61,7 @@ fn clear(rows: &mut Combo<'_>)
 impl<'a, C: ChoiceView> Side<'a, C> {
     // Puts the rows that are chosen, and blank ones of the other tables, in the place of those
     // before.
-    pub(crate) fn refill(
-        &self,
-        rows: &mut Combo<'a>,
-        slots: &[Option<usize>],
-    ) -> Result<(), Memory>
+    pub(crate) fn refill(&self, rows: &mut Combo<'a>, slots: &[Option<usize>]) -> Result<(), Memory>
         ensures { OnOk result (rows.new ≡ rows_at self.now.sets.now slots.now) }
     {
         clear(rows);
