@@ -1,11 +1,12 @@
 -- Rows that are found by their key.
-use Rattle.std.proofs.Common.{◌≡◌, ℕ, zero, suc, ◌+◌, ◌-◌, ◌<◌, ◌≤◌, true, false, List, [], ◌∷◌, map, length, refl, sym, ap, subst, ◌∙◌, Option, Some, None, unwrap_or, arith, get_or}
+use Rattle.std.proofs.Common.{◌≡◌, ℕ, zero, suc, ◌+◌, ◌-◌, ◌<◌, ◌≤◌, true, false, List, [], ◌∷◌, map, length, take, refl, sym, ap, subst, ◌∙◌, Option, Some, None, unwrap_or, arith, get_or}
 use Rattle.std.specs.Prelude.{slice_get, replicate, option_map, IfSome}
 use Rattle.std.specs.Option.{option_copied, option_map_or}
 use Rattle.std.specs.List.{Contains, list_all, range_with_len}
 use Rattle.std.specs.declared.cmp.Ordering.TheVariants.{Equal}
 use Rattle.std.proofs.lemmas.Bool.{and_parts}
 use Rattle.std.proofs.lemmas.Cmp.{tied_itself}
+use Rattle.std.proofs.lemmas.List.{take_all}
 use Rattle.std.proofs.lemmas.List.FromFn.{get_or-range_with_len, length-range_with_len}
 use Rattle.hippo_values.specs.declared.values.Value.{Value}
 use Rattle.hippo_values.specs.declared.values.Value.TheVariants.{Null as NullValue}
@@ -50,6 +51,12 @@ found-at set key place ascends within has =
         read (row ∷ rows) zero d within = refl
         read (row ∷ rows) (suc i) d within = read rows i d (omega arith)
 
+-- the values in some columns of a row of a combination
+pub key-at : (sets : List KeyedRows) (places : List Place) (table : Place) (set : KeyedRows) (place : Place) → slice_get sets table ≡ Some set → slice_get places table ≡ Some place → (columns : List Place)
+    → map (λ column. raw_value (chosen sets places) (record { table = table; column = column })) columns ≡ map (cell_at (row_at set.rows place).row) columns
+key-at sets places table set place at_set at [] = refl
+key-at sets places table set place at_set at (column ∷ columns) = λ i. raw-at sets places (record { table = table; column = column }) set place at_set at i ∷ key-at sets places table set place at_set at columns i
+
 -- the value in a column of a row that is chosen
 pub chosen-raw : (sets : List KeyedRows) (slots : List (Option Place)) (places : List Place) (column : Ref) (set : KeyedRows) (place : Place) (value : Value) → Fits slots places → Some place ≡ slot_at slots column.table → slice_get sets column.table ≡ Some set → value ≡ value_at set column.column place → raw_value (chosen sets places) column ≡ value
 chosen-raw sets slots places column set place value fits at_slot at_set is = raw-at sets places column set place at_set (Fits-at slots places column.table place fits (sym at_slot)) ∙ sym is
@@ -86,22 +93,15 @@ module _ (choices : Choices) (sets : List KeyedRows) (slots : List (Option Place
   pub key-of-told : (query : Masked) (table : Place) (set : KeyedRows) (columns : List Place) (key : Key) → slice_get sets table ≡ Some set → columns ≡ set.key → IsKeyTold choices sets slots (outer_parts query.cond) table columns key
       → (places : List Place) → Fits slots places → stands choices query sets places ≡ true → (place : Place) → slice_get places table ≡ Some place → key_of set.key (row_at set.rows place).row ≡ key
   key-of-told query table set columns key at_set same told places fits counts place at =
-      sym (told places fits (all-hold choices query sets places counts) ∙ ap (map (λ column. raw_value (chosen sets places) (record { table = table; column = column }))) same ∙ each set.key)
-    where
-      each : (columns : List Place) → map (λ column. raw_value (chosen sets places) (record { table = table; column = column })) columns ≡ map (cell_at (row_at set.rows place).row) columns
-      each [] = refl
-      each (column ∷ columns) = λ i. raw-at sets places (record { table = table; column = column }) set place at_set at i ∷ each columns i
+      sym (told places fits (all-hold choices query sets places counts) ∙ ap (map (λ column. raw_value (chosen sets places) (record { table = table; column = column }))) same ∙ key-at sets places table set place at_set at set.key)
 
-  pub within-told : (query : Masked) (table : Place) (set : KeyedRows) (columns : List Place) (told : Option Key) (span : Span) → slice_get sets table ≡ Some set → columns ≡ set.key
-      → IfSome told (λ key. IsKeyTold choices sets slots (outer_parts query.cond) table columns key)
-      → ((place : Place) → place < length set.rows → IfSome told (λ key. key_of set.key (row_at set.rows place).row ≡ key) → (span.start ≤ place) × (place < span.end))
+  pub within-told : (query : Masked) (table : Place) (set : KeyedRows) (columns : List Place) (key : Key) (span : Span) → slice_get sets table ≡ Some set → columns ≡ set.key → length columns ≤ length key
+      → IsKeyTold choices sets slots (outer_parts query.cond) table (take (length key) columns) key
+      → ((place : Place) → place < length set.rows → key_of set.key (row_at set.rows place).row ≡ key → (span.start ≤ place) × (place < span.end))
       → IsWithin choices query sets slots table span
-  within-told query table set columns told span at_set same is bounds places fits counts place at =
-      bounds place (below-rows sets places table set place (in-range choices query sets places counts) at_set at) (of_told told is)
-    where
-      of_told : (told : Option Key) → IfSome told (λ key. IsKeyTold choices sets slots (outer_parts query.cond) table columns key) → IfSome told (λ key. key_of set.key (row_at set.rows place).row ≡ key)
-      of_told None is = tt
-      of_told (Some key) is = key-of-told query table set columns key at_set same is places fits counts place at
+  within-told query table set columns key span at_set same whole told bounds places fits counts place at =
+      bounds place (below-rows sets places table set place (in-range choices query sets places counts) at_set at)
+      (key-of-told query table set columns key at_set same (subst (λ (some : List Place). IsKeyTold choices sets slots (outer_parts query.cond) table some key) (take_all (length key) columns whole) told) places fits counts place at)
 
 -- each place of a span is among its places
 pub in-span : (start end place : ℕ) → start ≤ place → place < end → Contains (range_with_len start (end - start)) place

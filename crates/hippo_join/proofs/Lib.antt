@@ -6,6 +6,7 @@ pub mod LookupLemmas
 pub mod PartLemmas
 pub mod PruneLemmas
 pub mod KeyLemmas
+pub mod RangeLemmas
 pub mod ReachLemmas
 pub mod FindingLemmas
 pub mod ExistenceLemmas

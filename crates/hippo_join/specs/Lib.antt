@@ -3,6 +3,7 @@ pub mod Known
 pub mod Lookups
 pub mod Ties
 pub mod Keys
+pub mod Ranges
 pub mod Stages
 pub mod Finding
 pub mod Walking

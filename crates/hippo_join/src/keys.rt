@@ -1,5 +1,5 @@
 //! Rows that are found by their key, where equalities say each of its values.
-ghost use Rattle.std.specs.Prelude.{◌≡◌, ◌∷◌, [], ◌<◌, ◌≤◌, true, List, Option, Some, IfOk, IfSome, length, map};
+ghost use Rattle.std.specs.Prelude.{◌≡◌, ◌∷◌, [], ◌<◌, ◌≤◌, true, List, Some, IfOk, IfSome, length, take};
 ghost use Rattle.std.specs.List.{list_all};
 ghost use Rattle.hippo_values.specs.declared.truths.CompareOp.TheVariants.{Eq};
 ghost use Rattle.hippo_model.specs.declared.query.CondOf.TheVariants.{Compare};
@@ -27,7 +27,7 @@ pub(crate) struct Span {
 }
 
 // Whether an expression shows a column, where it shows anything.
-fn shows_column(expr: &Expr, column: Ref) -> bool
+pub(crate) fn shows_column(expr: &Expr, column: Ref) -> bool
     ensures { result ≡ true → column_of expr.now ≡ Some column }
 {
     match column_of(expr) {
@@ -57,21 +57,6 @@ fn span_with_key(set: &RowSet, key: &Cells) -> Span
     span_of(set.find(key), set.len())
 }
 
-// The places of the rows that may have a key, if it is told: of all where it is not.
-fn span_told(set: &RowSet, key: Option<Cells>) -> Span
-    ensures { (place : Place) → place < length set.now.rows
-        → IfSome key (λ told. key_of set.now.key (row_at set.now.rows place).row ≡ told)
-        → (result.start ≤ place) × (place < result.end) }
-{
-    match &key {
-        Some(key) => span_with_key(set, key),
-        None => Span {
-            start: 0,
-            end: set.len(),
-        },
-    }
-}
-
 impl<'a, C: ChoiceView> Side<'a, C> {
     // The value in a column of a row that is chosen.
     fn chosen_value(&self, column: Ref, slots: &[Option<usize>]) -> Option<&'a Value>
@@ -87,7 +72,7 @@ impl<'a, C: ChoiceView> Side<'a, C> {
     }
 
     // The value of a literal, or of a column of a row that is chosen.
-    fn shown_value(&self, expr: &'a Expr, slots: &[Option<usize>]) -> Option<&'a Value>
+    pub(crate) fn shown_value(&self, expr: &'a Expr, slots: &[Option<usize>]) -> Option<&'a Value>
         ensures { IfSome result (λ value.
             IsShownAs (C.choices self.now.choices.now) self.now.sets.now slots.now expr.now value.now) }
     {
@@ -149,34 +134,34 @@ impl<'a, C: ChoiceView> Side<'a, C> {
         None
     }
 
-    // The key of a table's row, if the condition says each of its values.
-    fn told_key(
+    // The first values of a table's key, as far as the condition says them.
+    fn told_front(
         &self,
         alloc: Global,
         table: usize,
         columns: &[usize],
         slots: &[Option<usize>],
-    ) -> Result<Option<Cells>, Memory>
-        ensures { IfOk result (λ told. IfSome told (λ key.
-            IsKeyTold (C.choices self.now.choices.now) self.now.sets.now slots.now
-            (outer_parts self.now.query.now.cond) table columns.now key)) }
+    ) -> Result<Cells, Memory>
+        ensures { IfOk result (λ front. IsKeyTold (C.choices self.now.choices.now) self.now.sets.now slots.now
+            (outer_parts self.now.query.now.cond) table (take (length front) columns.now) front) }
     {
-        let mut key = Sequence::new(alloc);
+        let mut front = Sequence::new(alloc);
         for column in columns {
             let column = Ref {
                 table,
                 column: *column,
             };
             let Some(value) = self.told_value(column, slots) else {
-                return Ok(None);
+                return Ok(front);
             };
-            key.push(value.copy(alloc)?)?;
+            front.push(value.copy(alloc)?)?;
         }
-        Ok(Some(key))
+        Ok(front)
     }
 
     // The places of a table's rows that may follow those that are chosen: that of the row with a key, where the
-    // condition says its values, and else all.
+    // condition says its values; those whose key begins with the values that it says, within the bounds that it says of
+    // the next one; and else all.
     pub(crate) fn span(
         &self,
         alloc: Global,
@@ -188,7 +173,11 @@ impl<'a, C: ChoiceView> Side<'a, C> {
             slots.now table span) }
     {
         let set = self.sets.get(table);
-        let key = self.told_key(alloc, table, set.key().as_slice(), slots)?;
-        Ok(span_told(set, key))
+        let columns = set.key().as_slice();
+        let front = self.told_front(alloc, table, columns, slots)?;
+        match columns.get(front.len()) {
+            None => Ok(span_with_key(set, &front)),
+            Some(column) => self.span_from(alloc, table, &front, *column, slots),
+        }
     }
 }

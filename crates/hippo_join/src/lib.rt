@@ -10,6 +10,7 @@ mod keys;
 mod known;
 mod lookups;
 mod orders;
+mod ranges;
 mod reaching;
 mod sides;
 mod stages;

@@ -16,7 +16,7 @@ use crate::lookups::{known_value, sort_by_column, with_value};
 use crate::sides::Side;
 use crate::stages::Stage;
 use crate::ties::{Tie, find_tie, outer_parts};
-use hippo_model::{ChoiceView, Expr, Ref, RowSet};
+use hippo_model::{ChoiceView, Combo, Expr, Ref, RowSet};
 use hippo_values::Memory;
 use std::alloc::Global;
 
@@ -95,10 +95,11 @@ impl<'a, C: ChoiceView> Side<'a, C> {
             table places.items) }
     {
         let mut slots = open_slots(alloc, self.sets.len())?;
+        let mut rows = Combo::new(alloc);
         let mut places = Vec::new(alloc);
         for place in span.start..span.end {
             slots[table] = Some(place);
-            let may_count = self.may_count_alone(alloc, tests, &slots)?;
+            let may_count = self.may_count_alone(&mut rows, tests, &slots)?;
             push_if(may_count, &mut places, place)?;
         }
         Ok(places)
@@ -113,8 +114,8 @@ impl<'a, C: ChoiceView> Side<'a, C> {
         numbers_in(alloc, span)
     }
 
-    // The places of a table's rows that can count. Where literals say the row's key, the row is looked up, in time that
-    // grows with the logarithm of the table.
+    // The places of a table's rows that can count. Where literals say the row's key, or its first values, or bounds of the
+    // next one, these rows are found by halves.
     fn reached_places(&self, alloc: Global, table: usize) -> Result<Vec<usize>, Memory>
         requires { table < length self.now.sets.now }
         ensures { IfOk result (λ places. Reaches (C.choices self.now.choices.now) self.now.query.now self.now.sets.now
@@ -145,6 +146,20 @@ impl<'a, C: ChoiceView> Side<'a, C> {
             }
         }
         true
+    }
+
+    // Whether rows that are chosen, and no literal, say the first value of a table's key.
+    fn tells_front(&self, table: usize, slots: &[Option<usize>]) -> bool
+        requires { table < length self.now.sets.now }
+    {
+        let Some(column) = self.sets.get(table).key().as_slice().first() else {
+            return false;
+        };
+        let column = Ref {
+            table,
+            column: *column,
+        };
+        self.told_value(column, slots).is_some() && self.told_value(column, &[]).is_none()
     }
 
     // A table's stage behind those whose rows are chosen, with its places.
@@ -197,7 +212,7 @@ impl<'a, C: ChoiceView> Side<'a, C> {
         ensures listed { IfOk result (λ stage. lists ≡ true → stage.by_key ≡ false) }
         ensures table { IfOk result (λ stage. stage.table ≡ table) }
     {
-        let by_key = !lists && self.tells_key(table, slots);
+        let by_key = !lists && (self.tells_key(table, slots) || self.tells_front(table, slots));
         let tests = self.tests_at(alloc, table, slots, by_key)?;
         if by_key {
             Ok(Stage {

@@ -49,16 +49,35 @@ fn is_true(truth: Truth) -> bool
     matches!(truth, Truth::True)
 }
 
+// Takes all rows out; their room stays.
+fn clear(rows: &mut Combo<'_>)
+    ensures { rows.new ≡ [] }
+{
+    while !rows.is_empty() {
+        rows.pop();
+    }
+}
+
 impl<'a, C: ChoiceView> Side<'a, C> {
+    // Puts the rows that are chosen, and blank ones of the other tables, in the place of those
+    // before.
+    pub(crate) fn refill(&self, rows: &mut Combo<'a>, slots: &[Option<usize>]) -> Result<(), Memory>
+        ensures { OnOk result (rows.new ≡ rows_at self.now.sets.now slots.now) }
+    {
+        clear(rows);
+        for table in 0..self.sets.len() {
+            let slot = slot_at(slots, table);
+            push_row(rows, self.sets.get(table), slot, self.blank)?;
+        }
+        Ok(())
+    }
+
     // The rows that are chosen, and blank ones of the other tables.
     pub(crate) fn rows(&self, alloc: Global, slots: &[Option<usize>]) -> Result<Combo<'a>, Memory>
         ensures { IfOk result (λ rows. rows ≡ rows_at self.now.sets.now slots.now) }
     {
         let mut rows = Combo::new(alloc);
-        for table in 0..self.sets.len() {
-            let slot = slot_at(slots, table);
-            push_row(&mut rows, self.sets.get(table), slot, self.blank)?;
-        }
+        self.refill(&mut rows, slots)?;
         Ok(rows)
     }
 
@@ -141,14 +160,14 @@ impl<'a, C: ChoiceView> Side<'a, C> {
     // Whether a combination may count that has the row of one table, by the guards and by some parts of the condition.
     pub(crate) fn may_count_alone(
         &self,
-        alloc: Global,
+        rows: &mut Combo<'a>,
         tests: &[usize],
         slots: &[Option<usize>],
     ) -> Result<bool, Memory>
         ensures { IfOk result (λ may. (places : List Place) → Fits slots.now places
             → stands (C.choices self.now.choices.now) self.now.query.now self.now.sets.now places ≡ true → may ≡ true) }
     {
-        let rows = self.rows(alloc, slots)?;
-        Ok(self.guards_hold(slots, &rows) && self.tests_hold(tests, slots, &rows))
+        self.refill(rows, slots)?;
+        Ok(self.guards_hold(slots, rows) && self.tests_hold(tests, slots, rows))
     }
 }

@@ -2,7 +2,7 @@
 use Rattle.std.proofs.Common.{arith}
 use Rattle.hippo_join.specs.Places.{rows_at}
 use Rattle.hippo_join.proofs.SlotLemmas.{rows-more, rows-all}
-use Rattle.hippo_join.proofs.sides.Side.rows.Goals as goal
+use Rattle.hippo_join.proofs.sides.Side.refill.Goals as goal
 
 pub loop-table-preserved : goal.loop-table-preserved
 loop-table-preserved g c =

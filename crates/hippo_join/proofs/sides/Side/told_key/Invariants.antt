@@ -1,9 +1,0 @@
--- The key so far has the values of the first columns.
-use Rattle.std.proofs.Common.{take}
-use Rattle.hippo_model.specs.Conditions.{outer_parts}
-use Rattle.hippo_join.specs.Keys.{IsKeyTold}
-use Rattle.hippo_join.proofs.sides.Side.told_key.Given as goal
-
-abbrev pub invariant-loop-column : goal.invariant-loop-column
-invariant-loop-column g l =
-    IsKeyTold (g.C.ChoiceView.choices l.self.choices.now) l.self.sets.now l.slots (outer_parts l.self.query.now.cond) l.table (take l.column-index l.columns) l.key

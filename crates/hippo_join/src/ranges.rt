@@ -1,0 +1,283 @@
+//! Rows in a range of keys: the first values of the key are told, and the next one may have bounds.
+ghost use Rattle.std.specs.Prelude.{◌≡◌, ◌∷◌, [], ◌<◌, None, Some, IfOk, IfSome, length, nat_lt, slice_get, take};
+ghost use Rattle.hippo_values.specs.Order.{value_cmp};
+ghost use Rattle.hippo_model.specs.declared.query.CondOf.TheVariants.{Compare, Between};
+ghost use Rattle.hippo_model.specs.Conditions.{outer_parts};
+ghost use Rattle.hippo_model.specs.RowSets.{KeyedRows};
+ghost use Rattle.hippo_model.specs.Rows.{cell_at, key_of};
+ghost use Rattle.hippo_model.specs.Terms.{Place};
+ghost use Rattle.hippo_join.specs.Keys.{IsKeyTold, IsWithin};
+ghost use Rattle.hippo_join.specs.Ranges.{front_cmp, is_low, is_past, stands_low, bounding, flipped, IsBoundedBy, IsEdge};
+
+use crate::keys::{Span, shows_column};
+use crate::sides::Side;
+use crate::ties::outer_parts;
+use hippo_model::{Cells, ChoiceView, CondOf, Expr, Ref, RowSet};
+use hippo_values::{CompareOp, Duplicate, Memory, Value};
+use std::alloc::Global;
+use std::cmp::Ordering;
+
+// A value that bounds others, from below or from above, and whether they differ from it.
+#[derive(Clone, Copy)]
+pub(crate) struct Bound<'a> {
+    pub value: &'a Value,
+    pub strict: bool,
+}
+
+fn cell_order(row: &[Value], column: usize, value: &Value) -> Ordering
+    ensures { result ≡ value_cmp (cell_at row.now column) value.now }
+{
+    row.get(column).unwrap_or(&Value::Null).cmp(value)
+}
+
+// A row's key against the first values of one.
+fn front_order(row: &[Value], columns: &[usize], front: &[Value]) -> Ordering
+    ensures { result ≡ front_cmp (key_of columns.now row.now) front.now }
+{
+    for (column, value) in columns.iter().zip(front) {
+        let order = cell_order(row, *column, value);
+        if order.is_ne() {
+            return order;
+        }
+    }
+    Ordering::Equal
+}
+
+// Whether an order is one before an end, where equal ones are passed too or not.
+fn is_low(order: Ordering, past: bool) -> bool
+    ensures { result ≡ is_low past order }
+{
+    if past { order.is_le() } else { order.is_lt() }
+}
+
+fn stands_low(set: &RowSet, front: &[Value], past: bool, place: usize) -> bool
+    requires { place < length set.now.rows }
+    ensures { result ≡ stands_low set.now front.now past place }
+{
+    is_low(
+        front_order(set.row(place).as_slice(), set.key().as_slice(), front),
+        past,
+    )
+}
+
+// Where the rows end that stand before those whose key begins with these values; or these end, where they are passed
+// too. It is found by halves.
+fn split(set: &RowSet, front: &[Value], past: bool) -> usize
+    ensures { (place : Place) → place < length set.now.rows
+        → stands_low set.now front.now past place ≡ nat_lt place result }
+{
+    let mut low = 0;
+    let mut high = set.len();
+    while low < high {
+        let middle = low + (high - low) / 2;
+        if stands_low(set, front, past, middle) {
+            low = middle + 1;
+        } else {
+            high = middle;
+        }
+    }
+    low
+}
+
+// Whether the values that are equal to a bound stand before the end that it makes.
+fn is_past(strict: bool, above: bool) -> bool
+    ensures { result ≡ is_past above strict }
+{
+    if above { !strict } else { strict }
+}
+
+// Where the rows begin, or end, whose key begins with these values.
+fn front_edge(set: &RowSet, front: &[Value], column: usize, above: bool) -> usize
+    ensures { IsEdge set.now front.now column above None result }
+{
+    if front.is_empty() {
+        if above { set.len() } else { 0 }
+    } else {
+        split(set, front, above)
+    }
+}
+
+// Where those of them begin, or end, whose next value is within a bound.
+fn bounded_edge(
+    alloc: Global,
+    set: &RowSet,
+    front: &Cells,
+    column: usize,
+    above: bool,
+    bound: Bound<'_>,
+) -> Result<usize, Memory>
+    requires { slice_get set.now.key (length front.now) ≡ Some column }
+    ensures { IfOk result (λ edge. IsEdge set.now front.now column above (Some bound.entry) edge) }
+{
+    let mut values = front.copy(alloc)?;
+    values.push(bound.value.copy(alloc)?)?;
+    Ok(split(set, values.as_slice(), is_past(bound.strict, above)))
+}
+
+fn edge(
+    alloc: Global,
+    set: &RowSet,
+    front: &Cells,
+    column: usize,
+    above: bool,
+    bound: Option<Bound<'_>>,
+) -> Result<usize, Memory>
+    requires { slice_get set.now.key (length front.now) ≡ Some column }
+    ensures { IfOk result (λ edge. IsEdge set.now front.now column above bound.entry edge) }
+{
+    match bound {
+        None => Ok(front_edge(set, front.as_slice(), column, above)),
+        Some(bound) => bounded_edge(alloc, set, front, column, above, bound),
+    }
+}
+
+// Whether an operator bounds its left side from below, or from above, and strictly.
+fn strictness(op: CompareOp, above: bool) -> Option<bool>
+    ensures { IfSome result (λ strict. op ≡ bounding above strict) }
+{
+    match op {
+        CompareOp::Ge if !above => Some(false),
+        CompareOp::Gt if !above => Some(true),
+        CompareOp::Le if above => Some(false),
+        CompareOp::Lt if above => Some(true),
+        _ => None,
+    }
+}
+
+// The operator that says the same of two values in the other order.
+fn flipped(op: CompareOp) -> CompareOp
+    ensures { result ≡ flipped op }
+{
+    match op {
+        CompareOp::Eq => CompareOp::Eq,
+        CompareOp::Ne => CompareOp::Ne,
+        CompareOp::Lt => CompareOp::Gt,
+        CompareOp::Le => CompareOp::Ge,
+        CompareOp::Gt => CompareOp::Lt,
+        CompareOp::Ge => CompareOp::Le,
+    }
+}
+
+impl<'a, C: ChoiceView> Side<'a, C> {
+    // The bound of a column that stands on the left of a comparison, if it tells one.
+    fn bound_beside(
+        &self,
+        column: Ref,
+        op: CompareOp,
+        left: &'a Expr,
+        right: &'a Expr,
+        above: bool,
+        slots: &[Option<usize>],
+    ) -> Option<Bound<'a>>
+        ensures { IfSome result (λ bound. IsBoundedBy (C.choices self.now.choices.now) self.now.sets.now slots.now
+            (Compare op left.now right.now ∷ []) column (bounding above bound.strict) bound.value.now) }
+    {
+        if !shows_column(left, column) {
+            return None;
+        }
+        let strict = strictness(op, above)?;
+        let value = self.shown_value(right, slots)?;
+        Some(Bound { value, strict })
+    }
+
+    // The bound of a column that stands on either side of a comparison.
+    fn bound_by_compare(
+        &self,
+        column: Ref,
+        op: CompareOp,
+        left: &'a Expr,
+        right: &'a Expr,
+        above: bool,
+        slots: &[Option<usize>],
+    ) -> Option<Bound<'a>>
+        ensures { IfSome result (λ bound. IsBoundedBy (C.choices self.now.choices.now) self.now.sets.now slots.now
+            (Compare op left.now right.now ∷ []) column (bounding above bound.strict) bound.value.now) }
+    {
+        match self.bound_beside(column, op, left, right, above, slots) {
+            Some(bound) => Some(bound),
+            None => self.bound_beside(column, flipped(op), right, left, above, slots),
+        }
+    }
+
+    // The bound of a column that is to be between two values.
+    fn bound_by_between(
+        &self,
+        column: Ref,
+        value: &'a Expr,
+        low: &'a Expr,
+        high: &'a Expr,
+        above: bool,
+        slots: &[Option<usize>],
+    ) -> Option<Bound<'a>>
+        ensures { IfSome result (λ bound. IsBoundedBy (C.choices self.now.choices.now) self.now.sets.now slots.now
+            (Between value.now low.now high.now ∷ []) column (bounding above bound.strict) bound.value.now) }
+    {
+        if above {
+            self.bound_beside(column, CompareOp::Le, value, high, above, slots)
+        } else {
+            self.bound_beside(column, CompareOp::Ge, value, low, above, slots)
+        }
+    }
+
+    fn bound_by_part(
+        &self,
+        column: Ref,
+        part: &'a CondOf<Expr>,
+        above: bool,
+        slots: &[Option<usize>],
+    ) -> Option<Bound<'a>>
+        ensures { IfSome result (λ bound. IsBoundedBy (C.choices self.now.choices.now) self.now.sets.now slots.now
+            (part.now ∷ []) column (bounding above bound.strict) bound.value.now) }
+    {
+        match part {
+            CondOf::Compare { op, left, right } => {
+                self.bound_by_compare(column, *op, left, right, above, slots)
+            }
+            CondOf::Between { value, low, high } => {
+                self.bound_by_between(column, value, low, high, above, slots)
+            }
+            _ => None,
+        }
+    }
+
+    // A bound of a column from below or from above, if the condition says one: by a literal, or by a row that is chosen.
+    fn told_bound(&self, column: Ref, above: bool, slots: &[Option<usize>]) -> Option<Bound<'a>>
+        ensures { IfSome result (λ bound. IsBoundedBy (C.choices self.now.choices.now) self.now.sets.now slots.now
+            (outer_parts self.now.query.now.cond) column (bounding above bound.strict) bound.value.now) }
+    {
+        for part in outer_parts(&self.query.cond) {
+            if let Some(bound) = self.bound_by_part(column, part, above, slots) {
+                return Some(bound);
+            }
+        }
+        None
+    }
+
+    // The places of the rows whose key begins with the values that are told, where the next one is not.
+    pub(crate) fn span_from(
+        &self,
+        alloc: Global,
+        table: usize,
+        front: &Cells,
+        column: usize,
+        slots: &[Option<usize>],
+    ) -> Result<Span, Memory>
+        requires table { table < length self.now.sets.now }
+        requires told { (set : KeyedRows) → slice_get self.now.sets.now table ≡ Some set
+            → IsKeyTold (C.choices self.now.choices.now) self.now.sets.now slots.now
+            (outer_parts self.now.query.now.cond) table (take (length front.now) set.key) front.now }
+        requires next { (set : KeyedRows) → slice_get self.now.sets.now table ≡ Some set
+            → slice_get set.key (length front.now) ≡ Some column }
+        ensures { IfOk result (λ span. IsWithin (C.choices self.now.choices.now) self.now.query.now self.now.sets.now
+            slots.now table span) }
+    {
+        let set = self.sets.get(table);
+        let next = Ref { table, column };
+        let low = self.told_bound(next, false, slots);
+        let high = self.told_bound(next, true, slots);
+        Ok(Span {
+            start: edge(alloc, set, front, column, false, low)?,
+            end: edge(alloc, set, front, column, true, high)?,
+        })
+    }
+}
