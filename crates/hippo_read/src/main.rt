@@ -1,9 +1,11 @@
-//! Shows how texts are read. Each line of standard input is the word of a rule, a space and a text; what the text is by
-//! that rule, or why it is nothing, is written as one line.
+//! Shows how texts are read. Each line of standard input is the word of a rule, a space and a text;
+//! what the text is by that rule, or why it is nothing, is written as one line. Behind the word
+//! `long` the text is written in parts (`long.rt`), and its reading is written in parts too, behind
+//! the number of the text's bytes.
 #![tactic(auto)]
 
-#[cfg(test)]
-mod tests;
+mod entries;
+mod long;
 mod values;
 
 use hippo_audit_reader::read_audit;
@@ -40,9 +42,11 @@ fn by_rule(alloc: Global, rule: &str, tokens: &Tokens) -> Result<String, AllocEr
     }
 }
 
-// What a line's text is by the rule that stands before it: the Debug form of a reading, or of the fault.
-fn reading(alloc: Global, line: &str) -> Result<String, AllocError> {
-    let (rule, text) = line.split_once(' ').unwrap_or((line, ""));
+// What a text is by a rule: the Debug form of a reading, or of the fault.
+fn reading(alloc: Global, rule: &str, text: &str) -> Result<String, AllocError> {
+    if rule == "entry" {
+        return entries::shown_entry(alloc, text);
+    }
     if values::RULES.contains(&rule) {
         return values::shown_value(alloc, rule, text);
     }
@@ -53,9 +57,30 @@ fn reading(alloc: Global, line: &str) -> Result<String, AllocError> {
     }
 }
 
+// The same of a text that is written in parts.
+fn long_reading(alloc: Global, rule: &str, row: &str) -> Result<String, AllocError> {
+    let (text, counted) = long::long_text(alloc, row)?;
+    let reading = reading(alloc, rule, text.as_str())?;
+    let reading = long::short_reading(alloc, reading.as_str(), counted)?;
+    format!(in alloc; "{} bytes: {reading}", text.len())
+}
+
+fn word_and_rest(line: &str) -> (&str, &str) {
+    line.split_once(' ').unwrap_or((line, ""))
+}
+
+fn line_reading(alloc: Global, line: &str) -> Result<String, AllocError> {
+    let (word, rest) = word_and_rest(line);
+    if word == "long" {
+        let (rule, row) = word_and_rest(rest);
+        return long_reading(alloc, rule, row);
+    }
+    reading(alloc, word, rest)
+}
+
 fn main(rt: HostRuntime) -> io::Result<()> {
     for line in rt.lines(rt.alloc()) {
-        let reading = reading(rt.alloc(), line?.as_str())?;
+        let reading = line_reading(rt.alloc(), line?.as_str())?;
         println!(rt; "{reading}")?;
     }
     Ok(())
