@@ -32,7 +32,7 @@ use Rattle.hippo_model.proofs.Truths.{truth-Compare, truth-Between}
 use Rattle.hippo_eval.specs.MaskedTruth.{masked_value}
 use Rattle.hippo_join.specs.declared.keys.Span.{Span}
 use Rattle.hippo_join.specs.declared.ranges.Bound.{Bound}
-use Rattle.hippo_join.specs.Places.{row_at, chosen, Fits, stands}
+use Rattle.hippo_join.specs.Places.{row_at, chosen}
 use Rattle.hippo_join.specs.Lookups.{value_at}
 use Rattle.hippo_join.specs.Ties.{column_of, holds}
 use Rattle.hippo_join.specs.Keys.{IsShownAs, IsKeyTold, IsWithin}

@@ -7,7 +7,7 @@ use Rattle.std.specs.Option.{option_map_or}
 use Rattle.std.specs.Ordering.{is_eq, nat_cmp}
 use Rattle.std.specs.Cmp.Lexicographic.{slice_cmp}
 use Rattle.std.specs.Cmp.{eq_by_cmp_equiv}
-use Rattle.std.proofs.lemmas.Bool.{and_parts, false≢true}
+use Rattle.std.proofs.lemmas.Bool.{false≢true}
 use Rattle.std.proofs.lemmas.Bool.Decides.{nat_tests}
 use Rattle.std.proofs.lemmas.Cmp.{nat_list_cmp_total}
 use Rattle.std.proofs.lemmas.List.{append-nil, drop_all, length-append, length-map, map-id, take-append-drop}
@@ -24,7 +24,7 @@ use Rattle.hippo_model.specs.RowSets.{KeyedRows}
 use Rattle.hippo_model.specs.Answers.{product}
 use Rattle.hippo_model.specs.Masking.{Choices, is_guarded, masked_passes}
 use Rattle.hippo_eval.specs.declared.walks.Onward.{Onward}
-use Rattle.hippo_eval.specs.declared.walks.Onward.TheVariants.{More, Enough}
+use Rattle.hippo_eval.specs.declared.walks.Onward.TheVariants.{Enough}
 use Rattle.hippo_eval.specs.Walks.{rows_of, continued, KeptAfter}
 use Rattle.hippo_eval.proofs.WalkLemmas.{beginning, take_row, drop_at}
 use Rattle.hippo_eval.proofs.KeptLemmas.{kept_whole, product_at}

@@ -1,7 +1,5 @@
 -- Rows within the bound stand on its side of the end.
-use Rattle.std.proofs.Common.{◌≡◌, ℕ, ◌∷◌, ◌++◌, [], ◌<◌, length, nat_lt, ap, sym, subst, ◌∙◌, Bool}
-use Rattle.hippo_model.specs.Terms.{Key, Place}
-use Rattle.hippo_values.specs.declared.values.Value.{Value}
+use Rattle.std.proofs.Common.{◌∷◌, ◌++◌, [], ap, sym, ◌∙◌, Bool}
 use Rattle.hippo_join.specs.Ranges.{stands_low}
 use Rattle.hippo_join.proofs.RangeLemmas.{bounded-edge}
 use Rattle.hippo_join.proofs.ranges.bounded_edge.Goals as goal

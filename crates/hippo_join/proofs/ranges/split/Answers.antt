@@ -1,5 +1,5 @@
 -- Keys ascend, so what stands before a low row is low, and what stands behind another is not.
-use Rattle.std.proofs.Common.{◌≡◌, ℕ, ◌+◌, ◌-◌, ◌/◌, ◌<◌, ◌≤◌, true, false, sym, ◌∙◌, arith}
+use Rattle.std.proofs.Common.{ℕ, ◌+◌, ◌-◌, ◌/◌, ◌<◌, sym, ◌∙◌, arith}
 use Rattle.hippo_join.specs.Ranges.{stands_low}
 use Rattle.hippo_join.proofs.RangeLemmas.{low-before, high-after, parted}
 use Rattle.hippo_join.proofs.ranges.split.Goals as goal

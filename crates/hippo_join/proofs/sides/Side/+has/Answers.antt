@@ -1,5 +1,5 @@
 -- The stages that are left are stages of a walk too.
-use Rattle.std.proofs.Common.{◌≡◌, suc, true, List, ◌∷◌, length, get_or, None, Some, Option, subst, sym, ap, ◌∙◌, arith}
+use Rattle.std.proofs.Common.{◌≡◌, suc, List, length, get_or, None, Some, Option, subst, sym, ap, ◌∙◌, arith}
 use Rattle.std.specs.Prelude.{slice_set}
 use Rattle.std.proofs.lemmas.List.{set-set}
 use Rattle.hippo_model.specs.Terms.{Place}

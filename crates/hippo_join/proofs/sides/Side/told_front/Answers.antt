@@ -1,5 +1,5 @@
 -- One column more.
-use Rattle.std.proofs.Common.{◌≡◌, ℕ, ◌+◌, [], ◌∷◌, length, take, ap, refl, sym, get_or, subst, ◌∙◌, length-append}
+use Rattle.std.proofs.Common.{ℕ, ◌+◌, [], ◌∷◌, length, take, ap, refl, sym, get_or, subst, ◌∙◌, length-append}
 use Rattle.std.proofs.lemmas.Grind.{get_or_default_zero}
 use Rattle.hippo_model.specs.Conditions.{outer_parts}
 use Rattle.hippo_model.specs.Terms.{Place}
