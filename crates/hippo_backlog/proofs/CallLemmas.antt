@@ -10,6 +10,7 @@ use Rattle.hippo_keeper.specs.Keeping.{KeeperState, IsReady, IsAfterCall, Stays,
 use Rattle.hippo_backlog.specs.declared.faults.ReadFault.{ReadFault}
 use Rattle.hippo_backlog.specs.declared.faults.ReadFault.TheVariants.{Keeper, Damaged, Memory}
 use Rattle.hippo_backlog.specs.Calls.{fault_of, as_call}
+use Rattle.hippo_keeper.proofs.Results.{err_of}
 
 -- no keeper's fault is none of its calls' failures
 pub as_call-unfailed : {A : Type 0} (result : Result A ReadFault) → result ≢ Err Keeper → has_failed (as_call result) ≡ false
