@@ -1,16 +1,13 @@
--- Calls of a keeper, one after the other.
-use Rattle.std.proofs.Common.{◌≡◌, ◌∙◌, sym, refl, arith, subst, ℕ, Bool, true, false, Result, Ok, Err}
+-- Faults of a read, as those of its calls.
+use Rattle.std.proofs.Common.{◌≡◌, refl, ℕ, false, Result, Ok, Err}
 use Rattle.std.specs.Prelude.{◌≢◌}
-use Rattle.std.proofs.lemmas.Bool.{false≢true}
-use Rattle.hippo_io.specs.Faults.{HasRisen}
 use Rattle.hippo_keeper.specs.declared.faults.KeeperFault.{KeeperFault}
 use Rattle.hippo_keeper.specs.declared.faults.KeeperFault.TheVariants as keeper_faults
 use Rattle.hippo_keeper.specs.Answering.{has_failed}
-use Rattle.hippo_keeper.specs.Keeping.{KeeperState, IsReady, IsAfterCall, Stays, KeepsSame}
+use Rattle.hippo_keeper.proofs.Results.{err_of}
 use Rattle.hippo_backlog.specs.declared.faults.ReadFault.{ReadFault}
 use Rattle.hippo_backlog.specs.declared.faults.ReadFault.TheVariants.{Keeper, Damaged, Memory}
 use Rattle.hippo_backlog.specs.Calls.{fault_of, as_call}
-use Rattle.hippo_keeper.proofs.Results.{err_of}
 
 -- no keeper's fault is none of its calls' failures
 pub as_call-unfailed : {A : Type 0} (result : Result A ReadFault) → result ≢ Err Keeper → has_failed (as_call result) ≡ false

@@ -16,7 +16,6 @@ use Rattle.hippo_keeper.specs.Keeping.{Store, Survivors, RisesAbove, last_number
 use Rattle.hippo_keeper.specs.Selecting.{is_any, handed_over}
 use Rattle.hippo_keeper.proofs.RisingLemmas.{next_number-append}
 use Rattle.hippo_replay.specs.Loading.{KeepsFound}
-use Rattle.hippo_keeper.proofs.Results.{well}
 
 -- the number of the next entry behind the stored forms of a valid history
 pub next_kept-stored : (meaning : Meaning) (history : History) → is_valid meaning history ≡ true → next_kept (map stored history) ≡ length history + 1
