@@ -5,8 +5,6 @@ use Rattle.std.proofs.lemmas.List.{map-append}
 use Rattle.hippo_model.specs.declared.entry.Entry.{Entry}
 use Rattle.hippo_model.specs.StoredForms.{stored}
 use Rattle.hippo_model.specs.Terms.{History}
-use Rattle.hippo_model.specs.Validity.{is_valid}
-use Rattle.hippo_typing.specs.Meanings.{meaning}
 use Rattle.hippo_keeper.specs.Keeping.{KeeperState, KeepsSame}
 use Rattle.hippo_replay.specs.Recording.{HasKept}
 use Rattle.hippo_replay.specs.Standing.{StandsFor, IsSound}
@@ -16,11 +14,10 @@ use Rattle.hippo_keeper.proofs.Results.{well}
 use Rattle.hippo_report.specs.declared.refusal.Refusal.{Refusal}
 use Rattle.hippo_report.specs.declared.refusal.Refusal.TheVariants.{Memory}
 use Rattle.hippo_report.specs.Refusals.{refusal_line}
-use Rattle.hippo_world.specs.declared.worlds.World.{World as HeldWorld}
 use Rattle.hippo_world.specs.Worlds.{World, opening}
 use Rattle.hippo_report.specs.declared.format.Format.{Format}
 use Rattle.hippo_values.specs.declared.moments.Moment.{Moment}
-use Rattle.hippo_world.specs.Holding.{world_of, KeepsAudits, JobsFit, WatchesFit}
+use Rattle.hippo_world.specs.Holding.{world_of, JobsFit, WatchesFit}
 use Rattle.hippo_world.proofs.AuditLemmas.{JobsFit-opening, WatchesFit-opening, JobsFit-same, WatchesFit-same, taken_of-same}
 use Rattle.hippo_commands.specs.Commands.{Command, nothing, wrong, ask, state, who_commands, may_want, IsCommand}
 use Rattle.hippo_commands.specs.Commands as commands

@@ -1,18 +1,14 @@
 -- What a keeper keeps, from one call to the next.
-use Rattle.std.proofs.Common.{◌≡◌, ◌∙◌, sym, ap, refl, arith, subst, ℕ, zero, suc, ◌+◌, ◌<◌, ◌≤◌, Bool, true, false, [], ◌∷◌, ◌++◌, map, length, take, filter, nat_lt, Result, length-append}
+use Rattle.std.proofs.Common.{◌≡◌, ◌∙◌, sym, ap, refl, arith, subst, ℕ, zero, suc, ◌+◌, ◌<◌, ◌≤◌, true, false, [], ◌∷◌, ◌++◌, map, length, take, filter, nat_lt, length-append}
 use mathlib.Core.Logic.{∥∥₁_map}
-use Rattle.std.proofs.lemmas.Bool.{false≢true}
 use Rattle.std.proofs.lemmas.Bool.Decides.{nat_tests}
 use Rattle.std.proofs.lemmas.List.{map-append}
-use Rattle.hippo_io.specs.Faults.{HasRisen}
 use Rattle.hippo_model.specs.declared.entry.Entry.{Entry}
 use Rattle.hippo_model.specs.Terms.{History, Meaning}
 use Rattle.hippo_model.specs.StoredForms.{stored}
 use Rattle.hippo_model.specs.Validity.{is_valid}
 use Rattle.hippo_laws.proofs.ValidFronts.{holds_of_each_valid, next_number}
-use Rattle.hippo_keeper.specs.declared.faults.KeeperFault.{KeeperFault}
-use Rattle.hippo_keeper.specs.Answering.{has_failed}
-use Rattle.hippo_keeper.specs.Keeping.{Store, Survivors, RisesAbove, last_number, next_number as next_kept, KeeperState, IsReady, IsAfterCall, HasFound, Stays, KeepsSame}
+use Rattle.hippo_keeper.specs.Keeping.{Store, Survivors, RisesAbove, last_number, next_number as next_kept, KeeperState, HasFound, KeepsSame}
 use Rattle.hippo_keeper.specs.Selecting.{is_any, handed_over}
 use Rattle.hippo_keeper.proofs.RisingLemmas.{next_number-append}
 use Rattle.hippo_replay.specs.Loading.{KeepsFound}
