@@ -1,5 +1,5 @@
 -- The table of the history, and the rows that it holds.
-use Rattle.std.specs.Prelude.{◌≡◌, true, false, [], ◌∷◌, Some, codes, List, ℕ, ◌^◌, ℤ, pos, map, filter, find, nat_lt, if◌then◌else◌}
+use Rattle.std.specs.Prelude.{◌≡◌, Bool, true, false, not, ◌&&◌, [], ◌∷◌, Some, is_some, codes, List, ℕ, ◌^◌, ℤ, pos, map, filter, find, length, nat_lt, ◌==◌, if◌then◌else◌}
 use Rattle.std.specs.declared.cmp.Ordering.TheVariants.{Less}
 use Rattle.std.specs.List.{AllByRecursion}
 use Rattle.std.specs.Option.{option_map_or}
@@ -13,7 +13,7 @@ use Rattle.sqlite_trees.specs.Tree.{Trees, IsAscending}
 use Rattle.sqlite_rules.specs.Edit.{id_in}
 use Rattle.hippo_model.specs.declared.stored.StoredEntry.{StoredEntry}
 use Rattle.hippo_keeper.specs.Keeping.{Store}
-use Rattle.sqlite_schema.specs.Names.{same_name}
+use Rattle.sqlite_schema.specs.Names.{same_name, table_named}
 use Rattle.sqlite_schema.specs.declared.schema.Table.{Table}
 use Rattle.sqlite_schema.specs.declared.schema.Schema.{Schema}
 use Rattle.sqlite_schema.specs.declared.schema.Column.{Column}
@@ -48,6 +48,10 @@ history_schema = record { tables = history_table ∷ []; indexes = []; views = [
 
 abbrev pub empty_schema : Schema
 empty_schema = record { tables = []; indexes = []; views = [] }
+
+-- the database of another program: it has tables, or what `sqlite` lists as views, and no table with the history's name
+abbrev pub is_foreign : Schema → Bool
+is_foreign schema = not (length schema.tables == 0 && length schema.views == 0) && not (is_some (table_named schema (codes "history")))
 
 -- the values in a row of the table
 pub record HistoryRow : Type 0 where

@@ -1,5 +1,5 @@
 //! A keeper's connection to its store.
-ghost use Rattle.std.specs.Prelude.{◌≡◌, ℕ, ◌^◌, ◌<◌, ◌≤◌, List, [], map, length, if◌then◌else◌, IfOk};
+ghost use Rattle.std.specs.Prelude.{◌≡◌, ℕ, ◌^◌, ◌<◌, ◌≤◌, false, List, [], map, length, if◌then◌else◌, IfOk};
 ghost use Rattle.sqlite.specs.State.{HasCleanDisk, Survives, CommitsShowing, Opens, IsLive};
 ghost use Rattle.sqlite.specs.Held.{state};
 ghost use Rattle.hippo_keeper.specs.Answering.{has_failed};
@@ -10,7 +10,7 @@ ghost use Rattle.hippo_sqlite.specs.Links.{linked_contents, link_contents};
 ghost use Rattle.hippo_sqlite.specs.Outcomes.{HasExecuted, HasLooked, IsLinked};
 ghost use Rattle.hippo_sqlite.specs.Queries.{insert_text, text_of, params_of, test_of};
 ghost use Rattle.hippo_sqlite.specs.Standings.{IsStarted};
-ghost use Rattle.hippo_sqlite.specs.Tables.{HistoryRow, row_of, values_of, stored_row, entries_in, AreInOrder, history_schema};
+ghost use Rattle.hippo_sqlite.specs.Tables.{HistoryRow, row_of, values_of, stored_row, entries_in, AreInOrder, history_schema, is_foreign};
 
 use crate::entries::entries_of;
 use crate::standing::fault_of;
@@ -18,6 +18,7 @@ use crate::statements::{Question, create_history, insert, select};
 use hippo_keeper::KeeperFault;
 use hippo_model::{StoredEntry, StoredList};
 use sqlite::{Alter, Connection, MemStore};
+use sqlite_schema::schema::Schema;
 use std::alloc::Global;
 use std::snapshot::Snapshot;
 
@@ -85,13 +86,26 @@ fn find<S: Alter>(
     }
 }
 
+// Whether a database is another program's: it has tables or views, and no table with the name of the history's.
+fn is_foreign(schema: &Schema) -> bool
+    ensures { result ≡ is_foreign schema.now }
+{
+    let is_new = schema.tables.as_slice().is_empty() && schema.views.as_slice().is_empty();
+    !is_new && schema.table_named(b"history").is_none()
+}
+
 impl<S: Alter + Drop> Linked<S> {
-    /// The store of a new connection, where the table of the history is made if there is none.
+    /// The store of a new connection, where the table of the history is made if there is none. The database of another
+    /// program is refused, and nothing is written to it.
     fn new(mut connection: Connection<S>) -> Result<Linked<S>, KeeperFault>
         requires { HasCleanDisk (state S.Store connection)
             → Opens (state S.Store connection) × IsLive (state S.Store connection) }
-        ensures { IfOk result (λ it. IsLinked (state S.Store connection) (linked_contents S.Store it)) }
+        ensures linked { IfOk result (λ it. IsLinked (state S.Store connection) (linked_contents S.Store it)) }
+        ensures own { IfOk result (λ it. is_foreign (state S.Store connection).now.schema ≡ false) }
     {
+        if is_foreign(connection.schema()) {
+            return Err(KeeperFault::Failed);
+        }
         let opened = Snapshot::of(&connection);
         match create_history(&mut connection) {
             Ok(_) => Ok(Linked {
@@ -168,11 +182,13 @@ impl<S: Alter + Drop> Link<S> {
         }
     }
 
-    /// The store of a connection, where the table of the history is made if there is none.
+    /// The store of a connection, where the table of the history is made if there is none. The database of another
+    /// program is refused.
     pub(crate) fn opened(connection: Connection<S>) -> Result<Link<S>, KeeperFault>
         requires { HasCleanDisk (state S.Store connection)
             → Opens (state S.Store connection) × IsLive (state S.Store connection) }
-        ensures { IfOk result (λ link. IsLinked (state S.Store connection) (link_contents S.Store link)) }
+        ensures linked { IfOk result (λ link. IsLinked (state S.Store connection) (link_contents S.Store link)) }
+        ensures own { IfOk result (λ link. is_foreign (state S.Store connection).now.schema ≡ false) }
     {
         match Linked::new(connection) {
             Ok(linked) => Ok(Link::Opened(linked)),
