@@ -21,7 +21,7 @@ use Rattle.hippo_model.specs.declared.schema.Schema.{Schema}
 use Rattle.hippo_model.specs.Histories.{before_entry, schema_at}
 use Rattle.hippo_model.specs.Rows.{cell_at}
 use Rattle.hippo_model.specs.Terms.{History, Key, Place, Row}
-use Rattle.hippo_report.specs.Cells.{joined, comma}
+use Rattle.hippo_telling.specs.Cells.{joined, comma}
 
 -- a value as a literal
 abbrev pub literal_text : Value → Txt
