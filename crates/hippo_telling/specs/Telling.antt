@@ -21,14 +21,14 @@ use Rattle.hippo_model.specs.declared.schema.Schema.{Schema}
 use Rattle.hippo_model.specs.Histories.{before_entry, schema_at}
 use Rattle.hippo_model.specs.Rows.{cell_at}
 use Rattle.hippo_model.specs.Terms.{History, Key, Place, Row}
-use Rattle.hippo_telling.specs.Cells.{joined, comma}
+use Rattle.hippo_report.specs.Cells.{joined, comma}
 
 -- a value as a literal
 abbrev pub literal_text : Value → Txt
 literal_text values.Null = codes "NULL"
 literal_text (values.Int number) = signed_decimal number
 literal_text (values.Text text) = quoted text
-literal_text (values.Day day) = codes "DATE " ++ quoted (day_text day)
+literal_text (values.Day day) = codes "DATE '" ++ (day_text day ++ codes "'")
 
 abbrev pub literals_text : List Value → Txt
 literals_text literals = joined literal_text comma literals

@@ -1,7 +1,7 @@
 //! Lists with a separator between their members.
 ghost use Rattle.std.specs.Prelude.{◌≡◌, ◌++◌, flat_map, OnOk, OnErr};
 ghost use Rattle.hippo_values.specs.Printing.{KeepsFront};
-ghost use Rattle.hippo_telling.specs.Cells.{joined};
+ghost use Rattle.hippo_report.specs.Cells.{joined};
 
 use hippo_values::{Memory, RoomyTxt};
 

@@ -1,7 +1,7 @@
 //! Tables that are created.
 ghost use Rattle.std.specs.Prelude.{◌≡◌, ◌++◌, OnOk, OnErr};
 ghost use Rattle.hippo_values.specs.Printing.{KeepsFront};
-ghost use Rattle.hippo_telling.specs.Cells.{joined, comma};
+ghost use Rattle.hippo_report.specs.Cells.{joined, comma};
 ghost use Rattle.hippo_telling.specs.Telling.{kind_text, not_null_text, column_text, subject_text, create_text};
 
 use crate::columns::{append_name, append_names};
