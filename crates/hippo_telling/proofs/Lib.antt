@@ -1,1 +1,2 @@
+mod SetPlaces
 mod TellingExamples

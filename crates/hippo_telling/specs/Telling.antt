@@ -88,7 +88,7 @@ create_text schema =
 abbrev pub insert_text : Name → Row → Txt
 insert_text table row = codes "INSERT INTO " ++ (table ++ (codes " VALUES (" ++ (literals_text row ++ codes ")")))
 
--- every column is set that is none of the key's
+-- Every column is set that is none of the key's. Where there is none, the text is no statement: none makes such an act.
 abbrev pub update_text : List Column → List Place → Name → Row → Txt
 update_text columns key table row =
     codes "UPDATE " ++ (table ++ (codes " SET " ++ (row_text columns row comma (set_places columns key)

@@ -3,10 +3,10 @@ ghost use Rattle.std.specs.Prelude.{◌≡◌, ◌++◌, option_copied, OnOk, On
 ghost use Rattle.hippo_values.specs.Printing.{KeepsFront};
 ghost use Rattle.hippo_telling.specs.Telling.{columns_of, key_places, told_act, table_named};
 
+use crate::columns::append_named;
 use crate::rows::{append_delete, append_insert, append_update};
 use crate::rules::{
-    Rule, append_allow, append_asked, append_choice, append_grant, append_item, append_named,
-    append_rule,
+    Rule, append_allow, append_asked, append_choice, append_grant, append_item, append_rule,
 };
 use crate::tables::append_create;
 use hippo_model::{Act, Column, Schema};

@@ -90,3 +90,9 @@ says-sign text rest sign said is longest more = says-token text rest (Symbol sig
 pub says-quoted : (text rest : Txt) (said : Kinds) → begins_with is_quote rest ≡ false → Says rest said → Says (quoted text ++ rest) (Quoted text ∷ said)
 says-quoted text rest said ends more =
     says-token (quoted text) rest (Quoted text) said (a_quoted_text (quoted text) text rest refl ends) more
+
+-- a word in whatever case that is no word of the language
+pub says-plain_word : (word rest : Txt) (said : Kinds) → is_name word ≡ true → EndsWord rest → Says rest said → Says (word ++ rest) (Word (folded word) ∷ said)
+says-plain_word word rest said is ends more =
+    let form = (and_parts _ _ (and_parts _ _ is).0).0 in
+    says-token word rest (Word (folded word)) said (a_name word rest (record { form = form; ends = ends }) is) more

@@ -6,7 +6,7 @@ use Rattle.hippo_telling.specs.Telling.{assigned_text}
 use Rattle.hippo_telling.proofs.rows.append_key_later.Given as goal
 
 abbrev pub invariant-loop-place : goal.invariant-loop-place
-invariant-loop-place l =
+invariant-loop-place g l =
     let n = length l.yielded in
     (l.out ++ flat_map (λ pair. codes " AND " ++ assigned_text l.columns pair.0 pair.1) (zip (drop n l.places) (drop n l.values))
     ≡ l.initial.out ++ flat_map (λ pair. codes " AND " ++ assigned_text l.columns pair.0 pair.1) (zip l.places l.values))
