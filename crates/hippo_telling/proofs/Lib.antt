@@ -1,2 +1,3 @@
 mod SetPlaces
+mod PairLemmas
 mod TellingExamples

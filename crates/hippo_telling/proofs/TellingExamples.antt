@@ -37,7 +37,7 @@ patients = record {
 abbrev wards : Schema
 wards = record {
   name = codes "ward";
-  columns = required (codes "site") TextColumn ∷ required (codes "room") Integer ∷ column (codes "beds") Integer ∷ [];
+  columns = required (codes "site") TextColumn ∷ required (codes "room") TextColumn ∷ column (codes "beds") Integer ∷ column (codes "head") TextColumn ∷ [];
   key = 1 ∷ 0 ∷ [];
   subject = None;
 }
@@ -53,23 +53,23 @@ table_with_subject : told_act None (Create patients)
 table_with_subject = refl
 
 key_of_two_in_its_order : told_act None (Create wards)
-    ≡ codes "CREATE TABLE ward (site TEXT NOT NULL, room INTEGER NOT NULL, beds INTEGER, PRIMARY KEY (room, site))"
+    ≡ codes "CREATE TABLE ward (site TEXT NOT NULL, room TEXT NOT NULL, beds INTEGER, head TEXT, PRIMARY KEY (room, site))"
 key_of_two_in_its_order = refl
 
-every_value_is_inserted : of_patients (Insert patient (Int (pos 7) ∷ Text (codes "Pat O'Hara") ∷ Null ∷ Null ∷ []))
-    ≡ codes "INSERT INTO patient VALUES (" ++ (decimal 7 ++ codes ", 'Pat O''Hara', NULL, NULL)")
+every_value_is_inserted : of_wards (Insert (codes "ward") (Text (codes "south") ∷ Text (codes "r12") ∷ Null ∷ Text (codes "Pat O'Hara") ∷ []))
+    ≡ codes "INSERT INTO ward VALUES ('south', 'r12', NULL, 'Pat O''Hara')"
 every_value_is_inserted = refl
 
-every_other_column_is_set : of_patients (Update patient (Int (negsuc 6) ∷ Text (codes "Ada") ∷ Text [] ∷ Null ∷ []))
-    ≡ codes "UPDATE patient SET name = 'Ada', phone = '', born = NULL WHERE pid = -" ++ decimal 7
+-- a number as a literal; the text of a list goes on behind it
+a_number : literal_text (Int (negsuc 6)) ≡ codes "-" ++ decimal 7
+a_number = refl
+
+every_other_column_is_set : of_wards (Update (codes "ward") (Text (codes "south") ∷ Text (codes "r12") ∷ Null ∷ Text [] ∷ []))
+    ≡ codes "UPDATE ward SET beds = NULL, head = '' WHERE room = 'r12' AND site = 'south'"
 every_other_column_is_set = refl
 
-whole_key_is_named : of_wards (Update (codes "ward") (Text (codes "south") ∷ Int (pos 12) ∷ Int (pos 4) ∷ []))
-    ≡ codes "UPDATE ward SET beds = " ++ (decimal 4 ++ (codes " WHERE room = " ++ (decimal 12 ++ codes " AND site = 'south'")))
-whole_key_is_named = refl
-
-deleted_by_its_key : of_wards (Delete (codes "ward") (Int (pos 12) ∷ Text (codes "south") ∷ []))
-    ≡ codes "DELETE FROM ward WHERE room = " ++ (decimal 12 ++ codes " AND site = 'south'")
+deleted_by_its_key : of_wards (Delete (codes "ward") (Text (codes "r12") ∷ Text (codes "south") ∷ []))
+    ≡ codes "DELETE FROM ward WHERE room = 'r12' AND site = 'south'"
 deleted_by_its_key = refl
 
 purpose : told_act None (Purpose (codes "treatment")) ≡ codes "CREATE PURPOSE treatment"

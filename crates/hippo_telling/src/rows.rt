@@ -59,19 +59,33 @@ fn append_cells<const ROOM: usize>(
     append_joined(&RowCells { columns, row }, separator, places, out)
 }
 
+fn append_pair<const ROOM: usize>(
+    separator: &str,
+    columns: &[Column],
+    place: usize,
+    value: &Value,
+    out: &mut RoomyTxt<ROOM>,
+) -> Result<(), Memory>
+    ensures ok { OnOk result (out.new ≡ out.old ++ (separator.now ++ assigned_text columns.now place value.now)) }
+    ensures err { OnErr result (KeepsFront out.old out.new) }
+{
+    out.append(separator)?;
+    append_assigned(columns, place, value, out)
+}
+
 fn append_key_later<const ROOM: usize>(
+    separator: &str,
     columns: &[Column],
     places: &[usize],
     values: &[Value],
     out: &mut RoomyTxt<ROOM>,
 ) -> Result<(), Memory>
-    ensures ok { OnOk result (out.new ≡ out.old
-        ++ flat_map (λ pair. codes " AND " ++ assigned_text columns.now pair.0 pair.1) (zip places.now values.now)) }
+    ensures ok { OnOk result (out.new ≡ out.old ++ flat_map
+        (λ pair. separator.now ++ assigned_text columns.now pair.0 pair.1) (zip places.now values.now)) }
     ensures err { OnErr result (KeepsFront out.old out.new) }
 {
     for (place, value) in places.iter().zip(values) {
-        out.append(" AND ")?;
-        append_assigned(columns, *place, value, out)?;
+        append_pair(separator, columns, *place, value, out)?;
     }
     Ok(())
 }
@@ -92,7 +106,7 @@ fn append_key<const ROOM: usize>(
         return Ok(());
     };
     append_assigned(columns, *place, value, out)?;
-    append_key_later(columns, places, values, out)
+    append_key_later(" AND ", columns, places, values, out)
 }
 
 fn is_of_key(key: &[usize], place: usize) -> bool
