@@ -25,10 +25,7 @@ fn not_null_text(not_null: bool) -> &'static str
     if not_null { " NOT NULL" } else { "" }
 }
 
-fn append_column<const ROOM: usize>(
-    column: &Column,
-    out: &mut RoomyTxt<ROOM>,
-) -> Result<(), Memory>
+fn append_column<const ROOM: usize>(column: &Column, out: &mut RoomyTxt<ROOM>) -> Result<(), Memory>
     ensures ok { OnOk result (out.new ≡ out.old ++ column_text column.now) }
     ensures err { OnErr result (KeepsFront out.old out.new) }
 {

@@ -43,8 +43,7 @@ calm-fits (kind ∷ said) calm =
     let both = and_parts (is_calm kind) (list_all is_calm said) calm in
     let two = and_parts (not (opens kind) && not (negates kind)) (not (is_unsupported kind)) both.0 in
     let one = and_parts (not (opens kind)) (not (negates kind)) two.0 in
-    let later = calm-fits said both.1 in
-    (
+    let later = calm-fits said both.1 in (
       passed opens kind (fails (opens kind) one.0) said ∙ later.0,
       passed negates kind (fails (negates kind) one.1) said ∙ later.1,
       rw (fails (is_unsupported kind) two.1) later.2,

@@ -23,7 +23,7 @@ module _ {A X : Type 0} (text : A → Txt) (said_by : A → Kinds) (meant : A �
   later_said [] said = said
   later_said (part ∷ parts) said = kind ∷ (said_by part ++ later_said parts said)
 
-  later_text : List A → Txt
+  abbrev later_text : List A → Txt
   later_text parts = flat_map (λ member. separator ++ text member) parts
 
   regrouped : (part : A) (parts : List A) (rest : Txt) → later_text (part ∷ parts) ++ rest ≡ separator ++ (text part ++ (later_text parts ++ rest))

@@ -74,7 +74,7 @@ opt_out-reads item is =
     console-reads _ said _ says (flat-fit said refl refl refl) create_opt_out
 
 -- three names in lower case
-three-names : (a b c : Name) → (is_folded_name a && is_folded_name b && is_folded_name c) ≡ true → (is_folded_name a ≡ true) × (is_folded_name b ≡ true) × (is_folded_name c ≡ true)
+pub three-names : (a b c : Name) → (is_folded_name a && is_folded_name b && is_folded_name c) ≡ true → (is_folded_name a ≡ true) × (is_folded_name b ≡ true) × (is_folded_name c ≡ true)
 three-names a b c are =
     let two = and_parts (is_folded_name a && is_folded_name b) (is_folded_name c) are in
     let one = and_parts (is_folded_name a) (is_folded_name b) two.0 in
