@@ -1,5 +1,5 @@
 -- The statement that made an entry, spelled as one types it.
-use Rattle.std.specs.Prelude.{ℕ, ℤ, ◌++◌, Bool, true, false, not, List, [], map, filter, length, nat_eq, slice_get, Option, Some, None, option_and_then, codes, decimal, if◌then◌else◌}
+use Rattle.std.specs.Prelude.{ℕ, ℤ, ◌++◌, Bool, true, false, not, List, [], filter, length, nat_eq, slice_get, Option, Some, None, option_and_then, codes, decimal}
 use Rattle.std.specs.Fmt.{signed_decimal}
 use Rattle.std.specs.List.{list_any, range_with_len, zip}
 use Rattle.std.specs.Option.{option_map_or}

@@ -1,4 +1,4 @@
-use Rattle.std.proofs.Common.{◌≡◌, ◌++◌, flat_map, length, rules, sym, ap, ◌∙◌}
+use Rattle.std.proofs.Common.{◌++◌, flat_map, length, rules, sym, ap, ◌∙◌}
 use Rattle.std.proofs.lemmas.List.{append-nil}
 use Rattle.std.proofs.lemmas.Slice.Zip.{zip_end}
 use Rattle.hippo_telling.specs.Telling.{assigned_text}
