@@ -1,5 +1,5 @@
 -- What is told of a deleted row reads back.
-use Rattle.std.proofs.Common.{◌≡◌, ◌∙◌, ◌<◌, ℕ, suc, Bool, true, false, not, ◌&&◌, List, [], ◌∷◌, ◌++◌, length, map, filter_map, Option, Some, None, Ok, refl, sym, ap, subst, arith, codes}
+use Rattle.std.proofs.Common.{◌≡◌, ◌∙◌, ◌<◌, Bool, true, false, not, ◌&&◌, List, [], ◌∷◌, ◌++◌, length, map, filter_map, Some, refl, sym, ap, subst, arith, codes}
 use Rattle.std.specs.Prelude.{nat_eq}
 use Rattle.std.specs.List.{list_any, list_all, cons_option, zip}
 use Rattle.std.specs.Map.{lookup}
@@ -9,7 +9,6 @@ use Rattle.std.proofs.lemmas.List.{append-nil, append_assoc}
 use Rattle.hippo_values.specs.Texts.{Txt}
 use Rattle.hippo_values.specs.declared.names.Name.{Name}
 use Rattle.hippo_values.specs.declared.values.Value.{Value}
-use Rattle.hippo_values.specs.declared.values.Value.TheVariants as values
 use Rattle.hippo_values.specs.declared.keywords.Keyword.TheVariants.{KAnd, KDelete, KFrom, KWhere}
 use Rattle.hippo_lexer.specs.declared.kinds.Symbol.TheVariants.{Equal}
 use Rattle.hippo_lexer.specs.declared.kinds.TokenKind.TheVariants.{Word, Keyword, Symbol}
@@ -18,7 +17,7 @@ use Rattle.hippo_model.specs.declared.schema.Schema.{Schema}
 use Rattle.hippo_model.specs.declared.statement.Stmt.TheVariants as stmt
 use Rattle.hippo_model.specs.declared.statement.Wanted.TheVariants.{Remove}
 use Rattle.hippo_model.specs.Keepable.{is_folded_name, value_is_keepable}
-use Rattle.hippo_model.specs.Terms.{History, Key, Place}
+use Rattle.hippo_model.specs.Terms.{Key, Place}
 use Rattle.hippo_model.specs.Validity.{all_differ}
 use Rattle.hippo_spj_reader.specs.Front.{Kinds}
 use Rattle.hippo_stmt_reader.specs.StatementGrammar.{IsAssignment, AreKeys, assignment, columns_of, values_of, delete}
@@ -31,7 +30,7 @@ use Rattle.hippo_telling_laws.proofs.SayingLemmas.{Says, says-blank, says-word, 
 use Rattle.hippo_telling_laws.proofs.SpellingLemmas.{EndsLiteral, literal_said, says-literal, literal-is, says-equal, and-word, delete-word, from-word, where-word}
 use Rattle.hippo_telling_laws.proofs.ListLemmas.{later_said, says-joined, list-read}
 use Rattle.hippo_telling_laws.proofs.FitLemmas.{is_calm, calm-append, front-fit}
-use Rattle.hippo_telling_laws.proofs.NamePlaces.{all_within, places_again, names_folded}
+use Rattle.hippo_telling_laws.proofs.NamePlaces.{places_again, names_folded}
 use Rattle.hippo_telling_laws.proofs.ReadingTheorem.{console-reads}
 use Rattle.hippo_telling_laws.proofs.RowTheorem.{literal-calm}
 

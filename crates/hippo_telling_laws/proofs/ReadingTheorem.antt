@@ -1,5 +1,5 @@
 -- What is told of acts that name no table reads back.
-use Rattle.std.proofs.Common.{◌≡◌, ℤ, true, false, ◌&&◌, List, [], ◌∷◌, ◌++◌, Option, Some, Ok, refl, sym, subst, codes}
+use Rattle.std.proofs.Common.{◌≡◌, ℤ, true, false, ◌&&◌, [], ◌∷◌, ◌++◌, Ok, refl, sym, subst, codes}
 use Rattle.std.specs.Fmt.{signed_decimal}
 use Rattle.std.proofs.lemmas.Bool.{and_parts}
 use Rattle.hippo_values.specs.Moments.{is_signed_number}
@@ -17,12 +17,12 @@ use Rattle.hippo_model.specs.declared.statement.Stmt.{Stmt}
 use Rattle.hippo_model.specs.declared.statement.Stmt.TheVariants as stmt
 use Rattle.hippo_model.specs.declared.statement.Wanted.TheVariants.{Ready}
 use Rattle.hippo_model.specs.Keepable.{is_folded_name}
-use Rattle.hippo_spj_reader.specs.Front.{Kinds, kinds}
+use Rattle.hippo_spj_reader.specs.Front.{Kinds}
 use Rattle.hippo_stmt_reader.specs.StatementGrammar.{IsConsole, create_purpose, create_recipient, create_opt_in, create_opt_out, authorize, deauthorize, choice_yes, choice_no, nothing, console}
 use Rattle.hippo_stmt_reader.proofs.StatementTheorem.{complete}
 use Rattle.hippo_reading_laws.proofs.FitWords.{AreFit, words-fit}
 use Rattle.hippo_telling_laws.proofs.FitLemmas.{flat-fit}
-use Rattle.hippo_telling.specs.Telling.{item_text, grant_text, choice_text, agreed_text}
+use Rattle.hippo_telling.specs.Telling.{item_text, grant_text, choice_text}
 use Rattle.hippo_telling_laws.specs.TellingLaws.{ReadsAs, NamesReadBack}
 use Rattle.hippo_telling_laws.proofs.SayingLemmas.{Says, says-blank, says-word, says-last_word, says-name, says-name_first, says-last_name}
 use Rattle.hippo_telling_laws.proofs.SpellingLemmas.{says-number_first, says-comma, authorize-word, choice-word, create-word, deauthorize-word, for-word, in-word, is-word, item-word, no-word, on-word, opt-word, out-word, purpose-word, recipient-word, yes-word}

@@ -1,6 +1,5 @@
 -- What is told of an inserted row reads back.
-use Rattle.std.proofs.Common.{◌≡◌, ◌∙◌, ◌<◌, true, false, List, [], ◌∷◌, ◌++◌, length, map, Option, Some, None, Ok, refl, sym, ap, subst, arith, codes}
-use Rattle.std.specs.Prelude.{option_map}
+use Rattle.std.proofs.Common.{◌≡◌, ◌<◌, true, [], ◌∷◌, ◌++◌, length, map, refl, ap, subst, arith, codes}
 use Rattle.std.specs.List.{list_all}
 use Rattle.hippo_values.specs.Texts.{Txt}
 use Rattle.hippo_values.specs.declared.names.Name.{Name}
@@ -9,13 +8,11 @@ use Rattle.hippo_values.specs.declared.values.Value.TheVariants as values
 use Rattle.hippo_values.specs.declared.keywords.Keyword.TheVariants.{KInsert, KInto, KValues}
 use Rattle.hippo_lexer.specs.declared.kinds.Symbol.TheVariants.{Comma, LeftParen, RightParen}
 use Rattle.hippo_lexer.specs.declared.kinds.TokenKind.TheVariants.{Word, Keyword, Symbol}
-use Rattle.hippo_model.specs.declared.entry.Act.TheVariants.{Insert}
-use Rattle.hippo_model.specs.declared.schema.Schema.{Schema}
 use Rattle.hippo_model.specs.declared.statement.Stmt.TheVariants as stmt
 use Rattle.hippo_model.specs.declared.statement.Wanted.TheVariants.{Add}
 use Rattle.hippo_model.specs.Keepable.{is_folded_name, value_is_keepable}
 use Rattle.hippo_model.specs.Rows.{key_of}
-use Rattle.hippo_model.specs.Terms.{Row, History}
+use Rattle.hippo_model.specs.Terms.{Row}
 use Rattle.hippo_spj_reader.specs.ConditionGrammar.{IsLiteral}
 use Rattle.hippo_spj_reader.specs.Front.{Kinds}
 use Rattle.hippo_spj_reader.specs.ListGrammar.{IsListOf}

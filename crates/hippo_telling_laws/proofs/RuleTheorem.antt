@@ -1,6 +1,6 @@
 -- What is told of rules reads back.
-use Rattle.std.proofs.Common.{◌≡◌, ◌∙◌, ◌<◌, ℕ, ℤ, pos, Bool, true, false, ◌&&◌, List, [], ◌∷◌, ◌++◌, length, map, Option, Some, None, Ok, refl, sym, ap, subst, arith, codes, decimal}
-use Rattle.std.specs.Prelude.{nat_lt, nat_le, nat_eq, option_map, bytes_eq}
+use Rattle.std.proofs.Common.{◌≡◌, ◌∙◌, ℕ, pos, Bool, true, ◌&&◌, List, [], ◌∷◌, ◌++◌, map, Option, Some, None, refl, sym, ap, subst, arith, codes, decimal}
+use Rattle.std.specs.Prelude.{nat_le}
 use Rattle.std.specs.List.{list_all}
 use Rattle.std.proofs.lemmas.Bool.{and_parts, leb-true}
 use Rattle.std.proofs.lemmas.Int.{ints}
@@ -16,12 +16,11 @@ use Rattle.hippo_lexer.specs.declared.kinds.TokenKind.TheVariants.{Word, Keyword
 use Rattle.hippo_lexer.proofs.NumberLemmas.{signed-fits}
 use Rattle.hippo_model.specs.declared.entry.Act.TheVariants as acts
 use Rattle.hippo_model.specs.declared.schema.Column.{Column}
-use Rattle.hippo_model.specs.declared.schema.Schema.{Schema}
 use Rattle.hippo_model.specs.declared.statement.Stmt.TheVariants as stmt
 use Rattle.hippo_model.specs.declared.statement.Wanted.TheVariants.{Ready}
 use Rattle.hippo_model.specs.Keepable.{is_folded_name, item_is_keepable}
-use Rattle.hippo_model.specs.Terms.{History, Place}
-use Rattle.hippo_model.specs.Validity.{all_differ, days_fit}
+use Rattle.hippo_model.specs.Terms.{Place}
+use Rattle.hippo_model.specs.Validity.{days_fit}
 use Rattle.hippo_spj_reader.specs.Front.{Kinds}
 use Rattle.hippo_spj_reader.specs.ListGrammar.{IsName, IsListOf}
 use Rattle.hippo_spj_reader.specs.ListGrammar as lists
@@ -32,8 +31,8 @@ use Rattle.hippo_telling_laws.specs.TellingLaws.{ReadsAs, RevokesReadBack, Allow
 use Rattle.hippo_telling_laws.proofs.SayingLemmas.{Says, EndsWord, says-blank, says-word, says-name, says-name_first, says-plain_word, says-nothing}
 use Rattle.hippo_telling_laws.proofs.SpellingLemmas.{says-number_first, says-comma, says-opening, says-closing, allow-word, on-word, revoke-word, to-word, with-word}
 use Rattle.hippo_telling_laws.proofs.ListLemmas.{later_said, says-joined, list-read}
-use Rattle.hippo_telling_laws.proofs.FitLemmas.{is_calm, calm-append, front-fit}
-use Rattle.hippo_telling_laws.proofs.NamePlaces.{all_within, column_names, places_again, names_folded}
+use Rattle.hippo_telling_laws.proofs.FitLemmas.{is_calm, front-fit}
+use Rattle.hippo_telling_laws.proofs.NamePlaces.{places_again, names_folded}
 use Rattle.hippo_telling_laws.proofs.ReadingTheorem.{console-reads, three-names}
 
 -- names of columns, one after the other

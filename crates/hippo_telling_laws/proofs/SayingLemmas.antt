@@ -1,11 +1,9 @@
 -- What a text says, piece by piece from its end on.
-use Rattle.std.proofs.Common.{◌≡◌, ℕ, ◌+◌, ◌<◌, ◌≤◌, ◌^◌, true, false, List, [], ◌∷◌, ◌++◌, length, take, drop, Some, None, Ok, refl, sym, ap, subst, arith, ℤ, pos, negsuc}
+use Rattle.std.proofs.Common.{◌≡◌, ℕ, ◌+◌, true, false, List, [], ◌∷◌, ◌++◌, length, Some, Ok, refl, ap, subst}
 use Rattle.std.proofs.lemmas.Bool.{and_parts, both_ways}
 use Rattle.std.proofs.lemmas.List.{append-nil}
 use Rattle.std.proofs.lemmas.Slice.Eq.{bytes_eq-Decides}
 use Rattle.std.specs.Prelude.{bytes_eq}
-use Rattle.hippo_values.specs.Dates.{day_text}
-use Rattle.hippo_values.specs.Moments.{is_day}
 use Rattle.hippo_values.specs.Names.{folded, is_name, is_word, is_word_byte, keyword_of}
 use Rattle.hippo_values.specs.Quoting.{quoted}
 use Rattle.hippo_values.specs.Texts.{Txt}
@@ -17,7 +15,7 @@ use Rattle.hippo_lexer.specs.Spelling.{begins_with, is_quote, sign_of}
 use Rattle.hippo_lexer.specs.declared.kinds.Symbol as signs
 use Rattle.hippo_lexer.specs.declared.kinds.Token.{Token}
 use Rattle.hippo_lexer.specs.declared.kinds.TokenKind.{TokenKind}
-use Rattle.hippo_lexer.specs.declared.kinds.TokenKind.TheVariants.{Word, Keyword, Number, Quoted, Symbol}
+use Rattle.hippo_lexer.specs.declared.kinds.TokenKind.TheVariants.{Word, Keyword, Quoted, Symbol}
 use Rattle.hippo_model.specs.Keepable.{is_folded_name}
 use Rattle.hippo_spj_reader.specs.Front.{Kinds, kinds}
 

@@ -1,27 +1,26 @@
 -- What numbers, days and literals say, and the words of statements.
-use Rattle.std.proofs.Common.{◌≡◌, ◌∙◌, ℕ, suc, ◌+◌, ◌/◌, ◌%◌, ◌<◌, ◌≤◌, ◌^◌, int_le, true, false, List, [], ◌∷◌, ◌++◌, length, Some, None, Ok, refl, sym, ap, subst, arith, ℤ, pos, negsuc, neg_ℤ, codes, decimal}
+use Rattle.std.proofs.Common.{◌≡◌, ℕ, suc, ◌+◌, ◌/◌, ◌%◌, ◌<◌, ◌^◌, int_le, true, false, List, [], ◌∷◌, ◌++◌, refl, sym, ap, arith, ℤ, pos, negsuc, neg_ℤ, codes, decimal}
 use Rattle.std.specs.Fmt.{signed_decimal}
 use Rattle.std.specs.Char.{is_ascii_digit}
 use Rattle.std.specs.List.{list_all}
-use Rattle.std.specs.Str.Parse.{AllDigits, digits_value}
+use Rattle.std.specs.Str.Parse.{AllDigits}
 use Rattle.std.proofs.lemmas.Bool.{and_from, and_parts, ne_eqb}
 use Rattle.std.proofs.lemmas.Bool.Decides.{nat_tests}
 use Rattle.std.proofs.lemmas.Fmt.{decimal_is_IsNumeral}
 use Rattle.std.proofs.lemmas.Int.{ints}
-use Rattle.std.proofs.lemmas.List.{append-nil, append_assoc}
 use Rattle.std.proofs.lemmas.Str.Parse.{digit_at}
 use Rattle.hippo_values.specs.Dates.{year_of, month_of, day_of_month, date_text, day_text}
 use Rattle.hippo_values.specs.Moments.{first_day, last_day, is_day, is_signed_number, IsSignedNumber, IsDayNumber}
-use Rattle.hippo_values.specs.Names.{keywords, keyword_of, is_word_byte}
+use Rattle.hippo_values.specs.Names.{keywords}
 use Rattle.hippo_values.specs.Quoting.{is_quote, doubled, quoted}
 use Rattle.hippo_values.specs.Texts.{Txt}
 use Rattle.hippo_values.specs.declared.values.Value.{Value}
 use Rattle.hippo_values.specs.declared.values.Value.TheVariants as values
-use Rattle.hippo_values.specs.declared.keywords.Keyword.TheVariants.{KAllow, KAnd, KAuthorize, KChoice, KCreate, KDate, KDeauthorize, KDelete, KFor, KFrom, KIn, KInsert, KInteger, KInto, KIs, KItem, KKey, KNo, KNot, KNull, KOn, KOpt, KOut, KPrimary, KPurpose, KRecipient, KRevoke, KSet, KSubject, KTable, KText, KTo, KUpdate, KValues, KWhere, KWith, KYes}
-use Rattle.hippo_lexer.specs.Grammar.{IsToken, IsNumber, AreDigits, OpensDay, plain, negative, a_number, a_day}
+use Rattle.hippo_values.specs.declared.keywords.Keyword.TheVariants.{KAllow, KAnd, KAuthorize, KChoice, KCreate, KDeauthorize, KDelete, KFor, KFrom, KIn, KInsert, KInteger, KInto, KIs, KItem, KKey, KNo, KNot, KNull, KOn, KOpt, KOut, KPrimary, KPurpose, KRecipient, KRevoke, KSet, KSubject, KTable, KText, KTo, KUpdate, KValues, KWhere, KWith, KYes}
+use Rattle.hippo_lexer.specs.Grammar.{IsNumber, AreDigits, OpensDay, plain, negative, a_number, a_day}
 use Rattle.hippo_lexer.specs.Spelling.{begins_with, sign_table, sign_of}
 use Rattle.hippo_lexer.specs.declared.kinds.Symbol.TheVariants.{Comma, Equal, LeftParen, RightParen}
-use Rattle.hippo_lexer.specs.declared.kinds.TokenKind.TheVariants.{Word, Keyword, Number, Quoted, Day, Symbol}
+use Rattle.hippo_lexer.specs.declared.kinds.TokenKind.TheVariants.{Keyword, Number, Quoted, Day, Symbol}
 use Rattle.hippo_lexer.proofs.NumberLemmas.{fits-signed}
 use Rattle.hippo_model.specs.Keepable.{value_is_keepable}
 use Rattle.hippo_spj_reader.specs.ConditionGrammar.{IsLiteral}
