@@ -11,14 +11,14 @@ use Rattle.hippo_words.specs.declared.calls.Job.TheVariants.{Load}
 
 -- the text that loads a record of a table, and the one that sets the clock
 abbrev pub load_text : Name → Txt → Txt
-load_text table record = codes "0 load " ++ (table ++ (codes " " ++ record))
+load_text table fields = codes "0 load " ++ (table ++ (codes " " ++ fields))
 
 abbrev pub clock_text : Moment → Txt
 clock_text moment = codes "at " ++ moment_text moment
 
 -- a text is a record of the table; a line that is none stays as it is
 abbrev pub record_line : Name → LineText → LineText
-record_line table (text_line record) = text_line (load_text table record)
+record_line table (text_line fields) = text_line (load_text table fields)
 record_line table line = line
 
 -- how many bytes such a line has at most

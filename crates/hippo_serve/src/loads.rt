@@ -23,15 +23,15 @@ fn add(text: &str, made: &mut MadeText)
 }
 
 /// Makes the text that loads a record of a table.
-pub fn make_load(table: &Name, record: &str, made: &mut MadeText)
-    requires short { length record.now ≤ line_limit }
-    ensures { made.new ≡ load_text table.now record.now }
+pub fn make_load(table: &Name, fields: &str, made: &mut MadeText)
+    requires short { length fields.now ≤ line_limit }
+    ensures { made.new ≡ load_text table.now fields.now }
 {
     made.clear();
     add("0 load ", made);
     add(table.as_str(), made);
     add(" ", made);
-    add(record, made);
+    add(fields, made);
 }
 
 /// Makes the text that sets the clock.

@@ -67,23 +67,23 @@ fn carry_out_record<K: Sink, P: Keeper, L: Ledger>(
     alloc: Global,
     table: &Name,
     engine: &mut Engine,
-    record: &str,
+    fields: &str,
     made: &mut MadeText,
     keeper: &mut P,
     sink: &mut K,
     steps: &mut Steps<L>,
 ) -> Option<Ending>
     requires at_work { AtWork engine.old (P.state keeper.old) }
-    ensures line { Turn result (command_of (record_line table.now (limited_line (text_line record.now))))
+    ensures line { Turn result (command_of (record_line table.now (limited_line (text_line fields.now))))
         engine.old engine.new (P.state keeper.old) (P.state keeper.new)
         (K.written sink.old) (K.written sink.new) steps.old steps.new }
     ensures write_fault { result ≡ Some WriteFault → HasRisen (K.faults sink.old) (K.faults sink.new) }
     ensures unfailed_write { result ≢ Some WriteFault → K.faults sink.new ≡ K.faults sink.old }
 {
-    if record.len() > LINE_LIMIT {
+    if fields.len() > LINE_LIMIT {
         return carry_out(alloc, engine, Line::TooLong, keeper, sink, steps);
     }
-    make_load(table, record, made);
+    make_load(table, fields, made);
     carry_out(alloc, engine, Line::Text(made.as_str()), keeper, sink, steps)
 }
 
@@ -110,8 +110,8 @@ fn carry_out_asked<K: Sink, P: Keeper, L: Ledger>(
     ensures unfailed_write { result ≢ Some WriteFault → K.faults sink.new ≡ K.faults sink.old }
 {
     match (job, line) {
-        (Job::Load { table, .. }, Line::Text(record)) => {
-            carry_out_record(alloc, table, engine, record, made, keeper, sink, steps)
+        (Job::Load { table, .. }, Line::Text(fields)) => {
+            carry_out_record(alloc, table, engine, fields, made, keeper, sink, steps)
         }
         (_, other) => carry_out(alloc, engine, other, keeper, sink, steps),
     }
