@@ -116,10 +116,10 @@ module _ (job : Job) (moment : Moment) (first : asked_lines job [] ≡ text_line
         let never = undamaged setting history [] before engine engine' before.left before.left output output' keeper keeper' steps steps' replied line tells number carries in
         (absurd never, absurd never)) result turn
       where
-        abbrev now : Outside
+        now : Outside
         now = outside before.left output' keeper' steps'
 
-        abbrev Ends : Option Ending → Type 0
+        Ends : Option Ending → Type 0
         Ends r = MatchOption r (HasReplied setting history (asked_lines job []) before engine' now) (λ ending. LinesEnd ending setting job history before now)
 
         none_read : ForInput before (λ input. HasReadFront [] input before.left)

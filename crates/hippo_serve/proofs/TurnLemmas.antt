@@ -59,14 +59,14 @@ turn_damaged number command old new before after written mid written' steps step
 
 -- what a call with a line came to, by the five ways in which it may end
 module _ (engine engine' : Engine) (keeper keeper' : KeeperState) (output output' : Option Txt) (steps steps' : ℕ) where
-  abbrev Carried : Command → Result (Unit {0}) EngineFault → Type 0
-  Carried command answer = Carries {A = Unit {0}} command answer engine engine' keeper keeper' steps steps'
+  abbrev Carrying : Command → Result (Unit {0}) EngineFault → Type 0
+  Carrying command answer = Carries {A = Unit {0}} command answer engine engine' keeper keeper' steps steps'
 
   pub by_turn : (Q : Option Ending → Type 0) (command : Command)
-      → (Carried command (Ok tt) → Appends output output' engine'.reply → Q None)
-      → (Carried command (Err Keeper) → output' ≡ output → Q (Some KeeperFault))
-      → (Carried command (Err Write) → AppendsFront output output' engine'.reply → Q (Some WriteFault))
-      → ((number : ℕ) → Carried command (Err (DamagedAt number)) → Q (Some Damaged) × Q (Some WriteFault))
+      → (Carrying command (Ok tt) → Appends output output' engine'.reply → Q None)
+      → (Carrying command (Err Keeper) → output' ≡ output → Q (Some KeeperFault))
+      → (Carrying command (Err Write) → AppendsFront output output' engine'.reply → Q (Some WriteFault))
+      → ((number : ℕ) → Carrying command (Err (DamagedAt number)) → Q (Some Damaged) × Q (Some WriteFault))
       → (r : Option Ending) → Turn r command engine engine' keeper keeper' output output' steps steps' → Q r
   by_turn Q command on broken cut damaged None turned = on turned.0 turned.1
   by_turn Q command on broken cut damaged (Some KeeperFault) turned = broken turned.0 turned.1
@@ -78,7 +78,7 @@ module _ (engine engine' : Engine) (keeper keeper' : KeeperState) (output output
   by_turn Q command on broken cut damaged (Some ending) turned = absurd turned
 
   -- a line that was carried out leaves an engine at work
-  pub at_work_carried : (command : Command) → Carried command (Ok tt) → AtWork engine keeper → AtWork engine' keeper'
+  pub at_work_carried : (command : Command) → Carrying command (Ok tt) → AtWork engine keeper → AtWork engine' keeper'
   at_work_carried command carries at_work = record {
     sound = carries.sound refl;
     ready = IsReady-after (well Fault) keeper keeper' refl carries.call;

@@ -229,3 +229,21 @@ fn read_fault_behind_a_full_buffer(rt: HostRuntime) -> Result<(), Memory> {
     let ending = Ending::ReadFault;
     check(&rt, alloc, &["run"], bytes, &outside, ending, output)
 }
+
+#[test]
+fn a_load_sets_the_clock_before_it_reads(rt: HostRuntime) -> Result<(), Memory> {
+    let alloc = rt.alloc();
+    let command = ["load", "--table", "ward", "--moment", "2024-01-02T08:00:00Z"];
+    let unread = Outside {
+        failing_reads: &[1],
+        ..FAULTLESS
+    };
+    let ending = Ending::ReadFault;
+    check(&rt, alloc, &command, b"1,Ada\n", &unread, ending, "- ok\n")?;
+    let unwritten = Outside {
+        failing_writes: &[1],
+        ..FAULTLESS
+    };
+    let ending = Ending::WriteFault;
+    check(&rt, alloc, &command, b"1,Ada\n", &unwritten, ending, "")
+}

@@ -21,9 +21,9 @@ invariant-loop-ending g l = record {
   at_work : AtWork l.engine (g.P.Keeper.state l.keeper);
   reading : (input : Txt) → IsReading input l.initial.reader (g.S.Source.left l.initial.source) → IsReading input l.reader (g.S.Source.left l.source);
   served : (g.P.Keeper.state l.keeper).tells → (setting : Setting) (history : History) (before : Told)
-      → HasServed setting l.job.now history before l.initial.reader l.initial.engine
+      → HasServed setting l.job history before l.initial.reader l.initial.engine
       (outside (g.S.Source.left l.initial.source) (g.K.Sink.written l.initial.sink) (g.P.Keeper.state l.initial.keeper) l.initial.steps)
-      → HasServed setting l.job.now history before l.reader l.engine
+      → HasServed setting l.job history before l.reader l.engine
       (outside (g.S.Source.left l.source) (g.K.Sink.written l.sink) (g.P.Keeper.state l.keeper) l.steps);
 }
 
