@@ -8,16 +8,15 @@ use Rattle.hippo_io.specs.Told.{Appends, AppendsFront}
 use Rattle.hippo_words.specs.declared.calls.Call.{Call}
 use Rattle.hippo_words.specs.declared.calls.Job.{Job}
 use Rattle.hippo_words.specs.declared.calls.Job.TheVariants.{Drill}
-use Rattle.hippo_words.specs.declared.calls.Setting.{Setting}
 use Rattle.hippo_serve.specs.declared.endings.Ending.{Ending}
 use Rattle.hippo_serve.specs.declared.endings.Ending.TheVariants.{Served, NoMemory}
 use Rattle.hippo_serve.specs.Drilling.{summary}
 use Rattle.hippo_serve.specs.Endings.{status_of}
-use Rattle.hippo_serve.specs.Asking.{store_of, job_of, setting_of, AskToServe}
+use Rattle.hippo_serve.specs.Asking.{store_of, job_of}
 use Rattle.hippo_serve.specs.Saying.{Says}
-use Rattle.hippo_serve.specs.Outcomes.{IsIdle, RunEnds, CheckEnds}
+use Rattle.hippo_serve.specs.Outcomes.{IsIdle, CheckEnds}
 use Rattle.hippo_serve.specs.Outside.{Outside}
-use Rattle.hippo_serve.proofs.StatusLemmas.{ByStatus, check-by-status, ServedByStatus, served-by-status}
+use Rattle.hippo_serve.proofs.StatusLemmas.{ByStatus, check-by-status}
 
 module _ (words : List Txt) (call : Call) (asked : call_of words ≡ Some call) (store : Txt) (named : store ≡ call.store) where
   store_is : store ≡ store_of words
@@ -28,25 +27,6 @@ module _ (words : List Txt) (call : Call) (asked : call_of words ≡ Some call) 
       → ByStatus (store_of words) before after unwritten (status_of ending)
   check_as_asked ending unwritten before after ends =
       check-by-status (store_of words) before after unwritten ending (subst (λ (name : Txt). CheckEnds ending unwritten name before after) store_is ends)
-
-  some_same : {A : Type 0} → (one other : A) → ◌≡◌ {A = Option A} (Some one) (Some other) → one ≡ other
-  some_same one other e = cc
-
-  -- the job that is served is the one that the words ask for, with its setting
-  asked_job : (job : Job) (setting : Setting) → AskToServe words job setting → call.job ≡ job
-  asked_job job setting asks = some_same call.job job (sym (ap (λ (c : Option Call). option_map (λ (d : Call). d.job) c) asked) ∙ asks.asked)
-
-  asked_setting : (job : Job) (setting given : Setting) → AskToServe words job setting → setting_of call.job ≡ Some given → given ≡ setting
-  asked_setting job setting given asks gives = some_same given setting (sym gives ∙ ap setting_of (asked_job job setting asks) ∙ asks.serves)
-
-  -- what a run or a load came to
-  pub served_as_asked : (given : Setting) → setting_of call.job ≡ Some given → (ending : Ending) (unread unwritten : Type 0) (before after : Outside) → RunEnds ending unread unwritten given call.job store before after
-      → (job : Job) (setting : Setting) → AskToServe words job setting → ServedByStatus (store_of words) before after unread unwritten setting job (status_of ending)
-  served_as_asked given gives ending unread unwritten before after ends job setting asks =
-      served-by-status (store_of words) before after unread unwritten setting job ending
-      (subst (λ (s : Setting). RunEnds ending unread unwritten s job (store_of words) before after) (asked_setting job setting given asks gives)
-      (subst (λ (j : Job). RunEnds ending unread unwritten given j (store_of words) before after) (asked_job job setting asks)
-      (subst (λ (name : Txt). RunEnds ending unread unwritten given call.job name before after) store_is ends)))
 
   pub idle_as_asked : (before after : Outside) → IsIdle store before after → IsIdle (store_of words) before after
   idle_as_asked before after idle = subst (λ (name : Txt). IsIdle name before after) store_is idle

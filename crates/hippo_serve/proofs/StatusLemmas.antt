@@ -1,14 +1,11 @@
 -- Each status is that of one ending.
 use Rattle.std.proofs.Common.{◌≡◌, ◌≢◌, ◌⊎◌, ℕ, ◌∷◌, [], Any, arith, refl}
 use Rattle.hippo_values.specs.Texts.{Txt}
-use Rattle.hippo_words.specs.declared.calls.Job.{Job}
-use Rattle.hippo_words.specs.declared.calls.Setting.{Setting}
 use Rattle.hippo_serve.specs.declared.endings.Ending.{Ending}
 use Rattle.hippo_serve.specs.declared.endings.Ending.TheVariants.{Served, Refused, KeeperFault, ReadFault, WriteFault, Damaged, NoMemory, TooMuch}
 use Rattle.hippo_serve.specs.Endings.{status_of}
-use Rattle.hippo_serve.specs.Outcomes.{FromFound, IsIdle, SaysDamaged, BeginsDamaged, IsCounted, BeginsCount, RunEnds, CheckEnds}
+use Rattle.hippo_serve.specs.Outcomes.{FromFound, SaysDamaged, BeginsDamaged, IsCounted, BeginsCount, CheckEnds}
 use Rattle.hippo_serve.specs.Outside.{Outside}
-use Rattle.hippo_serve.specs.Runs.{IsServed, IsReadCut, IsUnwritten, IsBrokenOff, HasTooMuch}
 
 -- an ending's status is one of eight
 pub status-listed : (ending : Ending) (status : ℕ) → status ≡ status_of ending → Any (λ listed. status ≡ listed) (0 ∷ 2 ∷ 3 ∷ 4 ∷ 5 ∷ 6 ∷ 7 ∷ 8 ∷ [])
@@ -58,22 +55,3 @@ module _ (name : Txt) (before after : Outside) (unwritten : Type 0) where
   check-by-status Damaged ends = (λ e. absurd (omega (arith, e)), λ e. absurd (omega (arith, e)), λ e. absurd (omega (arith, e)), λ e. ends)
   check-by-status NoMemory ends = (λ e. absurd (omega (arith, e)), λ e. absurd (omega (arith, e)), λ e. absurd (omega (arith, e)), λ e. absurd (omega (arith, e)))
   check-by-status ending ends = absurd ends
-
--- what a run or a load comes to, by its status
-module _ (name : Txt) (before after : Outside) (unread unwritten : Type 0) (setting : Setting) (job : Job) where
-  abbrev pub ServedByStatus : ℕ → Type 0
-  ServedByStatus status = (status ≡ 0 → FromFound name (IsServed setting job) before after)
-      × (status ≡ 3 → (unread × unwritten × IsIdle name before after) ⊎ FromFound name (IsBrokenOff setting job) before after)
-      × (status ≡ 4 → FromFound name (IsReadCut setting job) before after)
-      × (status ≡ 5 → (unread × BeginsDamaged name before after) ⊎ FromFound name (IsUnwritten setting job) before after)
-      × (status ≡ 8 → FromFound name (HasTooMuch setting job) before after)
-
-  pub served-by-status : (ending : Ending) → RunEnds ending unread unwritten setting job name before after → ServedByStatus (status_of ending)
-  served-by-status Served ends = (λ e. ends, λ e. absurd (omega (arith, e)), λ e. absurd (omega (arith, e)), λ e. absurd (omega (arith, e)), λ e. absurd (omega (arith, e)))
-  served-by-status Refused ends = absurd ends
-  served-by-status KeeperFault ends = (λ e. absurd (omega (arith, e)), λ e. ends, λ e. absurd (omega (arith, e)), λ e. absurd (omega (arith, e)), λ e. absurd (omega (arith, e)))
-  served-by-status ReadFault ends = (λ e. absurd (omega (arith, e)), λ e. absurd (omega (arith, e)), λ e. ends, λ e. absurd (omega (arith, e)), λ e. absurd (omega (arith, e)))
-  served-by-status WriteFault ends = (λ e. absurd (omega (arith, e)), λ e. absurd (omega (arith, e)), λ e. absurd (omega (arith, e)), λ e. ends, λ e. absurd (omega (arith, e)))
-  served-by-status Damaged ends = (λ e. absurd (omega (arith, e)), λ e. absurd (omega (arith, e)), λ e. absurd (omega (arith, e)), λ e. absurd (omega (arith, e)), λ e. absurd (omega (arith, e)))
-  served-by-status NoMemory ends = (λ e. absurd (omega (arith, e)), λ e. absurd (omega (arith, e)), λ e. absurd (omega (arith, e)), λ e. absurd (omega (arith, e)), λ e. absurd (omega (arith, e)))
-  served-by-status TooMuch ends = (λ e. absurd (omega (arith, e)), λ e. absurd (omega (arith, e)), λ e. absurd (omega (arith, e)), λ e. absurd (omega (arith, e)), λ e. ends)
