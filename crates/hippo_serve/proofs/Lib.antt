@@ -1,8 +1,10 @@
 mod WriteLemmas
 mod StatusLemmas
 mod KeptLemmas
+mod AskedLemmas
 mod RunLemmas
 mod TurnLemmas
+mod FirstLemmas
 mod TakenLemmas
 mod OutcomeLemmas
 mod AskingLemmas

@@ -12,6 +12,7 @@ use Rattle.hippo_replay.specs.declared.state.State.{State}
 use Rattle.hippo_replay.specs.Loading.{KeepsFound, IsLoaded, Loads}
 use Rattle.hippo_replay.specs.Standing.{StandsFor}
 use Rattle.hippo_keeper.proofs.Results.{ok_of, err_of}
+use Rattle.hippo_words.specs.declared.calls.Job.{Job}
 use Rattle.hippo_words.specs.declared.calls.Setting.{Setting}
 use Rattle.hippo_serve.specs.declared.endings.Ending.{Ending}
 use Rattle.hippo_serve.specs.declared.endings.Ending.TheVariants.{Served, Refused, KeeperFault, ReadFault, WriteFault, Damaged, NoMemory, TooMuch}
@@ -48,51 +49,51 @@ module _ (name : Txt) (state : State) (left written : Option Txt) (before loaded
     }
 
     -- what was loaded is no damaged list
-    pub undamaged : (setting : Setting) (after : Outside) → ((history : History) → StandsFor state history → KeepsHistory history loaded → steps ≡ start + versions history → LinesEnd Damaged setting history first.told after) → ⊥
-    undamaged setting after ends = ends is_loaded.history is_loaded.stands (KeepsHistory-found (before.finds name) loaded is_loaded.history found store) is_loaded.steps
+    pub undamaged : (setting : Setting) (job : Job) (after : Outside) → ((history : History) → StandsFor state history → KeepsHistory history loaded → steps ≡ start + versions history → LinesEnd Damaged setting job history first.told after) → ⊥
+    undamaged setting job after ends = ends is_loaded.history is_loaded.stands (KeepsHistory-found (before.finds name) loaded is_loaded.history found store) is_loaded.steps
 
-  pub never_damaged : (setting : Setting) (result : Ending) (after : Outside) → (after.keeper.tells → loaded.tells)
-      → (result ≢ NoMemory → after.keeper.tells → (history : History) → StandsFor state history → KeepsHistory history loaded → steps ≡ start + versions history → LinesEnd result setting history first.told after)
+  pub never_damaged : (setting : Setting) (job : Job) (result : Ending) (after : Outside) → (after.keeper.tells → loaded.tells)
+      → (result ≢ NoMemory → after.keeper.tells → (history : History) → StandsFor state history → KeepsHistory history loaded → steps ≡ start + versions history → LinesEnd result setting job history first.told after)
       → result ≡ Damaged → after.keeper.tells → ⊥
-  never_damaged setting result after told ends is tells =
-      undamaged (told tells) setting after (λ history stands keeps counted. subst (λ (r : Ending). LinesEnd r setting history first.told after) is
+  never_damaged setting job result after told ends is tells =
+      undamaged (told tells) setting job after (λ history stands keeps counted. subst (λ (r : Ending). LinesEnd r setting job history first.told after) is
       (ends (λ none. differ (sym is ∙ none)) tells history stands keeps counted))
     where
       differ : Damaged ≢ NoMemory
       differ e = cc
 
   -- lines were served over what was loaded
-  pub run_ends : (setting : Setting) (result : Ending) (unread unwritten : Type 0) (after : Outside) → result ≢ Refused
+  pub run_ends : (setting : Setting) (job : Job) (result : Ending) (unread unwritten : Type 0) (after : Outside) → result ≢ Refused
       → (result ≡ NoMemory → after.keeper ≡ loaded) → (after.keeper.tells → loaded.tells)
-      → (result ≢ NoMemory → after.keeper.tells → (history : History) → StandsFor state history → KeepsHistory history loaded → steps ≡ start + versions history → LinesEnd result setting history first.told after)
-      → after.keeper.tells → RunEnds result unread unwritten setting name first after
-  run_ends setting Served unread unwritten after served same told ends tells = from_found (told tells) (LinesEnd Served setting) after (ends (λ e. cc) tells)
-  run_ends setting Refused unread unwritten after served same told ends tells = absurd (served refl)
-  run_ends setting KeeperFault unread unwritten after served same told ends tells = inr (from_found (told tells) (LinesEnd KeeperFault setting) after (ends (λ e. cc) tells))
-  run_ends setting ReadFault unread unwritten after served same told ends tells = from_found (told tells) (LinesEnd ReadFault setting) after (ends (λ e. cc) tells)
-  run_ends setting WriteFault unread unwritten after served same told ends tells = inr (from_found (told tells) (LinesEnd WriteFault setting) after (ends (λ e. cc) tells))
-  run_ends setting Damaged unread unwritten after served same told ends tells = absurd (undamaged (told tells) setting after (ends (λ e. cc) tells))
-  run_ends setting NoMemory unread unwritten after served same told ends tells =
+      → (result ≢ NoMemory → after.keeper.tells → (history : History) → StandsFor state history → KeepsHistory history loaded → steps ≡ start + versions history → LinesEnd result setting job history first.told after)
+      → after.keeper.tells → RunEnds result unread unwritten setting job name first after
+  run_ends setting job Served unread unwritten after served same told ends tells = from_found (told tells) (LinesEnd Served setting job) after (ends (λ e. cc) tells)
+  run_ends setting job Refused unread unwritten after served same told ends tells = absurd (served refl)
+  run_ends setting job KeeperFault unread unwritten after served same told ends tells = inr (from_found (told tells) (LinesEnd KeeperFault setting job) after (ends (λ e. cc) tells))
+  run_ends setting job ReadFault unread unwritten after served same told ends tells = from_found (told tells) (LinesEnd ReadFault setting job) after (ends (λ e. cc) tells)
+  run_ends setting job WriteFault unread unwritten after served same told ends tells = inr (from_found (told tells) (LinesEnd WriteFault setting job) after (ends (λ e. cc) tells))
+  run_ends setting job Damaged unread unwritten after served same told ends tells = absurd (undamaged (told tells) setting job after (ends (λ e. cc) tells))
+  run_ends setting job NoMemory unread unwritten after served same told ends tells =
       subst (λ (k : KeeperState). k.started ≡ true → KeepsFound (before.finds name) k) (sym (same refl)) (λ started. loads.found started (told tells))
-  run_ends setting TooMuch unread unwritten after served same told ends tells = from_found (told tells) (LinesEnd TooMuch setting) after (ends (λ e. cc) tells)
+  run_ends setting job TooMuch unread unwritten after served same told ends tells = from_found (told tells) (LinesEnd TooMuch setting job) after (ends (λ e. cc) tells)
 
 module _ (name : Txt) (before after : Outside) where
   kept_damaged : (place : ℕ) → Loads name (err_of State (DamagedAt place)) before.keeper after.keeper before.told.steps after.told.steps → after.keeper.tells → KeepsDamaged name place before after
   kept_damaged place loads tells = record { kept = loads.found (loads.started refl) tells; damaged = loads.damaged place refl tells }
 
-  pub stop_ends_run : (setting : Setting) (fault : LoadFault) (result : Ending) (unread unwritten : Type 0) (faults faults' : ℕ) → Stops fault result unwritten before.told.written after.told.written faults faults'
+  pub stop_ends_run : (setting : Setting) (job : Job) (fault : LoadFault) (result : Ending) (unread unwritten : Type 0) (faults faults' : ℕ) → Stops fault result unwritten before.told.written after.told.written faults faults'
       → Loads name (err_of State fault) before.keeper after.keeper before.told.steps after.told.steps → unread → after.keeper.tells
-      → RunEnds result unread unwritten setting name before after
-  stop_ends_run setting Keeper result unread unwritten faults faults' stops loads untouched tells =
-      subst (λ (r : Ending). RunEnds r unread unwritten setting name before after) (sym stops.0) (inl (untouched, stops.1, λ started. loads.found started tells))
-  stop_ends_run setting (DamagedAt place) result unread unwritten faults faults' stops loads untouched tells =
+      → RunEnds result unread unwritten setting job name before after
+  stop_ends_run setting job Keeper result unread unwritten faults faults' stops loads untouched tells =
+      subst (λ (r : Ending). RunEnds r unread unwritten setting job name before after) (sym stops.0) (inl (untouched, stops.1, λ started. loads.found started tells))
+  stop_ends_run setting job (DamagedAt place) result unread unwritten faults faults' stops loads untouched tells =
       let kept = kept_damaged place loads tells in
       elim stops [
-        | inl all ↦ subst (λ (r : Ending). RunEnds r unread unwritten setting name before after) (sym all.0) (record { place = place; kept = kept; written = all.1 })
-        | inr front ↦ subst (λ (r : Ending). RunEnds r unread unwritten setting name before after) (sym front.0) (inl (untouched, record { place = place; kept = kept; written = front.1 }))
+        | inl all ↦ subst (λ (r : Ending). RunEnds r unread unwritten setting job name before after) (sym all.0) (record { place = place; kept = kept; written = all.1 })
+        | inr front ↦ subst (λ (r : Ending). RunEnds r unread unwritten setting job name before after) (sym front.0) (inl (untouched, record { place = place; kept = kept; written = front.1 }))
       ]
-  stop_ends_run setting Memory result unread unwritten faults faults' stops loads untouched tells =
-      subst (λ (r : Ending). RunEnds r unread unwritten setting name before after) (sym stops.0) (λ started. loads.found started tells)
+  stop_ends_run setting job Memory result unread unwritten faults faults' stops loads untouched tells =
+      subst (λ (r : Ending). RunEnds r unread unwritten setting job name before after) (sym stops.0) (λ started. loads.found started tells)
 
   pub stop_ends_check : (fault : LoadFault) (result : Ending) (unwritten : Type 0) (faults faults' : ℕ) → Stops fault result unwritten before.told.written after.told.written faults faults'
       → Loads name (err_of State fault) before.keeper after.keeper before.told.steps after.told.steps → after.keeper.tells

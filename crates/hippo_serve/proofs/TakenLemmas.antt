@@ -1,5 +1,5 @@
 -- How many bytes of an input were taken.
-use Rattle.std.proofs.Common.{◌≡◌, ◌≢◌, ℕ, ◌<◌, ◌≤◌, ◌↔◌, List, ◌++◌, ◌∷◌, [], length, drop, Option, Some, None, MatchOption, Result, Err, sym, ap, subst, ◌∙◌, arith, length-drop}
+use Rattle.std.proofs.Common.{◌≡◌, ◌≢◌, ℕ, ◌<◌, ◌≤◌, ◌↔◌, List, ◌++◌, ◌∷◌, [], length, drop, Option, Some, None, MatchOption, Result, Err, option_map, sym, ap, subst, ◌∙◌, arith, length-drop}
 use Rattle.hippo_values.specs.Texts.{Txt}
 use Rattle.hippo_io.specs.Lines.{LineText, lines}
 use Rattle.hippo_io.specs.declared.lines.Line.{Line}
@@ -10,9 +10,11 @@ use Rattle.hippo_io.specs.HandingOut.{HasHandedOut, HasGivenUp, input_limit}
 use Rattle.hippo_keeper.specs.Keeping.{KeeperState}
 use Rattle.hippo_commands.specs.Commands.{commanded}
 use Rattle.hippo_engine.specs.declared.engine.Engine.{Engine}
+use Rattle.hippo_words.specs.declared.calls.Job.{Job}
 use Rattle.hippo_serve.specs.declared.endings.Ending.{Ending}
 use Rattle.hippo_serve.specs.declared.endings.Ending.TheVariants.{Served, KeeperFault, WriteFault, Damaged}
 use Rattle.hippo_serve.specs.Endings.{status_of}
+use Rattle.hippo_serve.specs.Loads.{asked_line, counted_line}
 use Rattle.hippo_serve.specs.Runs.{HasTaken, IsReading, Turn}
 use Rattle.hippo_serve.proofs.TurnLemmas.{by_line}
 
@@ -41,8 +43,8 @@ module _ (input : Txt) (handed : List LineText) (reader : Position) (left : Opti
   pub given_up : (status : ℕ) → status ≢ 0 → ((status ≡ 8) ↔ (input_limit < reader.taken)) → HasTaken status input left
   given_up status not_all limit = record { taken = reader.taken; within = up.within; others = up.told; all = λ is. absurd (not_all is); limit = limit }
 
-module _ (line : Option LineText) (result : Option Ending) (engine engine' : Engine) (keeper keeper' : KeeperState) (output output' : Option Txt) (steps steps' : ℕ)
-    (turn : line ≢ None → Turn result (commanded line) engine engine' keeper keeper' output output' steps steps')
+module _ (job : Job) (line : Option LineText) (result : Option Ending) (engine engine' : Engine) (keeper keeper' : KeeperState) (output output' : Option Txt) (steps steps' : ℕ)
+    (turn : line ≢ None → Turn result (commanded (option_map (asked_line job) (option_map (counted_line job) line))) engine engine' keeper keeper' output output' steps steps')
     (end : line ≡ None → (result ≡ Some Served) × (engine' ≡ engine) × (output' ≡ output) × (steps' ≡ steps))
     (same : line ≡ None → keeper' ≡ keeper) where
   module _ (input : Txt) (reader reader' : Position) (left left' : Option Txt) (reading : IsReading input reader left) (limit : reader'.taken ≤ input_limit) where
@@ -74,7 +76,7 @@ module _ (line : Option LineText) (result : Option Ending) (engine engine' : Eng
     }
 
     pub read_by_turn : Handed line → MatchOption result (IsReading input reader' left') (λ ending. HasTaken (status_of ending) input left')
-    read_by_turn handed = by_line line result engine engine' keeper keeper' output output' steps steps' turn end same
+    read_by_turn handed = by_line job line result engine engine' keeper keeper' output output' steps steps' turn end same
         (λ r. MatchOption r (IsReading input reader' left') (λ ending. HasTaken (status_of ending) input left'))
         (λ is. all_taken (subst Handed is handed))
         (λ text is carries writes. record { handed = reading.handed ++ text ∷ []; handing = subst Handed is handed })

@@ -1,5 +1,5 @@
 -- How a call of the program ends, as a status and as one call of its keeper.
-use Rattle.std.specs.Prelude.{ℕ, Option, Some, None, Result, Ok, Err}
+use Rattle.std.specs.Prelude.{◌≢◌, ℕ, Option, Some, None, Result, Ok, Err}
 use Rattle.hippo_keeper.specs.declared.faults.KeeperFault.{KeeperFault as Fault}
 use Rattle.hippo_keeper.specs.declared.faults.KeeperFault.TheVariants.{Failed}
 use Rattle.hippo_serve.specs.declared.endings.Ending.{Ending}
@@ -24,3 +24,7 @@ as_call ending = Ok tt
 abbrev pub as_line_call : Option Ending → Result (Unit {0}) Fault
 as_line_call None = Ok tt
 as_line_call (Some ending) = as_call ending
+
+-- an ending before anything is read; memory was there
+abbrev pub EndsUnread : Ending → Type 0
+EndsUnread ending = (ending ≢ Served) × (ending ≢ Refused) × (ending ≢ ReadFault) × (ending ≢ NoMemory) × (ending ≢ TooMuch)

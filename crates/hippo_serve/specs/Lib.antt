@@ -1,5 +1,6 @@
 pub mod Endings
 pub mod Asking
+pub mod Loads
 pub mod Saying
 pub mod Keeping
 pub mod Outside

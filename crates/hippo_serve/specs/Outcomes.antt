@@ -10,6 +10,7 @@ use Rattle.hippo_typing.specs.Meanings.{meaning}
 use Rattle.hippo_replay.specs.Loading.{KeepsFound}
 use Rattle.hippo_replay.specs.declared.faults.LoadFault.{LoadFault}
 use Rattle.hippo_replay.specs.declared.faults.LoadFault.TheVariants.{Keeper, Damaged as DamagedAt, Memory}
+use Rattle.hippo_words.specs.declared.calls.Job.{Job}
 use Rattle.hippo_words.specs.declared.calls.Setting.{Setting}
 use Rattle.hippo_serve.specs.declared.endings.Ending.{Ending}
 use Rattle.hippo_serve.specs.declared.endings.Ending.TheVariants.{Served, Refused, KeeperFault, ReadFault, WriteFault, Damaged, NoMemory, TooMuch}
@@ -48,18 +49,18 @@ pub record BeginsDamaged (name : Txt) (before after : Outside) : Type 0 where
   pub kept : KeepsDamaged name place before after
   pub written : AppendsFront before.told.written after.told.written (damaged_line place)
 
--- how a run ends; unread and unwritten say that source and sink are as before
-abbrev pub RunEnds : Ending → Type 0 → Type 0 → Setting → Txt → Outside → Outside → Type 0
-RunEnds Served unread unwritten setting name before after = FromFound name (IsServed setting) before after
-RunEnds Refused unread unwritten setting name before after = ⊥
-RunEnds KeeperFault unread unwritten setting name before after =
-    (unread × unwritten × IsIdle name before after) ⊎ FromFound name (IsBrokenOff setting) before after
-RunEnds ReadFault unread unwritten setting name before after = FromFound name (IsReadCut setting) before after
-RunEnds WriteFault unread unwritten setting name before after =
-    (unread × BeginsDamaged name before after) ⊎ FromFound name (IsUnwritten setting) before after
-RunEnds Damaged unread unwritten setting name before after = SaysDamaged name before after
-RunEnds NoMemory unread unwritten setting name before after = IsIdle name before after
-RunEnds TooMuch unread unwritten setting name before after = FromFound name (HasTooMuch setting) before after
+-- how a run or a load ends; unread and unwritten say that source and sink are as before
+abbrev pub RunEnds : Ending → Type 0 → Type 0 → Setting → Job → Txt → Outside → Outside → Type 0
+RunEnds Served unread unwritten setting job name before after = FromFound name (IsServed setting job) before after
+RunEnds Refused unread unwritten setting job name before after = ⊥
+RunEnds KeeperFault unread unwritten setting job name before after =
+    (unread × unwritten × IsIdle name before after) ⊎ FromFound name (IsBrokenOff setting job) before after
+RunEnds ReadFault unread unwritten setting job name before after = FromFound name (IsReadCut setting job) before after
+RunEnds WriteFault unread unwritten setting job name before after =
+    (unread × BeginsDamaged name before after) ⊎ FromFound name (IsUnwritten setting job) before after
+RunEnds Damaged unread unwritten setting job name before after = SaysDamaged name before after
+RunEnds NoMemory unread unwritten setting job name before after = IsIdle name before after
+RunEnds TooMuch unread unwritten setting job name before after = FromFound name (HasTooMuch setting job) before after
 
 -- a history is kept, and survives a stop; there was one step for each version in it
 pub record WasLoaded (history : History) (before : Told) (after : Outside) : Type 0 where

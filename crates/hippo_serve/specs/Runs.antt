@@ -1,4 +1,4 @@
--- A run over the lines of an input, from a history on, and how it ends.
+-- A run or a load over the lines of an input, from a history on, and how it ends.
 use Rattle.std.specs.Prelude.{◌≡◌, ◌⊎◌, ℕ, ◌+◌, ◌*◌, ◌<◌, ◌≤◌, ◌↔◌, min, true, false, List, [], ◌∷◌, ◌++◌, length, take, drop, Option, Some, None, Ok, Err}
 use Rattle.hippo_values.specs.Texts.{Txt}
 use Rattle.hippo_io.specs.Lines.{LineText, lines}
@@ -21,10 +21,12 @@ use Rattle.hippo_engine.specs.Carrying.{Holds, Carries}
 use Rattle.hippo_engine.specs.Effects.{Effect, effect_of}
 use Rattle.hippo_engine.specs.Ledgers.{reads_kept, RunSum}
 use Rattle.hippo_engine.specs.Runs.{IsRun, IsAmple, audits_in, replies, history_after, world_after}
+use Rattle.hippo_words.specs.declared.calls.Job.{Job}
 use Rattle.hippo_words.specs.declared.calls.Setting.{Setting}
 use Rattle.hippo_serve.specs.declared.endings.Ending.{Ending}
 use Rattle.hippo_serve.specs.declared.endings.Ending.TheVariants.{Served, KeeperFault, ReadFault, WriteFault, Damaged, TooMuch}
 use Rattle.hippo_serve.specs.Keeping.{KeepsHistory, KeepsEither}
+use Rattle.hippo_serve.specs.Loads.{asked_line, asked_lines}
 use Rattle.hippo_serve.specs.Outside.{Told, Outside}
 
 -- the world in which a run over a history begins
@@ -38,9 +40,9 @@ ForInput before holds = (input : Txt) → before.left ≡ Some input → holds i
 -- where memory was ample, what is kept was read once by loading, and at most once for each audit that was asked for:
 -- a step is one version that was read
 abbrev pub StepsWithin : Setting → History → List LineText → List Effect → Told → Outside → Type 0
-StepsWithin setting history replied effects before after =
-    IsAmple history (opening_after setting history) replied effects
-    → after.told.steps ≤ before.steps + versions (history_after history effects) * (1 + audits_in replied)
+StepsWithin setting history asked effects before after =
+    IsAmple history (opening_after setting history) asked effects
+    → after.told.steps ≤ before.steps + versions (history_after history effects) * (1 + audits_in asked)
 
 -- so many bytes of the input were taken, and the others are left: all at status 0, and more than are read just at 8
 pub record HasTaken (status : ℕ) (input : Txt) (left : Option Txt) : Type 0 where
@@ -56,11 +58,11 @@ pub record IsReading (input : Txt) (reader : Position) (left : Option Txt) : Typ
   pub handing : HasHandedOut input handed reader left
 
 -- lines have had their effects from a history on, and what the last one left is kept, and survives a stop
-pub record HasRun (setting : Setting) (history : History) (replied : List LineText) (effects : List Effect)
+pub record HasRun (setting : Setting) (history : History) (asked : List LineText) (effects : List Effect)
     (before : Told) (after : Outside) : Type 0 where
-  pub run : IsRun history (opening_after setting history) replied effects
+  pub run : IsRun history (opening_after setting history) asked effects
   pub kept : KeepsHistory (history_after history effects) after.keeper
-  pub bound : StepsWithin setting history replied effects before after
+  pub bound : StepsWithin setting history asked effects before after
 
 -- these are all lines of the input, and nothing of it is left
 pub record HasReadAll (replied : List LineText) (input : Txt) (left : Option Txt) : Type 0 where
@@ -68,11 +70,12 @@ pub record HasReadAll (replied : List LineText) (input : Txt) (left : Option Txt
   pub nothing : left ≡ Some []
   pub limit : length input ≤ input_limit
 
--- every line has its reply
-pub record IsServed (setting : Setting) (history : History) (before : Told) (after : Outside) : Type 0 where
+-- every line has its reply, as the job asks for it
+pub record IsServed (setting : Setting) (job : Job) (history : History) (before : Told) (after : Outside)
+    : Type 0 where
   pub replied : List LineText
   pub effects : List Effect
-  pub ran : HasRun setting history replied effects before after
+  pub ran : HasRun setting history (asked_lines job replied) effects before after
   pub read : ForInput before (λ input. HasReadAll replied input after.told.left)
   pub written : Appends before.written after.told.written (replies effects)
 
@@ -86,21 +89,23 @@ pub record HasReadWhole (amount : ℕ → Type 0) (replied : List LineText) (inp
   pub whole : replied ≡ whole_lines input (min taken input_limit)
 
 -- just the lines that were read whole have their replies
-pub record IsCutOff (amount : ℕ → Type 0) (setting : Setting) (history : History) (before : Told) (after : Outside)
-    : Type 0 where
+pub record IsCutOff (amount : ℕ → Type 0) (setting : Setting) (job : Job) (history : History) (before : Told)
+    (after : Outside) : Type 0 where
   pub replied : List LineText
   pub effects : List Effect
-  pub ran : HasRun setting history replied effects before after
+  pub ran : HasRun setting history (asked_lines job replied) effects before after
   pub read : ForInput before (λ input. HasReadWhole amount replied input after.told.left)
   pub written : Appends before.written after.told.written (replies effects)
 
 -- the source failed within the limit
-abbrev pub IsReadCut : Setting → History → Told → Outside → Type 0
-IsReadCut setting history before after = IsCutOff (λ taken. taken ≤ input_limit) setting history before after
+abbrev pub IsReadCut : Setting → Job → History → Told → Outside → Type 0
+IsReadCut setting job history before after =
+    IsCutOff (λ taken. taken ≤ input_limit) setting job history before after
 
 -- more bytes were taken than are read
-abbrev pub HasTooMuch : Setting → History → Told → Outside → Type 0
-HasTooMuch setting history before after = IsCutOff (λ taken. input_limit < taken) setting history before after
+abbrev pub HasTooMuch : Setting → Job → History → Told → Outside → Type 0
+HasTooMuch setting job history before after =
+    IsCutOff (λ taken. input_limit < taken) setting job history before after
 
 -- these are the first lines of the input; some of its bytes were taken, within the limit, and the others are left
 pub record HasReadFront (first : List LineText) (input : Txt) (left : Option Txt) : Type 0 where
@@ -111,13 +116,15 @@ pub record HasReadFront (first : List LineText) (input : Txt) (left : Option Txt
   pub others : left ≡ Some (drop taken input)
   pub limit : taken ≤ input_limit
 
--- the lines have their replies but the last, of whose reply a front is written; it has had its effect all the same
-pub record IsUnwritten (setting : Setting) (history : History) (before : Told) (after : Outside) : Type 0 where
+-- the lines have their replies but the last, of whose reply a front is written; it has had its effect all the same. Of
+-- a load that may be the line that sets the clock, where no other one was read
+pub record IsUnwritten (setting : Setting) (job : Job) (history : History) (before : Told) (after : Outside)
+    : Type 0 where
   pub replied : List LineText
   pub effects : List Effect
   pub last : Effect
   pub front : ℕ
-  pub ran : HasRun setting history replied (effects ++ last ∷ []) before after
+  pub ran : HasRun setting history (asked_lines job replied) (effects ++ last ∷ []) before after
   pub read : ForInput before (λ input. HasReadFront replied input after.told.left)
   pub written : Appends before.written after.told.written (replies effects ++ take front last.reply)
 
@@ -150,39 +157,46 @@ KeepsBroken setting history effects line keeper =
 
 -- the lines have their replies, and nothing is written of the next one's; what they left is kept, or that with the one
 -- entry that the rules add for the next line
-pub record IsBrokenOff (setting : Setting) (history : History) (before : Told) (after : Outside) : Type 0 where
+pub record IsBrokenOff (setting : Setting) (job : Job) (history : History) (before : Told) (after : Outside)
+    : Type 0 where
   pub replied : List LineText
   pub effects : List Effect
   pub next : LineText
-  pub run : IsRun history (opening_after setting history) replied effects
-  pub kept : KeepsBroken setting history effects next after.keeper
-  pub bound : reads_kept (command_of next) ≡ false → StepsWithin setting history replied effects before after
+  pub run : IsRun history (opening_after setting history) (asked_lines job replied) effects
+  pub kept : KeepsBroken setting history effects (asked_line job next) after.keeper
+  pub bound : reads_kept (command_of (asked_line job next)) ≡ false
+      → StepsWithin setting history (asked_lines job replied) effects before after
   pub read : ForInput before (λ input. HasReadFront (replied ++ next ∷ []) input after.told.left)
   pub written : Appends before.written after.told.written (replies effects)
 
--- how a run over lines ends
-abbrev pub LinesEnd : Ending → Setting → History → Told → Outside → Type 0
-LinesEnd Served setting history before after = IsServed setting history before after
-LinesEnd KeeperFault setting history before after = IsBrokenOff setting history before after
-LinesEnd ReadFault setting history before after = IsReadCut setting history before after
-LinesEnd WriteFault setting history before after = IsUnwritten setting history before after
-LinesEnd TooMuch setting history before after = HasTooMuch setting history before after
-LinesEnd ending setting history before after = ⊥
+-- how a run or a load over lines ends
+abbrev pub LinesEnd : Ending → Setting → Job → History → Told → Outside → Type 0
+LinesEnd Served setting job history before after = IsServed setting job history before after
+LinesEnd KeeperFault setting job history before after = IsBrokenOff setting job history before after
+LinesEnd ReadFault setting job history before after = IsReadCut setting job history before after
+LinesEnd WriteFault setting job history before after = IsUnwritten setting job history before after
+LinesEnd TooMuch setting job history before after = HasTooMuch setting job history before after
+LinesEnd ending setting job history before after = ⊥
 
--- so far the lines that were handed out have their replies, and the engine and its keeper hold what the last one left
-pub record HasServed (setting : Setting) (history : History) (before : Told) (reader : Position) (engine : Engine)
-    (now : Outside) : Type 0 where
-  pub handed : List LineText
+-- so far these lines have their replies, and the engine and its keeper hold what the last one left
+pub record HasReplied (setting : Setting) (history : History) (asked : List LineText) (before : Told)
+    (engine : Engine) (now : Outside) : Type 0 where
   pub effects : List Effect
-  pub handing : ForInput before (λ input. HasHandedOut input handed reader now.told.left)
-  pub run : IsRun history (opening_after setting history) handed effects
+  pub run : IsRun history (opening_after setting history) asked effects
   pub world : world_of engine.world ≡ world_after (opening_after setting history) effects
   pub holds : Holds (history_after history effects) engine now.keeper
   pub kept : KeepsHistory (history_after history effects) now.keeper
-  pub sum : IsAmple history (opening_after setting history) handed effects
-      → RunSum before.steps now.told.steps (versions (history_after history effects)) (audits_in handed)
+  pub sum : IsAmple history (opening_after setting history) asked effects
+      → RunSum before.steps now.told.steps (versions (history_after history effects)) (audits_in asked)
       (taken_of engine.world)
   pub written : Appends before.written now.told.written (replies effects)
+
+-- so far the lines that were handed out have their replies, as the job asks for them
+pub record HasServed (setting : Setting) (job : Job) (history : History) (before : Told) (reader : Position)
+    (engine : Engine) (now : Outside) : Type 0 where
+  pub handed : List LineText
+  pub handing : ForInput before (λ input. HasHandedOut input handed reader now.told.left)
+  pub replied : HasReplied setting history (asked_lines job handed) before engine now
 
 -- what a call with a line did: the line was carried out and replied to, or the keeper failed, or the sink did; or the
 -- keeper handed over what it did not keep, and that was said, or the sink failed then

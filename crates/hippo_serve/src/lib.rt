@@ -4,6 +4,7 @@
 mod drilling;
 mod endings;
 mod laws;
+mod loads;
 mod printing;
 mod serving;
 mod top;

@@ -1,31 +1,34 @@
 //! The lines of the input, one after the other, each with its reply.
-ghost use Rattle.std.specs.Prelude.{◌≡◌, ◌≢◌, ℕ, ◌+◌, ◌<◌, ◌≤◌, List, [], Some, None, IfNone, IfOk, MatchOption, true, false};
+ghost use Rattle.std.specs.Prelude.{◌≡◌, ◌≢◌, ℕ, ◌+◌, ◌<◌, ◌≤◌, List, [], Some, None, option_map, IfNone, IfOk, MatchOption, true, false};
 ghost use Rattle.hippo_io.specs.Faults.{HasRisen};
 ghost use Rattle.hippo_io.specs.HandingOut.{at_beginning, consumed, input_limit, HasHandedOut};
+ghost use Rattle.hippo_io.specs.Lines.{text_line};
 ghost use Rattle.hippo_io.specs.LineTexts.{line_text};
 ghost use Rattle.hippo_model.specs.Terms.{History};
 ghost use Rattle.hippo_model.specs.Versions.{versions};
 ghost use Rattle.hippo_keeper.specs.Keeping.{IsAfterCall};
-ghost use Rattle.hippo_commands.specs.Commands.{commanded};
+ghost use Rattle.hippo_commands.specs.Commands.{command_of, commanded};
 ghost use Rattle.hippo_replay.specs.Standing.{StandsFor};
 ghost use Rattle.hippo_world.specs.Holding.{world_of};
 ghost use Rattle.hippo_world.specs.Worlds.{opening};
 ghost use Rattle.hippo_engine.specs.Carrying.{Holds, AtWork, IsBacked};
 ghost use Rattle.hippo_words.specs.declared.calls.Setting.{Setting};
 ghost use Rattle.hippo_serve.specs.declared.endings.Ending.TheVariants.{Served, Refused, ReadFault, WriteFault, NoMemory};
-ghost use Rattle.hippo_serve.specs.Endings.{status_of, as_call, as_line_call};
+ghost use Rattle.hippo_serve.specs.Endings.{status_of, as_call, as_line_call, EndsUnread};
 ghost use Rattle.hippo_serve.specs.Keeping.{KeepsHistory};
+ghost use Rattle.hippo_serve.specs.Loads.{record_line, asked_line, asked_lines, limited_line, counted_line};
 ghost use Rattle.hippo_serve.specs.Outside.{Told, telling, outside};
-ghost use Rattle.hippo_serve.specs.Runs.{opening_after, HasTaken, IsReading, LinesEnd, HasServed, Turn};
+ghost use Rattle.hippo_serve.specs.Runs.{opening_after, HasTaken, IsReading, LinesEnd, HasReplied, HasServed, Turn};
 
 use crate::endings::Ending;
+use crate::loads::{MadeText, make_clock, make_load};
 use crate::printing::say_damaged;
 use hippo_engine::{Engine, EngineFault};
 use hippo_io::{Line, LineFault, LineReader, Sink, Source};
 use hippo_keeper::{Keeper, Steps};
 use hippo_replay::State;
-use hippo_values::Memory;
-use hippo_words::Setting;
+use hippo_values::{LINE_LIMIT, Memory, Name};
+use hippo_words::{Job, Setting};
 use std::alloc::Global;
 use std::sync::ledger::Ledger;
 
@@ -59,11 +62,101 @@ fn carry_out<K: Sink, P: Keeper, L: Ledger>(
     }
 }
 
+// Carries out the line that loads a record of a table. A text that is longer than a line may be is no record.
+fn carry_out_record<K: Sink, P: Keeper, L: Ledger>(
+    alloc: Global,
+    table: &Name,
+    engine: &mut Engine,
+    fields: &str,
+    made: &mut MadeText,
+    keeper: &mut P,
+    sink: &mut K,
+    steps: &mut Steps<L>,
+) -> Option<Ending>
+    requires at_work { AtWork engine.old (P.state keeper.old) }
+    ensures line { Turn result (command_of (record_line table.now (limited_line (text_line fields.now))))
+        engine.old engine.new (P.state keeper.old) (P.state keeper.new)
+        (K.written sink.old) (K.written sink.new) steps.old steps.new }
+    ensures write_fault { result ≡ Some WriteFault → HasRisen (K.faults sink.old) (K.faults sink.new) }
+    ensures unfailed_write { result ≢ Some WriteFault → K.faults sink.new ≡ K.faults sink.old }
+{
+    if fields.len() > LINE_LIMIT {
+        return carry_out(alloc, engine, Line::TooLong, keeper, sink, steps);
+    }
+    make_load(table, fields, made);
+    carry_out(alloc, engine, Line::Text(made.as_str()), keeper, sink, steps)
+}
+
+// Carries out what a job asks for where it reads a line.
+fn carry_out_asked<K: Sink, P: Keeper, L: Ledger>(
+    alloc: Global,
+    job: &Job,
+    engine: &mut Engine,
+    line: Line<'_>,
+    made: &mut MadeText,
+    keeper: &mut P,
+    sink: &mut K,
+    steps: &mut Steps<L>,
+) -> Option<Ending>
+    requires at_work { AtWork engine.old (P.state keeper.old) }
+    ensures line { line_text line.entry ≢ None →
+        Turn result (commanded (option_map (asked_line job.now) (option_map (counted_line job.now) (line_text line.entry))))
+        engine.old engine.new (P.state keeper.old) (P.state keeper.new)
+        (K.written sink.old) (K.written sink.new) steps.old steps.new }
+    ensures end { line_text line.entry ≡ None →
+        (result ≡ Some Served) × (engine.new ≡ engine.old) × (keeper.new ≡ keeper.old) × (sink.new ≡ sink.old)
+        × (steps.new ≡ steps.old) }
+    ensures write_fault { result ≡ Some WriteFault → HasRisen (K.faults sink.old) (K.faults sink.new) }
+    ensures unfailed_write { result ≢ Some WriteFault → K.faults sink.new ≡ K.faults sink.old }
+{
+    match (job, line) {
+        (Job::Load { table, .. }, Line::Text(fields)) => {
+            carry_out_record(alloc, table, engine, fields, made, keeper, sink, steps)
+        }
+        (_, other) => carry_out(alloc, engine, other, keeper, sink, steps),
+    }
+}
+
+// Sets the clock where a job begins with that; answers how the run ends, where it does. Nothing is read.
+fn serve_first<K: Sink, P: Keeper, L: Ledger>(
+    alloc: Global,
+    job: &Job,
+    engine: &mut Engine,
+    made: &mut MadeText,
+    keeper: &mut P,
+    sink: &mut K,
+    steps: &mut Steps<L>,
+) -> Option<Ending>
+    requires at_work { AtWork engine.old (P.state keeper.old) }
+    ensures status { MatchOption result (AtWork engine.new (P.state keeper.new)) EndsUnread }
+    ensures call { IsAfterCall true false (as_line_call result) (P.state keeper.old) (P.state keeper.new) }
+    ensures served { (P.state keeper.new).tells → (setting : Setting) (history : History) (before : Told) →
+        HasReplied setting history [] before engine.old
+        (outside before.left (K.written sink.old) (P.state keeper.old) steps.old) →
+        MatchOption result
+        (HasReplied setting history (asked_lines job.now []) before engine.new
+        (outside before.left (K.written sink.new) (P.state keeper.new) steps.new))
+        (λ ending. LinesEnd ending setting job.now history before
+        (outside before.left (K.written sink.new) (P.state keeper.new) steps.new)) }
+    ensures write_fault { result ≡ Some WriteFault → HasRisen (K.faults sink.old) (K.faults sink.new) }
+    ensures unfailed_write { result ≢ Some WriteFault → K.faults sink.new ≡ K.faults sink.old }
+{
+    match job {
+        Job::Load { moment, .. } => {
+            make_clock(*moment, made);
+            carry_out(alloc, engine, Line::Text(made.as_str()), keeper, sink, steps)
+        }
+        _ => None,
+    }
+}
+
 // Reads the next line and carries it out; answers how the run ends, where it does.
 fn serve_line<S: Source, K: Sink, P: Keeper, L: Ledger>(
     alloc: Global,
+    job: &Job,
     engine: &mut Engine,
     reader: &mut LineReader,
+    made: &mut MadeText,
     source: &mut S,
     keeper: &mut P,
     sink: &mut K,
@@ -80,12 +173,12 @@ fn serve_line<S: Source, K: Sink, P: Keeper, L: Ledger>(
         MatchOption result (IsReading input reader.new (S.left source.new))
         (λ ending. HasTaken (status_of ending) input (S.left source.new)) }
     ensures served { (P.state keeper.new).tells → (setting : Setting) (history : History) (before : Told) →
-        HasServed setting history before reader.old engine.old
+        HasServed setting job.now history before reader.old engine.old
         (outside (S.left source.old) (K.written sink.old) (P.state keeper.old) steps.old) →
         MatchOption result
-        (HasServed setting history before reader.new engine.new
+        (HasServed setting job.now history before reader.new engine.new
         (outside (S.left source.new) (K.written sink.new) (P.state keeper.new) steps.new))
-        (λ ending. LinesEnd ending setting history before
+        (λ ending. LinesEnd ending setting job.now history before
         (outside (S.left source.new) (K.written sink.new) (P.state keeper.new) steps.new)) }
     ensures read_fault { result ≡ Some ReadFault → HasRisen (S.faults source.old) (S.faults source.new) }
     ensures write_fault { result ≡ Some WriteFault → HasRisen (K.faults sink.old) (K.faults sink.new) }
@@ -93,7 +186,7 @@ fn serve_line<S: Source, K: Sink, P: Keeper, L: Ledger>(
     ensures unfailed_write { result ≢ Some WriteFault → K.faults sink.new ≡ K.faults sink.old }
 {
     match reader.next_line(source) {
-        Ok(line) => carry_out(alloc, engine, line, keeper, sink, steps),
+        Ok(line) => carry_out_asked(alloc, job, engine, line, made, keeper, sink, steps),
         Err(LineFault::Read) => Some(Ending::ReadFault),
         Err(LineFault::TooMuch) => Some(Ending::TooMuch),
     }
@@ -102,8 +195,46 @@ fn serve_line<S: Source, K: Sink, P: Keeper, L: Ledger>(
 // Serves lines until the input ends or a fault stops it.
 fn serve_lines<S: Source, K: Sink, P: Keeper, L: Ledger>(
     alloc: Global,
+    job: &Job,
     engine: &mut Engine,
     reader: &mut LineReader,
+    made: &mut MadeText,
+    source: &mut S,
+    keeper: &mut P,
+    sink: &mut K,
+    steps: &mut Steps<L>,
+) -> Ending
+    requires reader { reader.old ≡ at_beginning }
+    requires at_work { AtWork engine.old (P.state keeper.old) }
+    ensures status { (result ≢ Refused) × (result ≢ NoMemory) }
+    ensures call { IsAfterCall true false (as_call result) (P.state keeper.old) (P.state keeper.new) }
+    ensures read { (input : List ℕ) → IsReading input reader.old (S.left source.old) →
+        HasTaken (status_of result) input (S.left source.new) }
+    ensures ends { (P.state keeper.new).tells → (setting : Setting) (history : History) (before : Told) →
+        HasServed setting job.now history before reader.old engine.old
+        (outside (S.left source.old) (K.written sink.old) (P.state keeper.old) steps.old) →
+        LinesEnd result setting job.now history before
+        (outside (S.left source.new) (K.written sink.new) (P.state keeper.new) steps.new) }
+    ensures read_fault { result ≡ ReadFault → HasRisen (S.faults source.old) (S.faults source.new) }
+    ensures write_fault { result ≡ WriteFault → HasRisen (K.faults sink.old) (K.faults sink.new) }
+    ensures unfailed_read { result ≢ ReadFault → S.faults source.new ≡ S.faults source.old }
+    ensures unfailed_write { result ≢ WriteFault → K.faults sink.new ≡ K.faults sink.old }
+{
+    loop {
+        if let Some(ending) = serve_line(alloc, job, engine, reader, made, source, keeper, sink, steps)
+        {
+            return ending;
+        }
+    }
+}
+
+// Serves the line that a job begins with, where there is one, and then those that it reads.
+fn serve_all<S: Source, K: Sink, P: Keeper, L: Ledger>(
+    alloc: Global,
+    job: &Job,
+    engine: &mut Engine,
+    reader: &mut LineReader,
+    made: &mut MadeText,
     source: &mut S,
     keeper: &mut P,
     sink: &mut K,
@@ -120,17 +251,16 @@ fn serve_lines<S: Source, K: Sink, P: Keeper, L: Ledger>(
         Holds history engine.old (P.state keeper.old) →
         world_of engine.old.world ≡ opening_after setting history → KeepsHistory history (P.state keeper.old) →
         (start : ℕ) → steps.old ≡ start + versions history →
-        LinesEnd result setting history (telling (S.left source.old) (K.written sink.old) start)
+        LinesEnd result setting job.now history (telling (S.left source.old) (K.written sink.old) start)
         (outside (S.left source.new) (K.written sink.new) (P.state keeper.new) steps.new) }
     ensures read_fault { result ≡ ReadFault → HasRisen (S.faults source.old) (S.faults source.new) }
     ensures write_fault { result ≡ WriteFault → HasRisen (K.faults sink.old) (K.faults sink.new) }
     ensures unfailed_read { result ≢ ReadFault → S.faults source.new ≡ S.faults source.old }
     ensures unfailed_write { result ≢ WriteFault → K.faults sink.new ≡ K.faults sink.old }
 {
-    loop {
-        if let Some(ending) = serve_line(alloc, engine, reader, source, keeper, sink, steps) {
-            return ending;
-        }
+    match serve_first(alloc, job, engine, made, keeper, sink, steps) {
+        Some(ending) => ending,
+        None => serve_lines(alloc, job, engine, reader, made, source, keeper, sink, steps),
     }
 }
 
@@ -143,10 +273,12 @@ fn open(alloc: Global, setting: Setting, state: State) -> Result<Engine, Memory>
     Engine::new(alloc, state, setting.limit, setting.format)
 }
 
-/// Serves all lines over a state that was loaded from the keeper. Want of memory comes before anything is read.
+/// Serves all lines that a job asks for, over a state that was loaded from the keeper. Want of memory comes before
+/// anything is read.
 pub fn serve<S: Source, K: Sink, P: Keeper, L: Ledger>(
     alloc: Global,
     setting: Setting,
+    job: &Job,
     state: State,
     source: &mut S,
     keeper: &mut P,
@@ -162,7 +294,7 @@ pub fn serve<S: Source, K: Sink, P: Keeper, L: Ledger>(
         HasTaken (status_of result) input (S.left source.new) }
     ensures ends { result ≢ NoMemory → (P.state keeper.new).tells → (history : History) → StandsFor state history →
         KeepsHistory history (P.state keeper.old) → (start : ℕ) → steps.old ≡ start + versions history →
-        LinesEnd result setting history (telling (S.left source.old) (K.written sink.old) start)
+        LinesEnd result setting job.now history (telling (S.left source.old) (K.written sink.old) start)
         (outside (S.left source.new) (K.written sink.new) (P.state keeper.new) steps.new) }
     ensures read_fault { result ≡ ReadFault → HasRisen (S.faults source.old) (S.faults source.new) }
     ensures write_fault { result ≡ WriteFault → HasRisen (K.faults sink.old) (K.faults sink.new) }
@@ -173,9 +305,23 @@ pub fn serve<S: Source, K: Sink, P: Keeper, L: Ledger>(
         drop(state);
         return Ending::NoMemory;
     };
+    let Ok(mut made) = MadeText::with_room(alloc) else {
+        drop(state);
+        return Ending::NoMemory;
+    };
     match open(alloc, setting, state) {
         Ok(mut engine) => {
-            let ending = serve_lines(alloc, &mut engine, &mut reader, source, keeper, sink, steps);
+            let ending = serve_all(
+                alloc,
+                job,
+                &mut engine,
+                &mut reader,
+                &mut made,
+                source,
+                keeper,
+                sink,
+                steps,
+            );
             drop(engine);
             ending
         }

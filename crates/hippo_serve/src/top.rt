@@ -1,14 +1,16 @@
 //! The top call: what the words ask for is done over a keeper, and the call has its exit status.
-ghost use Rattle.std.specs.Prelude.{◌≡◌, ◌≢◌, ◌⊎◌, ℕ, List, [], ◌∷◌, Option, Some, true, false, Any};
+ghost use Rattle.std.specs.Prelude.{◌≡◌, ◌≢◌, ◌⊎◌, ℕ, List, [], ◌∷◌, Option, Some, None, true, false, Any};
 ghost use Rattle.hippo_io.specs.Faults.{HasRisen};
 ghost use Rattle.hippo_io.specs.Told.{Appends, AppendsFront};
 ghost use Rattle.hippo_keeper.specs.Keeping.{IsReady, IsAfterCall};
+ghost use Rattle.hippo_words.specs.CommandLine.{call_of};
 ghost use Rattle.hippo_words.specs.declared.calls.Setting.{Setting};
-ghost use Rattle.hippo_words.specs.declared.calls.Job.TheVariants.{Run, Check, Drill};
+ghost use Rattle.hippo_words.specs.declared.calls.Job.{Job};
+ghost use Rattle.hippo_words.specs.declared.calls.Job.TheVariants.{Check, Drill};
 ghost use Rattle.hippo_serve.specs.declared.endings.Ending.TheVariants.{Served, Refused, ReadFault, WriteFault, Damaged, NoMemory, TooMuch};
 ghost use Rattle.hippo_serve.specs.Drilling.{summary};
 ghost use Rattle.hippo_serve.specs.Endings.{status_of, as_call};
-ghost use Rattle.hippo_serve.specs.Asking.{job_of, store_of, is_refused};
+ghost use Rattle.hippo_serve.specs.Asking.{job_of, store_of, AskToServe};
 ghost use Rattle.hippo_serve.specs.Outcomes.{FromFound, IsIdle, BeginsDamaged, SaysDamaged, IsCounted, BeginsCount, RunEnds, CheckEnds, Stops};
 ghost use Rattle.hippo_serve.specs.Outside.{Outside, outside};
 ghost use Rattle.hippo_serve.specs.Runs.{HasTaken, IsServed, IsBrokenOff, IsReadCut, IsUnwritten, HasTooMuch};
@@ -48,11 +50,12 @@ fn count_of(state: State) -> u64
     count
 }
 
-// Loads what a store keeps, and serves all lines.
+// Loads what a store keeps, and serves all lines that a job asks for.
 fn run<S: Source, K: Sink, P: Keeper, L: Ledger>(
     alloc: Global,
     store: &str,
     setting: Setting,
+    job: &Job,
     source: &mut S,
     sink: &mut K,
     keeper: &mut P,
@@ -63,7 +66,7 @@ fn run<S: Source, K: Sink, P: Keeper, L: Ledger>(
     ensures call { IsAfterCall (P.state keeper.new).started (P.state keeper.new).closed (as_call result)
         (P.state keeper.old) (P.state keeper.new) }
     ensures ends { (P.state keeper.new).tells →
-        RunEnds result (source.new ≡ source.old) (sink.new ≡ sink.old) setting store.now
+        RunEnds result (source.new ≡ source.old) (sink.new ≡ sink.old) setting job.now store.now
         (outside (S.left source.old) (K.written sink.old) (P.state keeper.old) steps.old)
         (outside (S.left source.new) (K.written sink.new) (P.state keeper.new) steps.new) }
     ensures damaged { result ≡ Damaged → (P.state keeper.new).tells → source.new ≡ source.old }
@@ -77,7 +80,7 @@ fn run<S: Source, K: Sink, P: Keeper, L: Ledger>(
     ensures unfailed_write { result ≢ WriteFault → K.faults sink.new ≡ K.faults sink.old }
 {
     match load(keeper, alloc, store, steps) {
-        Ok(state) => serve(alloc, setting, state, source, keeper, sink, steps),
+        Ok(state) => serve(alloc, setting, job, state, source, keeper, sink, steps),
         Err(fault) => stop(fault, sink),
     }
 }
@@ -115,18 +118,22 @@ fn check<K: Sink, P: Keeper, L: Ledger>(
 /// must be neither started nor spent nor closed, keeps its history in the store that the words name, or in memory.
 /// Answers the exit status.
 ///
-/// - 0: for `run` the input was read to its end, and every line has its reply; for `check` the line `entries N` is
-///   written, with N the number of kept entries; for `drill` five lines say what the replies to its script come to.
-/// - 2: exactly where the words are not those of a job that is carried out (see [`call_of`]; `load` is not yet); the
-///   usage line is written, and nothing is read.
+/// - 0: for `run` the input was read to its end, and every line has its reply; for `load` so has the line that sets the
+///   clock, and then for each line of the input the one that loads its text as a record; for `check` the line
+///   `entries N` is written, with N the number of kept entries; for `drill` five lines say what the replies to its
+///   script come to.
+/// - 2: exactly where the words are not those of a call (see [`call_of`]); the usage line is written, and nothing is
+///   read.
 /// - 3: the keeper failed; the lines before have their replies, and the next one's entry is kept or not.
-/// - 4: the source failed; just the lines that were read whole have their replies.
+/// - 4: the source failed; just the lines that were read whole have their replies, and in a load that which sets the
+///   clock.
 /// - 5: the sink failed; what was written is a front of what was to be written.
 /// - 6: the kept entries are those of no valid history; the line `damaged PLACE` is written, with the place, counted
 ///   from 1, of the first entry up to which they are not. Nothing is read. Over a keeper that does not tell what it
 ///   keeps a line may find such an entry too, and `damaged NUMBER` is written behind the replies of the lines before.
 /// - 7: memory was short before the first byte was read, or in a drill; nothing was read or written.
-/// - 8: more than 2^40 bytes were read; just the lines that end among the first 2^40 have their replies.
+/// - 8: more than 2^40 bytes were read; just the lines that end among the first 2^40 have their
+///   replies, and in a load that which sets the clock.
 pub fn hippo_top<S: Source, K: Sink, P: Keeper, L: Ledger>(
     alloc: Global,
     words: &[Txt],
@@ -138,44 +145,44 @@ pub fn hippo_top<S: Source, K: Sink, P: Keeper, L: Ledger>(
     requires ready { IsReady false (P.state keeper.old) }
     ensures status { Any (λ status. result ≡ status) (0 ∷ 2 ∷ 3 ∷ 4 ∷ 5 ∷ 6 ∷ 7 ∷ 8 ∷ []) }
 
-    // Words that ask for no job that is carried out are refused, and nothing is read or kept.
-    ensures refused { is_refused words.now ≡ true → ((result ≡ 2) ⊎ (result ≡ 5) ⊎ (result ≡ 7))
+    // Words that ask for nothing are refused, and nothing is read or kept.
+    ensures refused { call_of words.now ≡ None → ((result ≡ 2) ⊎ (result ≡ 5) ⊎ (result ≡ 7))
         × (source.new ≡ source.old) × (keeper.new ≡ keeper.old) × (steps.new ≡ steps.old) }
-    ensures accepted { is_refused words.now ≡ false → result ≢ 2 }
+    ensures accepted { call_of words.now ≢ None → result ≢ 2 }
     ensures usage { result ≡ 2 → Appends (K.written sink.old) (K.written sink.new) usage }
-    ensures usage_cut { is_refused words.now ≡ true → result ≡ 5 →
+    ensures usage_cut { call_of words.now ≡ None → result ≡ 5 →
         AppendsFront (K.written sink.old) (K.written sink.new) usage }
 
-    // What a run comes to, where the keeper tells, from what a start may find; of an input and an output that are told,
+    // What a run or a load comes to, where the keeper tells, from what a start may find; of an input and an output that are told,
     // which lines were read, and what is written.
-    ensures served { (setting : Setting) → job_of words.now ≡ Some (Run setting) → result ≡ 0 →
-        (P.state keeper.new).tells → FromFound (store_of words.now) (IsServed setting)
+    ensures served { (job : Job) (setting : Setting) → AskToServe words.now job setting → result ≡ 0 →
+        (P.state keeper.new).tells → FromFound (store_of words.now) (IsServed setting job)
         (outside (S.left source.old) (K.written sink.old) (P.state keeper.old) steps.old)
         (outside (S.left source.new) (K.written sink.new) (P.state keeper.new) steps.new) }
-    ensures keeper_cut { (setting : Setting) → job_of words.now ≡ Some (Run setting) → result ≡ 3 →
+    ensures keeper_cut { (job : Job) (setting : Setting) → AskToServe words.now job setting → result ≡ 3 →
         (P.state keeper.new).tells →
         let before : Outside = outside (S.left source.old) (K.written sink.old) (P.state keeper.old) steps.old in
         let after : Outside = outside (S.left source.new) (K.written sink.new) (P.state keeper.new) steps.new in
         ((source.new ≡ source.old) × (sink.new ≡ sink.old) × IsIdle (store_of words.now) before after)
-        ⊎ FromFound (store_of words.now) (IsBrokenOff setting) before after }
-    ensures read_cut { (setting : Setting) → job_of words.now ≡ Some (Run setting) → result ≡ 4 →
-        (P.state keeper.new).tells → FromFound (store_of words.now) (IsReadCut setting)
+        ⊎ FromFound (store_of words.now) (IsBrokenOff setting job) before after }
+    ensures read_cut { (job : Job) (setting : Setting) → AskToServe words.now job setting → result ≡ 4 →
+        (P.state keeper.new).tells → FromFound (store_of words.now) (IsReadCut setting job)
         (outside (S.left source.old) (K.written sink.old) (P.state keeper.old) steps.old)
         (outside (S.left source.new) (K.written sink.new) (P.state keeper.new) steps.new) }
-    ensures write_cut { (setting : Setting) → job_of words.now ≡ Some (Run setting) → result ≡ 5 →
+    ensures write_cut { (job : Job) (setting : Setting) → AskToServe words.now job setting → result ≡ 5 →
         (P.state keeper.new).tells →
         let before : Outside = outside (S.left source.old) (K.written sink.old) (P.state keeper.old) steps.old in
         let after : Outside = outside (S.left source.new) (K.written sink.new) (P.state keeper.new) steps.new in
         ((source.new ≡ source.old) × BeginsDamaged (store_of words.now) before after)
-        ⊎ FromFound (store_of words.now) (IsUnwritten setting) before after }
-    ensures too_much { (setting : Setting) → job_of words.now ≡ Some (Run setting) → result ≡ 8 →
-        (P.state keeper.new).tells → FromFound (store_of words.now) (HasTooMuch setting)
+        ⊎ FromFound (store_of words.now) (IsUnwritten setting job) before after }
+    ensures too_much { (job : Job) (setting : Setting) → AskToServe words.now job setting → result ≡ 8 →
+        (P.state keeper.new).tells → FromFound (store_of words.now) (HasTooMuch setting job)
         (outside (S.left source.old) (K.written sink.old) (P.state keeper.old) steps.old)
         (outside (S.left source.new) (K.written sink.new) (P.state keeper.new) steps.new) }
 
-    // Of an input that is told, a run takes all where it ends with 0, and more than are read just where it ends with 8,
+    // Of an input that is told, a run or a load takes all where it ends with 0, and more than are read just where it ends with 8,
     // whatever the keeper.
-    ensures taken { (setting : Setting) → job_of words.now ≡ Some (Run setting) → (input : List ℕ) →
+    ensures taken { (job : Job) (setting : Setting) → AskToServe words.now job setting → (input : List ℕ) →
         S.left source.old ≡ Some input → HasTaken result input (S.left source.new) }
 
     // A check reads nothing and keeps what it finds.
@@ -232,9 +239,10 @@ pub fn hippo_top<S: Source, K: Sink, P: Keeper, L: Ledger>(
     };
     let store = call.store.as_str();
     match &call.job {
-        Job::Run(setting) => run(alloc, store, *setting, source, sink, keeper, steps).status(),
+        Job::Run(setting) | Job::Load { setting, .. } => {
+            run(alloc, store, *setting, &call.job, source, sink, keeper, steps).status()
+        }
         Job::Check => check(alloc, store, sink, keeper, steps).status(),
         Job::Drill { size, number } => drill(alloc, *size, *number, sink).status(),
-        Job::Load { .. } => refuse(sink).status(),
     }
 }

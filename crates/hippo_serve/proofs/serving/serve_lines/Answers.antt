@@ -2,7 +2,6 @@ use Rattle.std.proofs.Common.{rules, refl}
 use Rattle.hippo_keeper.specs.declared.faults.KeeperFault.{KeeperFault}
 use Rattle.hippo_keeper.proofs.CallLemmas.{IsAfterCall-none}
 use Rattle.hippo_keeper.proofs.Results.{well}
-use Rattle.hippo_serve.proofs.RunLemmas.{reading_none, served_none}
 use Rattle.hippo_serve.proofs.serving.serve_lines.Goals as goal
 
 pub loop-ending-init : goal.loop-ending-init
@@ -13,8 +12,6 @@ loop-ending-init g c = record {
   sink_faults = search rules;
   call = IsAfterCall-none (well KeeperFault) (g.P.Keeper.state c.args.keeper.now) refl c.requires.at_work.ready;
   at_work = c.requires.at_work;
-  reading = λ input is. reading_none input c.args.reader.now (g.S.Source.left c.args.source.now) is (c.requires.handed input);
-  served = λ tells setting history holds world keeps start counted.
-      served_none setting history c.args.reader.now (g.S.Source.left c.args.source.now) (g.K.Sink.written c.args.sink.now) c.args.engine.now (g.P.Keeper.state c.args.keeper.now) start c.args.steps.now
-      c.requires.handed holds world keeps counted;
+  reading = λ input reading. reading;
+  served = λ tells setting history before served. served;
 }

@@ -10,7 +10,7 @@ use Rattle.hippo_serve.proofs.top.run.Goals as goal
 pub returns-in-Ok-clause-ends : goal.returns-in-Ok-clause-ends
 returns-in-Ok-clause-ends g c =
     run_ends c.args.store.now c.in-Ok.state (g.S.Source.left c.args.source.now) (g.K.Sink.written c.args.sink.now) (g.P.Keeper.state c.args.keeper.now) (g.P.Keeper.state c.load.new.keeper)
-    c.args.steps.now c.load.new.steps c.in-Ok.ensures.loads c.args.setting c.serve.result _ _
+    c.args.steps.now c.load.new.steps c.in-Ok.ensures.loads c.args.setting c.args.job.now c.serve.result _ _
     (outside (g.S.Source.left c.serve.new.source) (g.K.Sink.written c.serve.new.sink) (g.P.Keeper.state c.serve.new.keeper) c.serve.new.steps)
     c.serve.ensures.status (λ is. ap g.P.Keeper.state (c.serve.ensures.nothing is).1) c.serve.ensures.call.told
     (λ some tells history stands keeps counted. c.serve.ensures.ends some tells history stands keeps c.args.steps.now counted)
@@ -18,7 +18,7 @@ returns-in-Ok-clause-ends g c =
 pub returns-in-Ok-clause-damaged : goal.returns-in-Ok-clause-damaged
 returns-in-Ok-clause-damaged g c = λ is tells. absurd (
     never_damaged c.args.store.now c.in-Ok.state (g.S.Source.left c.args.source.now) (g.K.Sink.written c.args.sink.now) (g.P.Keeper.state c.args.keeper.now) (g.P.Keeper.state c.load.new.keeper)
-    c.args.steps.now c.load.new.steps c.in-Ok.ensures.loads c.args.setting c.serve.result
+    c.args.steps.now c.load.new.steps c.in-Ok.ensures.loads c.args.setting c.args.job.now c.serve.result
     (outside (g.S.Source.left c.serve.new.source) (g.K.Sink.written c.serve.new.sink) (g.P.Keeper.state c.serve.new.keeper) c.serve.new.steps)
     c.serve.ensures.call.told
     (λ some tells history stands keeps counted. c.serve.ensures.ends some tells history stands keeps c.args.steps.now counted) is tells)
@@ -28,7 +28,7 @@ returns-in-Err-clause-ends g c =
     stop_ends_run c.args.store.now
     (outside (g.S.Source.left c.args.source.now) (g.K.Sink.written c.args.sink.now) (g.P.Keeper.state c.args.keeper.now) c.args.steps.now)
     (outside (g.S.Source.left c.args.source.now) (g.K.Sink.written c.stop.new.sink) (g.P.Keeper.state c.load.new.keeper) c.load.new.steps)
-    c.args.setting c.in-Err.fault c.stop.result _ _ (g.K.Sink.faults c.args.sink.now) (g.K.Sink.faults c.stop.new.sink) c.stop.ensures.stops c.in-Err.ensures.loads refl
+    c.args.setting c.args.job.now c.in-Err.fault c.stop.result _ _ (g.K.Sink.faults c.args.sink.now) (g.K.Sink.faults c.stop.new.sink) c.stop.ensures.stops c.in-Err.ensures.loads refl
 
 pub returns-in-Err-clause-read : goal.returns-in-Err-clause-read
 returns-in-Err-clause-read g c = λ input is.
