@@ -233,7 +233,13 @@ fn read_fault_behind_a_full_buffer(rt: HostRuntime) -> Result<(), Memory> {
 #[test]
 fn a_load_sets_the_clock_before_it_reads(rt: HostRuntime) -> Result<(), Memory> {
     let alloc = rt.alloc();
-    let command = ["load", "--table", "ward", "--moment", "2024-01-02T08:00:00Z"];
+    let command = [
+        "load",
+        "--table",
+        "ward",
+        "--moment",
+        "2024-01-02T08:00:00Z",
+    ];
     let unread = Outside {
         failing_reads: &[1],
         ..FAULTLESS
