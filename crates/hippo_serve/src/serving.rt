@@ -84,7 +84,14 @@ fn carry_out_record<K: Sink, P: Keeper, L: Ledger>(
         return carry_out(alloc, engine, Line::TooLong, keeper, sink, steps);
     }
     make_load(table, fields, made);
-    carry_out(alloc, engine, Line::Text(made.as_str()), keeper, sink, steps)
+    carry_out(
+        alloc,
+        engine,
+        Line::Text(made.as_str()),
+        keeper,
+        sink,
+        steps,
+    )
 }
 
 // Carries out what a job asks for where it reads a line.
@@ -144,7 +151,14 @@ fn serve_first<K: Sink, P: Keeper, L: Ledger>(
     match job {
         Job::Load { moment, .. } => {
             make_clock(*moment, made);
-            carry_out(alloc, engine, Line::Text(made.as_str()), keeper, sink, steps)
+            carry_out(
+                alloc,
+                engine,
+                Line::Text(made.as_str()),
+                keeper,
+                sink,
+                steps,
+            )
         }
         _ => None,
     }
@@ -221,8 +235,9 @@ fn serve_lines<S: Source, K: Sink, P: Keeper, L: Ledger>(
     ensures unfailed_write { result ≢ WriteFault → K.faults sink.new ≡ K.faults sink.old }
 {
     loop {
-        if let Some(ending) = serve_line(alloc, job, engine, reader, made, source, keeper, sink, steps)
-        {
+        if let Some(ending) = serve_line(
+            alloc, job, engine, reader, made, source, keeper, sink, steps,
+        ) {
             return ending;
         }
     }
@@ -260,7 +275,9 @@ fn serve_all<S: Source, K: Sink, P: Keeper, L: Ledger>(
 {
     match serve_first(alloc, job, engine, made, keeper, sink, steps) {
         Some(ending) => ending,
-        None => serve_lines(alloc, job, engine, reader, made, source, keeper, sink, steps),
+        None => serve_lines(
+            alloc, job, engine, reader, made, source, keeper, sink, steps,
+        ),
     }
 }
 
