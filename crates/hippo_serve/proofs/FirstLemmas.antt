@@ -1,5 +1,5 @@
 -- What a load begins with: a line that sets the clock neither reads what is kept nor adds to it.
-use Rattle.std.proofs.Common.{◌≡◌, ◌≢◌, ◌≤◌, ◌<◌, ℕ, Bool, true, false, List, [], ◌∷◌, ◌++◌, length, inl, inr, Option, Some, None, MatchOption, Ok, Err, codes, refl, sym, subst, ap, ◌∙◌, arith}
+use Rattle.std.proofs.Common.{◌≡◌, ◌<◌, ℕ, Bool, true, false, List, [], ◌∷◌, ◌++◌, length, inl, inr, Option, Some, None, MatchOption, Ok, Err, codes, refl, sym, subst, arith}
 use Rattle.std.proofs.lemmas.Bool.{lt-ltb}
 use Rattle.std.specs.Bool.{then_some}
 use Rattle.std.specs.Prelude.{nat_lt, int_lt, option_and_then}
@@ -8,7 +8,7 @@ use Rattle.hippo_values.specs.Texts.{Txt}
 use Rattle.hippo_values.specs.declared.moments.Moment.{Moment}
 use Rattle.hippo_io.specs.Lines.{LineText, text_line, lines}
 use Rattle.hippo_lines.specs.Forms.{Form, sets_clock, form_by, at_of, line_form}
-use Rattle.hippo_lines.specs.Words.{words_of, only, around_space}
+use Rattle.hippo_lines.specs.Words.{words_of, only}
 use Rattle.hippo_model.specs.declared.entry.Entry.{Entry}
 use Rattle.hippo_model.specs.Terms.{History}
 use Rattle.hippo_keeper.specs.Keeping.{KeeperState, IsAfterCall}

@@ -240,10 +240,8 @@ pub fn hippo_top<S: Source, K: Sink, P: Keeper, L: Ledger>(
     let store = call.store.as_str();
     match &call.job {
         Job::Run(setting) | Job::Load { setting, .. } => {
-            run(
-                alloc, store, *setting, &call.job, source, sink, keeper, steps,
-            )
-            .status()
+            let job = &call.job;
+            run(alloc, store, *setting, job, source, sink, keeper, steps).status()
         }
         Job::Check => check(alloc, store, sink, keeper, steps).status(),
         Job::Drill { size, number } => drill(alloc, *size, *number, sink).status(),

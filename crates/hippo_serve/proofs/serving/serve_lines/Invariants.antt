@@ -1,5 +1,5 @@
 -- Whatever input is read, the lines handed out so far have their replies; each line takes at least one byte.
-use Rattle.std.proofs.Common.{◌≡◌, ℕ, ◌+◌, ◌-◌, ◌≤◌, Some, None, true, false}
+use Rattle.std.proofs.Common.{◌≡◌, ◌-◌, ◌≤◌, None, true, false}
 use Rattle.hippo_values.specs.Texts.{Txt}
 use Rattle.hippo_io.specs.HandingOut.{consumed, input_limit}
 use Rattle.hippo_model.specs.Terms.{History}
