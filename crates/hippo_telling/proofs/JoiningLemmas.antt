@@ -1,0 +1,2 @@
+-- Lists that are joined.
+use Rattle.std.proofs.Common.{◌≡◌, refl}

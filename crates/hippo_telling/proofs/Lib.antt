@@ -1,0 +1,2 @@
+mod TellingExamples
+mod JoiningLemmas

@@ -1,0 +1,137 @@
+//! The statement that an act came of.
+ghost use Rattle.std.specs.Prelude.{◌≡◌, ◌++◌, option_copied, OnOk, OnErr};
+ghost use Rattle.hippo_values.specs.Printing.{KeepsFront};
+ghost use Rattle.hippo_telling.specs.Telling.{columns_of, key_places, told_act, table_named};
+
+use crate::rows::{append_delete, append_insert, append_update};
+use crate::rules::{
+    Rule, append_allow, append_asked, append_choice, append_grant, append_item, append_named,
+    append_rule,
+};
+use crate::tables::append_create;
+use hippo_model::{Act, Column, Schema};
+use hippo_values::{Memory, Name, RoomyTxt};
+use std::alloc::Global;
+
+fn columns_of(schema: Option<&Schema>) -> &[Column]
+    ensures { result.now ≡ columns_of (option_copied schema) }
+{
+    match schema {
+        Some(schema) => schema.columns.as_slice(),
+        None => &[],
+    }
+}
+
+fn key_places(schema: Option<&Schema>) -> &[usize]
+    ensures { result.now ≡ key_places (option_copied schema) }
+{
+    match schema {
+        Some(schema) => schema.key.as_slice(),
+        None => &[],
+    }
+}
+
+/// The table whose columns an act names by their places, or whose rows it changes: `tell_act` needs its schema.
+pub fn table_named(act: &Act) -> Option<&Name>
+    ensures { option_copied result ≡ table_named act.now }
+{
+    match act {
+        Act::Insert { table, .. } => Some(table),
+        Act::Update { table, .. } => Some(table),
+        Act::Delete { table, .. } => Some(table),
+        Act::Allow { table, .. } => Some(table),
+        Act::Revoke { table, .. } => Some(table),
+        _ => None,
+    }
+}
+
+fn append_act<const ROOM: usize>(
+    alloc: Global,
+    schema: Option<&Schema>,
+    act: &Act,
+    out: &mut RoomyTxt<ROOM>,
+) -> Result<(), Memory>
+    ensures ok { OnOk result (out.new ≡ out.old ++ told_act (option_copied schema) act.now) }
+    ensures err { OnErr result (KeepsFront out.old out.new) }
+{
+    let columns = columns_of(schema);
+    let key_places = key_places(schema);
+    match act {
+        Act::Create(made) => append_create(made, out),
+        Act::Insert { table, row } => append_insert(table, row, out),
+        Act::Update { table, row } => append_update(alloc, columns, key_places, table, row, out),
+        Act::Delete { table, key } => append_delete(columns, key_places, table, key, out),
+        Act::Purpose(purpose) => append_named("CREATE PURPOSE ", purpose, out),
+        Act::Recipient(recipient) => append_named("CREATE RECIPIENT ", recipient, out),
+        Act::Item { item, kind } => append_item(item, *kind, out),
+        Act::Authorize {
+            user,
+            purpose,
+            recipient,
+        } => append_grant("AUTHORIZE ", user, purpose, recipient, out),
+        Act::Deauthorize {
+            user,
+            purpose,
+            recipient,
+        } => append_grant("DEAUTHORIZE ", user, purpose, recipient, out),
+        Act::Allow {
+            purpose,
+            recipient,
+            table,
+            columns: places,
+            item,
+            days,
+        } => {
+            let places = places.as_slice();
+            let rule = Rule {
+                purpose,
+                recipient,
+                table,
+                places,
+            };
+            append_allow(columns, &rule, item, *days, out)
+        }
+        Act::Revoke {
+            purpose,
+            recipient,
+            table,
+            columns: places,
+        } => {
+            let places = places.as_slice();
+            let rule = Rule {
+                purpose,
+                recipient,
+                table,
+                places,
+            };
+            append_rule("REVOKE ", columns, &rule, out)
+        }
+        Act::Choice { subject, item, yes } => append_choice(subject, item, *yes, out),
+        Act::Asked {
+            user,
+            purpose,
+            recipient,
+            text,
+        } => append_asked(user, purpose, recipient, text, out),
+    }
+}
+
+/// Adds the statement that an act came of, in the language's own spelling: the schema is that of the table that the act
+/// names (`table_named`), as the act found it. An UPDATE sets every column that is none of the key's. A question is told
+/// by its user, purpose, recipient and text. The text is unchanged where memory is short.
+pub fn tell_act<const ROOM: usize>(
+    alloc: Global,
+    schema: Option<&Schema>,
+    act: &Act,
+    out: &mut RoomyTxt<ROOM>,
+) -> Result<(), Memory>
+    ensures ok { OnOk result (out.new ≡ out.old ++ told_act (option_copied schema) act.now) }
+    ensures err { OnErr result (out.new ≡ out.old) }
+{
+    let length = out.as_str().len();
+    let told = append_act(alloc, schema, act, out);
+    if told.is_err() {
+        out.truncate(length);
+    }
+    told
+}

@@ -1,0 +1,67 @@
+//! Columns by their places, alone and with values.
+ghost use Rattle.std.specs.Prelude.{◌≡◌, ◌++◌, OnOk, OnErr};
+ghost use Rattle.hippo_values.specs.Printing.{KeepsFront};
+ghost use Rattle.hippo_telling.specs.Telling.{name_at, names_text, assigned_text};
+
+use crate::joining::{Spelling, append_joined};
+use crate::literals::append_literal;
+use hippo_model::Column;
+use hippo_values::{Memory, RoomyTxt, Value};
+
+/// Adds the name of the column at a place.
+pub fn append_name<const ROOM: usize>(
+    columns: &[Column],
+    place: usize,
+    out: &mut RoomyTxt<ROOM>,
+) -> Result<(), Memory>
+    ensures ok { OnOk result (out.new ≡ out.old ++ name_at columns.now place) }
+    ensures err { OnErr result (KeepsFront out.old out.new) }
+{
+    match columns.get(place) {
+        Some(column) => out.append(column.name.as_str()),
+        None => Ok(()),
+    }
+}
+
+// The names of a table's columns, by their places.
+#[derive(Clone, Copy)]
+struct ColumnNames<'a> {
+    columns: &'a [Column],
+}
+
+impl<'a, const ROOM: usize> Spelling<usize, ROOM> for ColumnNames<'a> {
+    ghost use Rattle.hippo_telling.specs.Telling.{name_at};
+
+    ghost text = { λ names place. name_at names.columns.now place };
+
+    fn spell(&self, place: &usize, out: &mut RoomyTxt<ROOM>) -> Result<(), Memory> {
+        append_name(self.columns, *place, out)
+    }
+}
+
+/// Adds the names of the columns at some places, with commas between them.
+pub fn append_names<const ROOM: usize>(
+    columns: &[Column],
+    places: &[usize],
+    out: &mut RoomyTxt<ROOM>,
+) -> Result<(), Memory>
+    ensures ok { OnOk result (out.new ≡ out.old ++ names_text columns.now places.now) }
+    ensures err { OnErr result (KeepsFront out.old out.new) }
+{
+    append_joined(&ColumnNames { columns }, ", ", places, out)
+}
+
+/// Adds a column with a value: `NAME = VALUE`.
+pub fn append_assigned<const ROOM: usize>(
+    columns: &[Column],
+    place: usize,
+    value: &Value,
+    out: &mut RoomyTxt<ROOM>,
+) -> Result<(), Memory>
+    ensures ok { OnOk result (out.new ≡ out.old ++ assigned_text columns.now place value.now) }
+    ensures err { OnErr result (KeepsFront out.old out.new) }
+{
+    append_name(columns, place, out)?;
+    out.append(" = ")?;
+    append_literal(value, out)
+}

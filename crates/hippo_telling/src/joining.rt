@@ -1,0 +1,53 @@
+//! Lists with a separator between their members.
+ghost use Rattle.std.specs.Prelude.{◌≡◌, ◌++◌, flat_map, OnOk, OnErr};
+ghost use Rattle.hippo_values.specs.Printing.{KeepsFront};
+ghost use Rattle.hippo_report.specs.Cells.{joined};
+
+use hippo_values::{Memory, RoomyTxt};
+
+/// How a member of a list is spelled.
+pub trait Spelling<T, const ROOM: usize> {
+    ghost use Rattle.std.specs.Prelude.{ℕ, List};
+
+    /// Its text.
+    ghost text: { Self → T → List ℕ };
+
+    /// Adds it at the end.
+    fn spell(&self, member: &T, out: &mut RoomyTxt<ROOM>) -> Result<(), Memory>
+        ensures ok { OnOk result (out.new ≡ out.old ++ text self.now member.now) }
+        ensures err { OnErr result (KeepsFront out.old out.new) };
+}
+
+fn append_later<const ROOM: usize, T, S: Spelling<T, ROOM>>(
+    spelling: &S,
+    separator: &str,
+    rest: &[T],
+    out: &mut RoomyTxt<ROOM>,
+) -> Result<(), Memory>
+    ensures ok { OnOk result
+        (out.new ≡ out.old ++ flat_map (λ member. separator.now ++ S.text spelling.now member) rest.now) }
+    ensures err { OnErr result (KeepsFront out.old out.new) }
+{
+    for member in rest {
+        out.append(separator)?;
+        spelling.spell(member, out)?;
+    }
+    Ok(())
+}
+
+/// Adds the members of a list, with a separator between them.
+pub fn append_joined<const ROOM: usize, T, S: Spelling<T, ROOM>>(
+    spelling: &S,
+    separator: &str,
+    members: &[T],
+    out: &mut RoomyTxt<ROOM>,
+) -> Result<(), Memory>
+    ensures ok { OnOk result (out.new ≡ out.old ++ joined (S.text spelling.now) separator.now members.now) }
+    ensures err { OnErr result (KeepsFront out.old out.new) }
+{
+    let Some((first, rest)) = members.split_first() else {
+        return Ok(());
+    };
+    spelling.spell(first, out)?;
+    append_later(spelling, separator, rest, out)
+}

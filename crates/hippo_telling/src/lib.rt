@@ -1,0 +1,14 @@
+//! The statement that made an entry of a history, spelled as one types it.
+#![tactic(auto)]
+
+mod acts;
+mod columns;
+mod entries;
+mod joining;
+mod literals;
+mod rows;
+mod rules;
+mod tables;
+
+pub use acts::{table_named, tell_act};
+pub use entries::entry_line;

@@ -1,0 +1,168 @@
+//! Rows that are updated or deleted.
+ghost use Rattle.std.specs.Prelude.{◌≡◌, ◌++◌, filter, flat_map, length, OnOk, OnErr, IfOk, codes};
+ghost use Rattle.std.specs.List.{range_with_len, zip};
+ghost use Rattle.hippo_model.specs.Rows.{cell_at};
+ghost use Rattle.hippo_values.specs.Printing.{KeepsFront};
+ghost use Rattle.hippo_telling.specs.Telling.{is_set, set_places, assigned_text, row_text, key_text, insert_text, update_text, delete_text};
+
+use crate::columns::append_assigned;
+use crate::joining::{Spelling, append_joined};
+use crate::literals::append_literals;
+use hippo_model::{Cells, Column, Places};
+use hippo_values::{Memory, Name, RoomyTxt, Value};
+use std::alloc::Global;
+
+fn append_cell<const ROOM: usize>(
+    columns: &[Column],
+    row: &[Value],
+    place: usize,
+    out: &mut RoomyTxt<ROOM>,
+) -> Result<(), Memory>
+    ensures ok { OnOk result (out.new ≡ out.old ++ assigned_text columns.now place (cell_at row.now place)) }
+    ensures err { OnErr result (KeepsFront out.old out.new) }
+{
+    match row.get(place) {
+        Some(value) => append_assigned(columns, place, value, out),
+        None => append_assigned(columns, place, &Value::Null, out),
+    }
+}
+
+// A row's columns with their values, by their places.
+#[derive(Clone, Copy)]
+struct RowCells<'a> {
+    columns: &'a [Column],
+    row: &'a [Value],
+}
+
+impl<'a, const ROOM: usize> Spelling<usize, ROOM> for RowCells<'a> {
+    ghost use Rattle.hippo_model.specs.Rows.{cell_at};
+    ghost use Rattle.hippo_telling.specs.Telling.{assigned_text};
+
+    ghost text = { λ cells place. assigned_text cells.columns.now place (cell_at cells.row.now place) };
+
+    fn spell(&self, place: &usize, out: &mut RoomyTxt<ROOM>) -> Result<(), Memory> {
+        append_cell(self.columns, self.row, *place, out)
+    }
+}
+
+fn append_cells<const ROOM: usize>(
+    columns: &[Column],
+    row: &[Value],
+    separator: &str,
+    places: &[usize],
+    out: &mut RoomyTxt<ROOM>,
+) -> Result<(), Memory>
+    ensures ok { OnOk result (out.new ≡ out.old ++ row_text columns.now row.now separator.now places.now) }
+    ensures err { OnErr result (KeepsFront out.old out.new) }
+{
+    append_joined(&RowCells { columns, row }, separator, places, out)
+}
+
+fn append_key_later<const ROOM: usize>(
+    columns: &[Column],
+    places: &[usize],
+    values: &[Value],
+    out: &mut RoomyTxt<ROOM>,
+) -> Result<(), Memory>
+    ensures ok { OnOk result (out.new ≡ out.old
+        ++ flat_map (λ pair. codes " AND " ++ assigned_text columns.now pair.0 pair.1) (zip places.now values.now)) }
+    ensures err { OnErr result (KeepsFront out.old out.new) }
+{
+    for (place, value) in places.iter().zip(values) {
+        out.append(" AND ")?;
+        append_assigned(columns, *place, value, out)?;
+    }
+    Ok(())
+}
+
+fn append_key<const ROOM: usize>(
+    columns: &[Column],
+    places: &[usize],
+    key: &[Value],
+    out: &mut RoomyTxt<ROOM>,
+) -> Result<(), Memory>
+    ensures ok { OnOk result (out.new ≡ out.old ++ key_text columns.now places.now key.now) }
+    ensures err { OnErr result (KeepsFront out.old out.new) }
+{
+    let Some((place, places)) = places.split_first() else {
+        return Ok(());
+    };
+    let Some((value, values)) = key.split_first() else {
+        return Ok(());
+    };
+    append_assigned(columns, *place, value, out)?;
+    append_key_later(columns, places, values, out)
+}
+
+fn is_set(key: &[usize], place: usize) -> bool
+    ensures { result ≡ is_set key.now place }
+{
+    !key.iter().any(|known| place == *known)
+}
+
+// The places of the columns that are none of the key's.
+fn set_places(alloc: Global, count: usize, key: &[usize]) -> Result<Places, Memory>
+    ensures { IfOk result (λ places. places ≡ filter (is_set key.now) (range_with_len 0 count)) }
+{
+    let mut places = Places::new(alloc);
+    for place in 0..count {
+        if is_set(key, place) {
+            places.push(place)?;
+        }
+    }
+    Ok(places)
+}
+
+/// Adds an INSERT of a row.
+pub fn append_insert<const ROOM: usize>(
+    table: &Name,
+    row: &Cells,
+    out: &mut RoomyTxt<ROOM>,
+) -> Result<(), Memory>
+    ensures ok { OnOk result (out.new ≡ out.old ++ insert_text table.now row.now) }
+    ensures err { OnErr result (KeepsFront out.old out.new) }
+{
+    out.append("INSERT INTO ")?;
+    out.append(table.as_str())?;
+    out.append(" VALUES (")?;
+    append_literals(row.as_slice(), out)?;
+    out.append(")")
+}
+
+/// Adds an UPDATE to a row, which sets each column that is none of the key's.
+pub fn append_update<const ROOM: usize>(
+    alloc: Global,
+    columns: &[Column],
+    key: &[usize],
+    table: &Name,
+    row: &Cells,
+    out: &mut RoomyTxt<ROOM>,
+) -> Result<(), Memory>
+    ensures ok { OnOk result (out.new ≡ out.old ++ update_text columns.now key.now table.now row.now) }
+    ensures err { OnErr result (KeepsFront out.old out.new) }
+{
+    let places = set_places(alloc, columns.len(), key)?;
+    out.append("UPDATE ")?;
+    out.append(table.as_str())?;
+    out.append(" SET ")?;
+    append_cells(columns, row.as_slice(), ", ", places.as_slice(), out)?;
+    out.append(" WHERE ")?;
+    append_cells(columns, row.as_slice(), " AND ", key, out)
+}
+
+/// Adds a DELETE of the row with a key.
+pub fn append_delete<const ROOM: usize>(
+    columns: &[Column],
+    places: &[usize],
+    table: &Name,
+    key: &Cells,
+    out: &mut RoomyTxt<ROOM>,
+) -> Result<(), Memory>
+    ensures ok { OnOk result (out.new ≡ out.old ++ delete_text columns.now places.now table.now key.now) }
+    ensures err { OnErr result (KeepsFront out.old out.new) }
+{
+    out.append("DELETE FROM ")?;
+    out.append(table.as_str())?;
+    out.append(" WHERE ")?;
+    append_key(columns, places, key.as_slice(), out)
+}

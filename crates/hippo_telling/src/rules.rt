@@ -1,0 +1,177 @@
+//! Users, rules, choices and questions.
+ghost use Rattle.std.specs.Prelude.{◌≡◌, ◌++◌, codes, OnOk, OnErr};
+ghost use Rattle.hippo_values.specs.Printing.{KeepsFront};
+ghost use Rattle.hippo_telling.specs.Telling.{item_kind_text, item_text, grant_text, rule_text, with_text, retention_text, allow_text, agreed_text, choice_text, asked_text};
+
+use crate::columns::append_names;
+use hippo_model::{Column, ItemKind};
+use hippo_values::{Memory, Name, RoomyTxt, Txt};
+use itoa::Buffer;
+
+/// Adds a word or some, and a name.
+pub fn append_named<const ROOM: usize>(
+    words: &str,
+    name: &Name,
+    out: &mut RoomyTxt<ROOM>,
+) -> Result<(), Memory>
+    ensures ok { OnOk result (out.new ≡ out.old ++ (words.now ++ name.now)) }
+    ensures err { OnErr result (KeepsFront out.old out.new) }
+{
+    out.append(words)?;
+    out.append(name.as_str())
+}
+
+fn item_kind_text(kind: ItemKind) -> &'static str
+    ensures { result.now ≡ item_kind_text kind }
+{
+    match kind {
+        ItemKind::OptIn => " OPT IN",
+        ItemKind::OptOut => " OPT OUT",
+    }
+}
+
+/// Adds a CREATE ITEM.
+pub fn append_item<const ROOM: usize>(
+    item: &Name,
+    kind: ItemKind,
+    out: &mut RoomyTxt<ROOM>,
+) -> Result<(), Memory>
+    ensures ok { OnOk result (out.new ≡ out.old ++ item_text item.now kind) }
+    ensures err { OnErr result (KeepsFront out.old out.new) }
+{
+    append_named("CREATE ITEM ", item, out)?;
+    out.append(item_kind_text(kind))
+}
+
+/// Adds a word, and whom it authorizes or no longer does.
+pub fn append_grant<const ROOM: usize>(
+    word: &str,
+    user: &Name,
+    purpose: &Name,
+    recipient: &Name,
+    out: &mut RoomyTxt<ROOM>,
+) -> Result<(), Memory>
+    ensures ok { OnOk result (out.new ≡ out.old ++ (word.now ++ grant_text user.now purpose.now recipient.now)) }
+    ensures err { OnErr result (KeepsFront out.old out.new) }
+{
+    append_named(word, user, out)?;
+    append_named(" FOR ", purpose, out)?;
+    append_named(", ", recipient, out)
+}
+
+/// What a rule names.
+#[derive(Clone, Copy)]
+pub struct Rule<'a> {
+    pub purpose: &'a Name,
+    pub recipient: &'a Name,
+    pub table: &'a Name,
+    pub places: &'a [usize],
+}
+
+/// Adds a word, and what a rule names.
+pub fn append_rule<const ROOM: usize>(
+    word: &str,
+    columns: &[Column],
+    rule: &Rule<'_>,
+    out: &mut RoomyTxt<ROOM>,
+) -> Result<(), Memory>
+    ensures ok { OnOk result (out.new ≡ out.old ++ (word.now ++ rule_text columns.now rule.now.purpose.now
+        rule.now.recipient.now rule.now.table.now rule.now.places.now)) }
+    ensures err { OnErr result (KeepsFront out.old out.new) }
+{
+    append_named(word, rule.purpose, out)?;
+    append_named(" TO ", rule.recipient, out)?;
+    append_named(" ON ", rule.table, out)?;
+    out.append(" (")?;
+    append_names(columns, rule.places, out)?;
+    out.append(")")
+}
+
+// Adds the item of a rule, where it has one.
+fn append_with<const ROOM: usize>(
+    item: &Option<Name>,
+    out: &mut RoomyTxt<ROOM>,
+) -> Result<(), Memory>
+    ensures ok { OnOk result (out.new ≡ out.old ++ with_text item.now) }
+    ensures err { OnErr result (KeepsFront out.old out.new) }
+{
+    match item {
+        None => Ok(()),
+        Some(item) => append_named(" WITH ", item, out),
+    }
+}
+
+// Adds for how many days a rule shows a row's cells, where it has an end.
+fn append_retention<const ROOM: usize>(
+    days: Option<u32>,
+    out: &mut RoomyTxt<ROOM>,
+) -> Result<(), Memory>
+    ensures ok { OnOk result (out.new ≡ out.old ++ retention_text days) }
+    ensures err { OnErr result (KeepsFront out.old out.new) }
+{
+    match days {
+        None => Ok(()),
+        Some(days) => {
+            out.append(" RETAIN ")?;
+            out.append(Buffer::new().format(days))?;
+            out.append(" DAYS")
+        }
+    }
+}
+
+/// Adds an ALLOW.
+pub fn append_allow<const ROOM: usize>(
+    columns: &[Column],
+    rule: &Rule<'_>,
+    item: &Option<Name>,
+    days: Option<u32>,
+    out: &mut RoomyTxt<ROOM>,
+) -> Result<(), Memory>
+    ensures ok { OnOk result (out.new ≡ out.old ++ allow_text columns.now rule.now.purpose.now
+        rule.now.recipient.now rule.now.table.now rule.now.places.now item.now days) }
+    ensures err { OnErr result (KeepsFront out.old out.new) }
+{
+    append_rule("ALLOW ", columns, rule, out)?;
+    append_with(item, out)?;
+    append_retention(days, out)
+}
+
+fn agreed_text(agreed: bool) -> &'static str
+    ensures { result.now ≡ agreed_text agreed }
+{
+    if agreed { " IS YES" } else { " IS NO" }
+}
+
+/// Adds the CHOICE of a patient.
+pub fn append_choice<const ROOM: usize>(
+    subject: &i64,
+    item: &Name,
+    agreed: bool,
+    out: &mut RoomyTxt<ROOM>,
+) -> Result<(), Memory>
+    ensures ok { OnOk result (out.new ≡ out.old ++ choice_text subject.now item.now agreed) }
+    ensures err { OnErr result (KeepsFront out.old out.new) }
+{
+    out.append("CHOICE ")?;
+    out.append(Buffer::new().format(*subject))?;
+    append_named(" ON ", item, out)?;
+    out.append(agreed_text(agreed))
+}
+
+/// Adds a question: who asked, for which purpose and recipient, and what.
+pub fn append_asked<const ROOM: usize>(
+    user: &Name,
+    purpose: &Name,
+    recipient: &Name,
+    text: &Txt,
+    out: &mut RoomyTxt<ROOM>,
+) -> Result<(), Memory>
+    ensures ok { OnOk result (out.new ≡ out.old ++ asked_text user.now purpose.now recipient.now text.now) }
+    ensures err { OnErr result (KeepsFront out.old out.new) }
+{
+    append_named("", user, out)?;
+    append_named(" ", purpose, out)?;
+    append_named(" ", recipient, out)?;
+    out.append(" ")?;
+    out.append(text.as_str())
+}
