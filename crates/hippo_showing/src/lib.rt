@@ -3,7 +3,15 @@
 
 mod arguments;
 mod asking;
+mod endings;
+mod lines;
+mod printing;
 mod reading;
+mod scope;
+mod showing;
+mod top;
 
 pub use asking::{Call, Excerpt, Form, Scope};
+pub use endings::Ending;
 pub use reading::asked_of;
+pub use top::history_top;
