@@ -1,2 +1,1 @@
 mod TellingExamples
-mod JoiningLemmas

@@ -28,7 +28,7 @@ abbrev pub literal_text : Value → Txt
 literal_text values.Null = codes "NULL"
 literal_text (values.Int number) = signed_decimal number
 literal_text (values.Text text) = quoted text
-literal_text (values.Day day) = codes "DATE " ++ quoted (day_text day)
+literal_text (values.Day day) = codes "DATE '" ++ (day_text day ++ codes "'")
 
 abbrev pub literals_text : List Value → Txt
 literals_text literals = joined literal_text comma literals

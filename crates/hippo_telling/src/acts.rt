@@ -14,7 +14,7 @@ use hippo_values::{Memory, Name, RoomyTxt};
 use std::alloc::Global;
 
 fn columns_of(schema: Option<&Schema>) -> &[Column]
-    ensures { result.now ≡ columns_of (option_copied schema) }
+    ensures { result.now ≡ columns_of (option_copied schema.entry) }
 {
     match schema {
         Some(schema) => schema.columns.as_slice(),
@@ -23,7 +23,7 @@ fn columns_of(schema: Option<&Schema>) -> &[Column]
 }
 
 fn key_places(schema: Option<&Schema>) -> &[usize]
-    ensures { result.now ≡ key_places (option_copied schema) }
+    ensures { result.now ≡ key_places (option_copied schema.entry) }
 {
     match schema {
         Some(schema) => schema.key.as_slice(),
@@ -51,7 +51,7 @@ fn append_act<const ROOM: usize>(
     act: &Act,
     out: &mut RoomyTxt<ROOM>,
 ) -> Result<(), Memory>
-    ensures ok { OnOk result (out.new ≡ out.old ++ told_act (option_copied schema) act.now) }
+    ensures ok { OnOk result (out.new ≡ out.old ++ told_act (option_copied schema.entry) act.now) }
     ensures err { OnErr result (KeepsFront out.old out.new) }
 {
     let columns = columns_of(schema);
@@ -125,7 +125,7 @@ pub fn tell_act<const ROOM: usize>(
     act: &Act,
     out: &mut RoomyTxt<ROOM>,
 ) -> Result<(), Memory>
-    ensures ok { OnOk result (out.new ≡ out.old ++ told_act (option_copied schema) act.now) }
+    ensures ok { OnOk result (out.new ≡ out.old ++ told_act (option_copied schema.entry) act.now) }
     ensures err { OnErr result (out.new ≡ out.old) }
 {
     let length = out.as_str().len();

@@ -29,7 +29,7 @@ fn append_entry<const ROOM: usize>(
     entry: &Entry,
     out: &mut RoomyTxt<ROOM>,
 ) -> Result<(), Memory>
-    ensures ok { OnOk result (out.new ≡ out.old ++ entry_line (option_copied schema) entry.now) }
+    ensures ok { OnOk result (out.new ≡ out.old ++ entry_line (option_copied schema.entry) entry.now) }
     ensures err { OnErr result (KeepsFront out.old out.new) }
 {
     out.append(Buffer::new().format(entry.seq))?;
@@ -49,7 +49,7 @@ pub fn entry_line<const ROOM: usize>(
     entry: &Entry,
     out: &mut RoomyTxt<ROOM>,
 ) -> Result<(), Memory>
-    ensures ok { OnOk result (out.new ≡ out.old ++ entry_line (option_copied schema) entry.now) }
+    ensures ok { OnOk result (out.new ≡ out.old ++ entry_line (option_copied schema.entry) entry.now) }
     ensures err { OnErr result (out.new ≡ out.old) }
 {
     let length = out.as_str().len();

@@ -1,16 +1,14 @@
 //! Values as literals.
 ghost use Rattle.std.specs.Prelude.{◌≡◌, ◌++◌, codes, OnOk, OnErr};
 ghost use Rattle.hippo_values.specs.Dates.{day_text};
-ghost use Rattle.hippo_values.specs.Quoting.{quoted};
 ghost use Rattle.hippo_values.specs.Printing.{KeepsFront};
 ghost use Rattle.hippo_telling.specs.Telling.{literal_text, literals_text};
 
 use crate::joining::{Spelling, append_joined};
 use hippo_values::{DayNumber, Memory, RoomyTxt, Value, day_text, print_value};
 
-// A day has no quotes in it that would be doubled.
 fn append_day<const ROOM: usize>(day: DayNumber, out: &mut RoomyTxt<ROOM>) -> Result<(), Memory>
-    ensures ok { OnOk result (out.new ≡ out.old ++ (codes "DATE " ++ quoted (day_text day))) }
+    ensures ok { OnOk result (out.new ≡ out.old ++ (codes "DATE '" ++ (day_text day ++ codes "'"))) }
     ensures err { OnErr result (KeepsFront out.old out.new) }
 {
     match str::from_utf8(&day_text(day)) {

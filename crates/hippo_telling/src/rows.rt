@@ -1,9 +1,9 @@
 //! Rows that are updated or deleted.
-ghost use Rattle.std.specs.Prelude.{◌≡◌, ◌++◌, filter, flat_map, length, OnOk, OnErr, IfOk, codes};
-ghost use Rattle.std.specs.List.{range_with_len, zip};
+ghost use Rattle.std.specs.Prelude.{◌≡◌, ◌++◌, filter, flat_map, nat_eq, OnOk, OnErr, IfOk, codes};
+ghost use Rattle.std.specs.List.{list_any, range_with_len, zip};
 ghost use Rattle.hippo_model.specs.Rows.{cell_at};
 ghost use Rattle.hippo_values.specs.Printing.{KeepsFront};
-ghost use Rattle.hippo_telling.specs.Telling.{is_set, set_places, assigned_text, row_text, key_text, insert_text, update_text, delete_text};
+ghost use Rattle.hippo_telling.specs.Telling.{is_set, assigned_text, row_text, key_text, insert_text, update_text, delete_text};
 
 use crate::columns::append_assigned;
 use crate::joining::{Spelling, append_joined};
@@ -94,10 +94,16 @@ fn append_key<const ROOM: usize>(
     append_key_later(columns, places, values, out)
 }
 
+fn is_of_key(key: &[usize], place: usize) -> bool
+    ensures { result ≡ list_any (nat_eq place) key.now }
+{
+    key.iter().any(|known| place == *known)
+}
+
 fn is_set(key: &[usize], place: usize) -> bool
     ensures { result ≡ is_set key.now place }
 {
-    !key.iter().any(|known| place == *known)
+    !is_of_key(key, place)
 }
 
 // The places of the columns that are none of the key's.

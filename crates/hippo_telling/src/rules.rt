@@ -39,7 +39,8 @@ pub fn append_item<const ROOM: usize>(
     ensures ok { OnOk result (out.new ≡ out.old ++ item_text item.now kind) }
     ensures err { OnErr result (KeepsFront out.old out.new) }
 {
-    append_named("CREATE ITEM ", item, out)?;
+    out.append("CREATE ITEM ")?;
+    out.append(item.as_str())?;
     out.append(item_kind_text(kind))
 }
 

@@ -1,2 +1,0 @@
--- Lists that are joined.
-use Rattle.std.proofs.Common.{◌≡◌, refl}

@@ -1,0 +1,3 @@
+pub mod SayingLemmas
+pub mod SpellingLemmas
+pub mod ReadingTheorem
