@@ -34,7 +34,7 @@ module _ (known : KnownNames) (excerpt : Excerpt) (entry : Entry) (clock : Optio
     sound = λ e. cc;
     writes = CountsWrites-same None faults (λ e. cc);
     whole = λ on. subst (Appends written written) nothing (none_written written);
-    clock = λ on. ap (λ (b : Bool). cond b (Some entry.moment) clock) is;
+    moment = λ on. ap (λ (b : Bool). cond b (Some entry.moment) clock) is;
     front = none_of written (entry_shown known excerpt clock entry);
   }
     where
@@ -48,7 +48,7 @@ module _ (known : KnownNames) (excerpt : Excerpt) (entry : Entry) (clock : Optio
     sound = λ e. cc;
     writes = CountsWrites-same (Some NoMemory) faults (λ e. cc);
     whole = λ on. absurd cc;
-    clock = λ on. absurd cc;
+    moment = λ on. absurd cc;
     front = none_of written (entry_shown known excerpt clock entry);
   }
 
@@ -57,8 +57,8 @@ module _ (known : KnownNames) (excerpt : Excerpt) (entry : Entry) (clock : Optio
     lines : shown_as known excerpt.form clock entry ≡ entry_shown known excerpt clock entry
     lines = ap (λ (b : Bool). cond b (shown_as known excerpt.form clock entry) []) is
 
-    moment : Some entry.moment ≡ clock_after known excerpt clock entry
-    moment = ap (λ (b : Bool). cond b (Some entry.moment) clock) is
+    clock_set : Some entry.moment ≡ clock_after known excerpt clock entry
+    clock_set = ap (λ (b : Bool). cond b (Some entry.moment) clock) is
 
     pub asked : (result : Option Ending) → Writes (shown_as known excerpt.form clock entry) result written written' faults faults'
         → ShowsEntry known excerpt entry result clock (Some entry.moment) written written' faults faults'
@@ -67,7 +67,7 @@ module _ (known : KnownNames) (excerpt : Excerpt) (entry : Entry) (clock : Optio
       sound = λ e. cc;
       writes = record { cause = λ e. absurd cc; unfailed = λ e. writes.1 };
       whole = λ on. subst (Appends written written') lines writes.0;
-      clock = λ on. moment;
+      moment = λ on. clock_set;
       front = whole_front written written' (entry_shown known excerpt clock entry) (subst (Appends written written') lines writes.0);
     }
     asked (Some WriteFault) writes = record {
@@ -75,7 +75,7 @@ module _ (known : KnownNames) (excerpt : Excerpt) (entry : Entry) (clock : Optio
       sound = λ e. cc;
       writes = record { cause = λ e. writes.1; unfailed = λ other. absurd (other refl) };
       whole = λ on. absurd cc;
-      clock = λ on. absurd cc;
+      moment = λ on. absurd cc;
       front = subst (AppendsFront written written') lines writes.0;
     }
     asked (Some NoMemory) writes = record {
@@ -83,7 +83,7 @@ module _ (known : KnownNames) (excerpt : Excerpt) (entry : Entry) (clock : Optio
       sound = λ e. cc;
       writes = record { cause = λ e. absurd cc; unfailed = λ other. writes.1 };
       whole = λ on. absurd cc;
-      clock = λ on. absurd cc;
+      moment = λ on. absurd cc;
       front = subst (λ (told : Option Txt). AppendsFront written told (entry_shown known excerpt clock entry)) (sym writes.0) (none_of written (entry_shown known excerpt clock entry));
     }
     asked (Some ending) writes = absurd writes
@@ -112,7 +112,7 @@ module _ (known : KnownNames) (excerpt : Excerpt) (kept : StoredEntry) (clock cl
     ends = shows.ends;
     writes = shows.writes;
     whole = λ on entries forms. subst (λ (h : History). Appends written written' (entries_shown known excerpt clock h)) (sym (one_entry kept entry found entries forms)) (subst (Appends written written') alone (shows.whole on));
-    clock = λ on entries forms. subst (λ (h : History). clock' ≡ clock_at_end known excerpt clock h) (sym (one_entry kept entry found entries forms)) (shows.clock on);
+    moment = λ on entries forms. subst (λ (h : History). clock' ≡ clock_at_end known excerpt clock h) (sym (one_entry kept entry found entries forms)) (shows.moment on);
     front = λ entries forms. subst (λ (h : History). AppendsFront written written' (entries_shown known excerpt clock h)) (sym (one_entry kept entry found entries forms)) (subst (AppendsFront written written') alone shows.front);
     damaged = λ is. absurd (shows.sound is);
   }
@@ -136,7 +136,7 @@ module _ (known : KnownNames) (excerpt : Excerpt) (kept : StoredEntry) (clock cl
     ends = by_ends says;
     writes = by_writes says;
     whole = λ on. absurd cc;
-    clock = λ on. absurd cc;
+    moment = λ on. absurd cc;
     front = λ entries forms. absurd (none_there found entries forms);
     damaged = λ is entries forms. none_there found entries forms;
   }
@@ -153,12 +153,12 @@ module _ (known : KnownNames) (excerpt : Excerpt) (kept : StoredEntry) (clock cl
       by_writes (inr front) = record { cause = λ e. front.2; unfailed = λ e. absurd (e (ap Some front.0)) }
 
   -- memory was short
-  pub of_unread : clock' ≡ clock → ShowsKept known excerpt (kept ∷ []) (Some NoMemory) clock clock' written written faults faults
-  of_unread same = record {
+  pub of_unread : ShowsKept known excerpt (kept ∷ []) (Some NoMemory) clock clock' written written faults faults
+  of_unread = record {
     ends = refl;
     writes = CountsWrites-same (Some NoMemory) faults (λ e. cc);
     whole = λ on. absurd cc;
-    clock = λ on. absurd cc;
+    moment = λ on. absurd cc;
     front = λ entries forms. none_of written (entries_shown known excerpt clock entries);
     damaged = λ is. absurd cc;
   }

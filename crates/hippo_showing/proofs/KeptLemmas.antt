@@ -1,9 +1,9 @@
 -- Stored entries, shown one after the other.
-use Rattle.std.proofs.Common.{◌≡◌, ◌≢◌, ◌∙◌, ◌×◌, ℕ, ◌+◌, ◌<◌, ◌≤◌, Bool, true, false, List, [], ◌∷◌, ◌++◌, map, length, take, get_or, Option, Some, None, refl, sym, ap, subst, append_assoc, arith}
+use Rattle.std.proofs.Common.{◌≡◌, ◌≢◌, ◌∙◌, ◌×◌, ℕ, ◌+◌, ◌<◌, ◌≤◌, Bool, true, false, List, [], ◌∷◌, ◌++◌, map, length, take, drop, get_or, Option, Some, None, refl, sym, ap, subst, append_assoc, arith}
 use Rattle.std.specs.Prelude.{◌&&◌}
 use Rattle.std.specs.List.{list_all}
 use Rattle.std.proofs.lemmas.Bool.{and_parts}
-use Rattle.std.proofs.lemmas.List.{append-nil}
+use Rattle.std.proofs.lemmas.List.{take-append-drop}
 use Rattle.hippo_values.specs.Texts.{Txt}
 use Rattle.hippo_values.specs.declared.moments.Moment.{Moment}
 use Rattle.hippo_io.specs.Faults.{HasRisen}
@@ -15,6 +15,7 @@ use Rattle.hippo_model.specs.StoredForms.{stored}
 use Rattle.hippo_model.specs.Terms.{History}
 use Rattle.hippo_catalog.specs.Catalogs.{KnownNames}
 use Rattle.hippo_keeper.specs.Keeping.{Store, RisesAbove, last_number}
+use Rattle.hippo_replay.proofs.TakingInLemmas.{take_at_entry}
 use Rattle.hippo_showing.specs.declared.asking.Excerpt.{Excerpt}
 use Rattle.hippo_showing.specs.declared.endings.Ending.{Ending}
 use Rattle.hippo_showing.specs.declared.endings.Ending.TheVariants.{WriteFault, Damaged, NoMemory}
@@ -74,7 +75,7 @@ module _ (known : KnownNames) (excerpt : Excerpt) where
     ends = refl;
     writes = CountsWrites-same None faults (λ e. cc);
     whole = λ on entries forms. subst (λ (h : History). Appends written written (entries_shown known excerpt clock h)) (sym (no_entries entries forms)) (none_written written);
-    clock = λ on entries forms. subst (λ (h : History). clock ≡ clock_at_end known excerpt clock h) (sym (no_entries entries forms)) refl;
+    moment = λ on entries forms. subst (λ (h : History). clock ≡ clock_at_end known excerpt clock h) (sym (no_entries entries forms)) refl;
     front = λ entries forms. none_of written (entries_shown known excerpt clock entries);
     damaged = λ is. absurd cc;
   }
@@ -88,7 +89,7 @@ module _ (known : KnownNames) (excerpt : Excerpt) where
     ends = refl;
     writes = CountsWrites-same (Some NoMemory) faults (λ e. cc);
     whole = λ on. absurd cc;
-    clock = λ on. absurd cc;
+    moment = λ on. absurd cc;
     front = λ entries forms. none_of written (entries_shown known excerpt clock entries);
     damaged = λ is. absurd cc;
   }
@@ -108,18 +109,18 @@ module _ (known : KnownNames) (excerpt : Excerpt) where
           subst (Appends old new) (sym (text entries parts))
           (both_whole old between new (entries_shown known excerpt start parts.front) (entries_shown known excerpt (clock_at_end known excerpt start parts.front) parts.later)
           (one.whole refl parts.front parts.first_forms)
-          (subst (λ (c : Option Moment). Appends between new (entries_shown known excerpt c parts.later)) (one.clock refl parts.front parts.first_forms) (other.whole on parts.later parts.second_forms)));
-      clock = λ on entries forms.
+          (subst (λ (c : Option Moment). Appends between new (entries_shown known excerpt c parts.later)) (one.moment refl parts.front parts.first_forms) (other.whole on parts.later parts.second_forms)));
+      moment = λ on entries forms.
           let parts = split first second entries forms in
-          other.clock on parts.later parts.second_forms
-          ∙ ap (λ (c : Option Moment). clock_at_end known excerpt c parts.later) (one.clock refl parts.front parts.first_forms)
+          other.moment on parts.later parts.second_forms
+          ∙ ap (λ (c : Option Moment). clock_at_end known excerpt c parts.later) (one.moment refl parts.front parts.first_forms)
           ∙ sym (clock-append start parts.front parts.later) ∙ ap (clock_at_end known excerpt start) (sym parts.parts);
       front = λ entries forms.
           let parts = split first second entries forms in
           subst (AppendsFront old new) (sym (text entries parts))
           (whole_and_front old between new (entries_shown known excerpt start parts.front) (entries_shown known excerpt (clock_at_end known excerpt start parts.front) parts.later)
           (one.whole refl parts.front parts.first_forms)
-          (subst (λ (c : Option Moment). AppendsFront between new (entries_shown known excerpt c parts.later)) (one.clock refl parts.front parts.first_forms) (other.front parts.later parts.second_forms)));
+          (subst (λ (c : Option Moment). AppendsFront between new (entries_shown known excerpt c parts.later)) (one.moment refl parts.front parts.first_forms) (other.front parts.later parts.second_forms)));
       damaged = λ is entries forms.
           let parts = split first second entries forms in
           other.damaged is parts.later parts.second_forms;
@@ -149,7 +150,7 @@ module _ (known : KnownNames) (excerpt : Excerpt) where
     ends = one.ends;
     writes = one.writes;
     whole = λ on. absurd (over on);
-    clock = λ on. absurd (over on);
+    moment = λ on. absurd (over on);
     front = front_so first second result start end old new faults faults' one;
     damaged = λ is entries forms.
         let parts = split first second entries forms in
@@ -160,10 +161,31 @@ module _ (known : KnownNames) (excerpt : Excerpt) where
   pub damaged_so : (first second : Store) → ((entries : History) → ¬ (HasForms first entries)) → (entries : History) → ¬ (HasForms (first ++ second) entries)
   damaged_so first second none entries forms = let parts = split first second entries forms in none parts.front parts.first_forms
 
+  -- one entry of a piece more
+  pub piece_on : (piece : Store) (i : ℕ) (kept : StoredEntry) (start mid end : Option Moment) (old between new : Option Txt) (faults between_faults faults' : ℕ) → i < length piece → kept ≡ get_or piece i kept
+      → ShowsKept known excerpt (take i piece) None start mid old between faults between_faults → ShowsKept known excerpt (kept ∷ []) None mid end between new between_faults faults'
+      → ShowsKept known excerpt (take (i + 1) piece) None start end old new faults faults'
+  piece_on piece i kept start mid end old between new faults between_faults faults' inside is one other =
+      subst (λ (s : Store). ShowsKept known excerpt s None start end old new faults faults') (sym (take_at_entry piece i kept inside is))
+      (ShowsKept-then (take i piece) (kept ∷ []) None start mid end old between new faults between_faults faults' one other)
+
+  -- an entry of a piece that ends the program
+  pub piece_over : (piece : Store) (i : ℕ) (kept : StoredEntry) (ending : Ending) (start mid end : Option Moment) (old between new : Option Txt) (faults between_faults faults' : ℕ) → i < length piece → kept ≡ get_or piece i kept
+      → ShowsKept known excerpt (take i piece) None start mid old between faults between_faults → ShowsKept known excerpt (kept ∷ []) (Some ending) mid end between new between_faults faults'
+      → ShowsKept known excerpt piece (Some ending) start end old new faults faults'
+  piece_over piece i kept ending start mid end old between new faults between_faults faults' inside is one other =
+      subst (λ (s : Store). ShowsKept known excerpt s (Some ending) start end old new faults faults')
+      (ap (λ (front : Store). front ++ drop (i + 1) piece) (sym (take_at_entry piece i kept inside is)) ∙ take-append-drop (i + 1) piece)
+      (ShowsKept-more (take i piece ++ kept ∷ []) (drop (i + 1) piece) (Some ending) start end old new faults faults' (λ e. cc)
+      (ShowsKept-then (take i piece) (kept ∷ []) (Some ending) start mid end old between new faults between_faults faults' one other))
+
 -- the number of the last of some entries and one more
-pub last-append : (number : ℕ) (first : Store) (kept : StoredEntry) → last_number number (first ++ kept ∷ []) ≡ kept.seq
+last-append : (number : ℕ) (first : Store) (kept : StoredEntry) → last_number number (first ++ kept ∷ []) ≡ kept.seq
 last-append number [] kept = refl
 last-append number (one ∷ first) kept = last-append one.seq first kept
+
+pub last_there : (number : ℕ) (piece : Store) (i : ℕ) (kept : StoredEntry) → i < length piece → kept ≡ get_or piece i kept → kept.seq ≡ last_number number (take (i + 1) piece)
+last_there number piece i kept inside is = sym (last-append number (take i piece) kept) ∙ ap (last_number number) (sym (take_at_entry piece i kept inside is))
 
 pub last-both : (number : ℕ) (first second : Store) → last_number number (first ++ second) ≡ last_number (last_number number first) second
 last-both number [] second = refl

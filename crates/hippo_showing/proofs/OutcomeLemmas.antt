@@ -141,8 +141,8 @@ module _ (name : Txt) (excerpt : Excerpt) (before after : KeeperState) (written 
   stop_ends (DamagedAt place) result unwritten stops loads tells =
       let kept : KeepsDamaged name place before after = record { kept = loads.found (loads.started refl) tells; damaged = loads.damaged place refl tells } in
       elim stops [
-        | inl all ↦ subst (λ (r : Ending). Ends r unwritten excerpt name before after written written') (sym all.0) (record { place = place; kept = kept; written = all.1 })
-        | inr front ↦ subst (λ (r : Ending). Ends r unwritten excerpt name before after written written') (sym front.0) (inl (record { place = place; kept = kept; written = front.1 }))
+        | inl all ↦ subst (λ (r : Ending). Ends r unwritten excerpt name before after written written') (sym all.0) (record { place = place; kept = kept; said = all.1 })
+        | inr front ↦ subst (λ (r : Ending). Ends r unwritten excerpt name before after written written') (sym front.0) (inl (record { place = place; kept = kept; said = front.1 }))
       ]
   stop_ends Memory result unwritten stops loads tells =
       subst (λ (r : Ending). Ends r unwritten excerpt name before after written written') (sym stops.0) (inl (stops.1, λ started. loads.found started tells))

@@ -36,13 +36,13 @@ pub record KeepsDamaged (name : Txt) (place : ℕ) (before after : KeeperState) 
 pub record SaysDamaged (name : Txt) (before after : KeeperState) (written written' : Option Txt) : Type 0 where
   pub place : ℕ
   pub kept : KeepsDamaged name place before after
-  pub written : Appends written written' (damaged_line place)
+  pub said : Appends written written' (damaged_line place)
 
 -- a front of it is
 pub record BeginsDamaged (name : Txt) (before after : KeeperState) (written written' : Option Txt) : Type 0 where
   pub place : ℕ
   pub kept : KeepsDamaged name place before after
-  pub written : AppendsFront written written' (damaged_line place)
+  pub said : AppendsFront written written' (damaged_line place)
 
 -- just the excerpt of the history is written
 abbrev pub ShowsExcerpt : Excerpt → Txt → KeeperState → KeeperState → Option Txt → Option Txt → Type 0

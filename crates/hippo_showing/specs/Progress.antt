@@ -1,5 +1,5 @@
 -- What showing kept entries one after the other comes to.
-use Rattle.std.specs.Prelude.{◌≡◌, ◌≢◌, ℕ, ◌+◌, ◌<◌, ◌≤◌, true, [], ◌∷◌, ◌++◌, map, Option, Some, None, Ok}
+use Rattle.std.specs.Prelude.{◌≡◌, ◌≢◌, ℕ, ◌+◌, ◌<◌, ◌≤◌, true, false, [], ◌∷◌, ◌++◌, map, Option, Some, None, Ok}
 use Rattle.std.specs.List.{list_all}
 use Rattle.hippo_values.specs.Texts.{Txt}
 use Rattle.hippo_values.specs.declared.moments.Moment.{Moment}
@@ -31,7 +31,7 @@ pub record ShowsEntry (known : KnownNames) (excerpt : Excerpt) (entry : Entry) (
   pub sound : result ≢ Some Damaged
   pub writes : CountsWrites result faults faults'
   pub whole : result ≡ None → Appends written written' (entry_shown known excerpt clock entry)
-  pub clock : result ≡ None → clock' ≡ clock_after known excerpt clock entry
+  pub moment : result ≡ None → clock' ≡ clock_after known excerpt clock entry
   pub front : AppendsFront written written' (entry_shown known excerpt clock entry)
 
 -- whatever entries have these stored forms, they were shown, or a front of what is shown of them; where they are called
@@ -42,7 +42,7 @@ pub record ShowsKept (known : KnownNames) (excerpt : Excerpt) (store : Store) (r
   pub writes : CountsWrites result faults faults'
   pub whole : result ≡ None → (entries : History) → HasForms store entries
       → Appends written written' (entries_shown known excerpt clock entries)
-  pub clock : result ≡ None → (entries : History) → HasForms store entries
+  pub moment : result ≡ None → (entries : History) → HasForms store entries
       → clock' ≡ clock_at_end known excerpt clock entries
   pub front : (entries : History) → HasForms store entries
       → AppendsFront written written' (entries_shown known excerpt clock entries)
@@ -57,13 +57,13 @@ pub record IsReadUpTo (number : ℕ) (keeper : KeeperState) (read rest : Store) 
 -- a piece is read, which is the front of the rest, and shown
 pub record ShowsNext (known : KnownNames) (excerpt : Excerpt) (result : Option Ending) (before after : KeeperState)
     (number number' : ℕ) (clock clock' : Option Moment) (written written' : Option Txt) (faults faults' : ℕ)
-    (steps steps' : ℕ) : Type 0 where
+    (ticks ticks' : ℕ) : Type 0 where
   pub call : IsAfterCall true false (as_part result) before after
   pub stays : after.tells → KeepsSame before after
   pub status : result ≢ Some Refused
   pub piece : Store
   pub shows : ShowsKept known excerpt piece (cut_of result) clock clock' written written' faults faults'
-  pub steps : steps' ≡ steps + stored_versions piece
+  pub steps : ticks' ≡ ticks + stored_versions piece
   pub last : result ≡ None → number' ≡ last_number number piece
   pub more : result ≡ None → number < number'
   pub told : after.tells → (read rest : Store) → IsReadUpTo number before read rest
@@ -73,18 +73,18 @@ pub record ShowsNext (known : KnownNames) (excerpt : Excerpt) (result : Option E
 
 -- a front of what is kept is read and shown
 pub record IsShowing (known : KnownNames) (excerpt : Excerpt) (before now : KeeperState) (number : ℕ)
-    (clock : Option Moment) (written written' : Option Txt) (faults faults' steps steps' : ℕ) : Type 0 where
+    (clock : Option Moment) (written written' : Option Txt) (faults faults' ticks ticks' : ℕ) : Type 0 where
   pub call : IsAfterCall {A = Unit {0}} true false (Ok tt) before now
   pub stays : now.tells → KeepsSame before now
   pub read : Store
   pub last : last_number 0 read ≡ number
   pub shows : ShowsKept known excerpt read None None clock written written' faults faults'
-  pub steps : steps' ≡ steps + stored_versions read
+  pub steps : ticks' ≡ ticks + stored_versions read
   pub told : now.tells → ((behind : Store) × (before.kept ≡ read ++ behind))
 
 -- all that is kept is read and shown, or a front of it
 pub record ShowsAll (known : KnownNames) (excerpt : Excerpt) (result : Ending) (before after : KeeperState)
-    (written written' : Option Txt) (faults faults' steps steps' : ℕ) : Type 0 where
+    (written written' : Option Txt) (faults faults' ticks ticks' : ℕ) : Type 0 where
   pub call : IsAfterCall true false (as_call result) before after
   pub stays : after.tells → KeepsSame before after
   pub status : result ≢ Refused
@@ -94,4 +94,4 @@ pub record ShowsAll (known : KnownNames) (excerpt : Excerpt) (result : Ending) (
   pub front : after.tells → (entries : History) → HasForms before.kept entries
       → AppendsFront written written' (entries_shown known excerpt None entries)
   pub damaged : result ≡ Damaged → after.tells → (entries : History) → ¬ (HasForms before.kept entries)
-  pub steps : after.tells → steps' ≤ steps + stored_versions before.kept
+  pub steps : after.tells → ticks' ≤ ticks + stored_versions before.kept

@@ -1,7 +1,8 @@
 -- What is shown of a history: the entries that are asked for, each as the statement that made it.
-use Rattle.std.specs.Prelude.{ℕ, Bool, true, false, ◌&&◌, ◌==◌, List, [], ◌∷◌, ◌++◌, nat_le, Option, Some, None, option_and_then, if◌then◌else◌, codes, bytes_eq}
+use Rattle.std.specs.Prelude.{ℕ, Bool, true, false, ◌&&◌, List, [], ◌∷◌, ◌++◌, nat_le, Option, Some, None, option_and_then, if◌then◌else◌, codes, bytes_eq}
 use Rattle.std.specs.List.{list_any}
 use Rattle.std.specs.Option.{option_map_or}
+use Rattle.std.specs.Ordering.{int_eq}
 use Rattle.hippo_values.specs.Dates.{moment_text}
 use Rattle.hippo_values.specs.Texts.{Txt}
 use Rattle.hippo_values.specs.declared.moments.Moment.{Moment}
@@ -62,10 +63,14 @@ abbrev pub act_lines : KnownNames → Act → Txt
 act_lines known (Asked user purpose recipient text) = session_lines user purpose recipient text
 act_lines known act = console_lines (told_act (schema_named known act) act)
 
+-- whether the clock stands at a moment
+abbrev pub stands_at : Option Moment → Moment → Bool
+stands_at clock moment = option_map_or (λ set. int_eq set moment) clock false
+
 -- the clock is set where it does not stand so
 abbrev pub clock_line : Option Moment → Moment → Txt
 clock_line clock moment =
-    if option_map_or (λ set. set == moment) clock false then [] else codes "at " ++ (moment_text moment ++ codes "\n")
+    if stands_at clock moment then [] else codes "at " ++ (moment_text moment ++ codes "\n")
 
 -- an entry as it is shown, where the entry that was shown last had this moment
 abbrev pub shown_as : KnownNames → Form → Option Moment → Entry → Txt

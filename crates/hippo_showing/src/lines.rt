@@ -2,7 +2,7 @@
 ghost use Rattle.std.specs.Prelude.{◌≡◌, ◌++◌, option_copied, OnOk, codes};
 ghost use Rattle.hippo_values.specs.Dates.{moment_text};
 ghost use Rattle.hippo_telling.specs.Telling.{told_act};
-ghost use Rattle.hippo_showing.specs.Showing.{schema_named, console_lines, session_lines, act_lines, clock_line, shown_as};
+ghost use Rattle.hippo_showing.specs.Showing.{schema_named, console_lines, session_lines, act_lines, stands_at, clock_line, shown_as};
 
 use crate::asking::Form;
 use hippo_catalog::Catalog;
@@ -21,18 +21,28 @@ fn schema_named<'a>(catalog: &'a Catalog, act: &Act) -> Option<&'a Schema>
     }
 }
 
-fn append_moment(moment: Moment, out: &mut Txt) -> Result<(), Memory>
-    ensures { OnOk result (out.new ≡ out.old ++ moment_text moment) }
+fn append_moment(moment: &Moment, out: &mut Txt) -> Result<(), Memory>
+    ensures { OnOk result (out.new ≡ out.old ++ moment_text moment.now) }
 {
-    match str::from_utf8(&moment_text(moment)) {
+    match str::from_utf8(&moment_text(*moment)) {
         Ok(text) => out.append(text),
         Err(_) => unreachable!(),
     }
 }
 
+// Whether the clock stands at a moment.
+fn stands_at(clock: &Option<Moment>, moment: &Moment) -> bool
+    ensures { result ≡ stands_at clock.now moment.now }
+{
+    match clock {
+        None => false,
+        Some(set) => set.seconds() == moment.seconds(),
+    }
+}
+
 // A line that sets the clock.
-fn append_at(moment: Moment, out: &mut Txt) -> Result<(), Memory>
-    ensures { OnOk result (out.new ≡ out.old ++ (codes "at " ++ (moment_text moment ++ codes "\n"))) }
+fn append_at(moment: &Moment, out: &mut Txt) -> Result<(), Memory>
+    ensures { OnOk result (out.new ≡ out.old ++ (codes "at " ++ (moment_text moment.now ++ codes "\n"))) }
 {
     out.append("at ")?;
     append_moment(moment, out)?;
@@ -40,12 +50,13 @@ fn append_at(moment: Moment, out: &mut Txt) -> Result<(), Memory>
 }
 
 // A line that sets the clock where it does not stand so.
-fn append_clock(clock: Option<Moment>, moment: Moment, out: &mut Txt) -> Result<(), Memory>
-    ensures { OnOk result (out.new ≡ out.old ++ clock_line clock moment) }
+fn append_clock(clock: &Option<Moment>, moment: &Moment, out: &mut Txt) -> Result<(), Memory>
+    ensures { OnOk result (out.new ≡ out.old ++ clock_line clock.now moment.now) }
 {
-    match clock {
-        Some(set) if set == moment => Ok(()),
-        _ => append_at(moment, out),
+    if stands_at(clock, moment) {
+        Ok(())
+    } else {
+        append_at(moment, out)
     }
 }
 
@@ -114,14 +125,14 @@ fn append_act(alloc: Global, catalog: &Catalog, act: &Act, out: &mut Txt) -> Res
 fn append_script(
     alloc: Global,
     catalog: &Catalog,
-    clock: Option<Moment>,
+    clock: &Option<Moment>,
     entry: &Entry,
     out: &mut Txt,
 ) -> Result<(), Memory>
     ensures { OnOk result (out.new
-        ≡ out.old ++ (clock_line clock entry.now.moment ++ act_lines catalog.now.names entry.now.act)) }
+        ≡ out.old ++ (clock_line clock.now entry.now.moment ++ act_lines catalog.now.names entry.now.act)) }
 {
-    append_clock(clock, entry.moment, out)?;
+    append_clock(clock, &entry.moment, out)?;
     append_act(alloc, catalog, &entry.act, out)
 }
 
@@ -130,11 +141,11 @@ pub(crate) fn append_shown(
     alloc: Global,
     catalog: &Catalog,
     form: Form,
-    clock: Option<Moment>,
+    clock: &Option<Moment>,
     entry: &Entry,
     out: &mut Txt,
 ) -> Result<(), Memory>
-    ensures { OnOk result (out.new ≡ out.old ++ shown_as catalog.now.names form clock entry.now) }
+    ensures { OnOk result (out.new ≡ out.old ++ shown_as catalog.now.names form clock.now entry.now) }
 {
     match form {
         Form::Listing => entry_line(alloc, schema_named(catalog, &entry.act), entry, out),

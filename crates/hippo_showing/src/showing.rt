@@ -41,10 +41,10 @@ struct Progress {
 fn write_entry<K: Sink>(
     guide: &Guide<'_>,
     entry: &Entry,
-    clock: Option<Moment>,
+    clock: &Option<Moment>,
     sink: &mut K,
 ) -> Option<Ending>
-    ensures writes { Writes (shown_as guide.now.catalog.now.names guide.now.excerpt.now.form clock entry.now) result
+    ensures writes { Writes (shown_as guide.now.catalog.now.names guide.now.excerpt.now.form clock.now entry.now) result
         (K.written sink.old) (K.written sink.new) (K.faults sink.old) (K.faults sink.new) }
 {
     let mut lines = Txt::new(guide.alloc);
@@ -67,7 +67,7 @@ fn show_entry<K: Sink>(
 {
     match is_asked(guide.alloc, guide.catalog, guide.excerpt, entry) {
         Ok(true) => {
-            let ending = write_entry(guide, entry, *clock, sink);
+            let ending = write_entry(guide, entry, clock, sink);
             *clock = Some(entry.moment);
             ending
         }

@@ -5,7 +5,7 @@ use Rattle.hippo_showing.proofs.showing.show_all.Given as goal
 
 abbrev pub invariant-loop-ending : goal.invariant-loop-ending
 invariant-loop-ending g l =
-    IsShowing l.initial.guide.now.catalog.now.names l.initial.guide.now.excerpt.now (g.P.Keeper.state l.initial.keeper) (g.P.Keeper.state l.keeper)
+    IsShowing l.guide.catalog.now.names l.guide.excerpt.now (g.P.Keeper.state l.initial.keeper) (g.P.Keeper.state l.keeper)
     l.progress.number l.progress.clock (g.K.Sink.written l.initial.sink) (g.K.Sink.written l.sink) (g.K.Sink.faults l.initial.sink) (g.K.Sink.faults l.sink) l.initial.steps l.steps
 
 abbrev pub decreases-loop-ending : goal.decreases-loop-ending

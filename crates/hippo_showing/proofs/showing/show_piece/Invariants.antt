@@ -6,7 +6,7 @@ use Rattle.hippo_showing.proofs.showing.show_piece.Given as goal
 
 abbrev pub invariant-loop-kept : goal.invariant-loop-kept
 invariant-loop-kept g l = record {
-  shows : ShowsKept l.initial.guide.now.catalog.now.names l.initial.guide.now.excerpt.now (take l.kept-index l.initial.piece.now) None l.initial.progress.clock l.progress.clock
+  shows : ShowsKept l.guide.catalog.now.names l.guide.excerpt.now (take l.kept-index l.piece) None l.initial.progress.clock l.progress.clock
       (g.K.Sink.written l.initial.sink) (g.K.Sink.written l.sink) (g.K.Sink.faults l.initial.sink) (g.K.Sink.faults l.sink);
-  last : l.progress.number ≡ last_number l.initial.progress.number (take l.kept-index l.initial.piece.now);
+  last : l.progress.number ≡ last_number l.initial.progress.number (take l.kept-index l.piece);
 }
