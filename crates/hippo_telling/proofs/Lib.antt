@@ -1,1 +1,3 @@
+mod SetPlaces
+mod PairLemmas
 mod TellingExamples

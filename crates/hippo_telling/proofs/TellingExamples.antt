@@ -1,17 +1,18 @@
 -- The statements that made some entries.
-use Rattle.std.proofs.Common.{◌≡◌, ℕ, pos, negsuc, true, false, List, [], ◌∷◌, ◌++◌, Option, Some, None, refl, codes}
+use Rattle.std.proofs.Common.{◌≡◌, pos, negsuc, true, false, [], ◌∷◌, ◌++◌, Some, None, refl, codes, decimal}
+use Rattle.hippo_values.specs.Dates.{day_text, moment_text}
 use Rattle.hippo_values.specs.Texts.{Txt}
+use Rattle.hippo_values.specs.declared.moments.Moment.{Moment}
 use Rattle.hippo_values.specs.declared.values.Value.TheVariants.{Null, Int, Text, Day}
 use Rattle.hippo_model.specs.declared.entry.Act.{Act}
 use Rattle.hippo_model.specs.declared.entry.Act.TheVariants.{Create, Insert, Update, Delete, Purpose, Recipient, Item, Authorize, Deauthorize, Allow, Revoke, Choice, Asked}
-use Rattle.hippo_model.specs.declared.entry.Entry.{Entry}
 use Rattle.hippo_model.specs.declared.entry.ItemKind.TheVariants.{OptIn, OptOut}
 use Rattle.hippo_model.specs.declared.schema.Column.{Column}
 use Rattle.hippo_model.specs.declared.schema.ColumnKind.{ColumnKind}
 use Rattle.hippo_model.specs.declared.schema.ColumnKind.TheVariants.{Integer, Text as TextColumn, Date}
 use Rattle.hippo_model.specs.declared.schema.Schema.{Schema}
 use Rattle.hippo_model.specs.Terms.{History}
-use Rattle.hippo_telling.specs.Telling.{told_act, told_entry}
+use Rattle.hippo_telling.specs.Telling.{literal_text, told_act, told_entry}
 
 abbrev column : Txt → ColumnKind → Column
 column name kind = record { name = name; kind = kind; not_null = false }
@@ -35,7 +36,7 @@ patients = record {
 abbrev wards : Schema
 wards = record {
   name = codes "ward";
-  columns = required (codes "site") TextColumn ∷ required (codes "room") Integer ∷ column (codes "beds") Integer ∷ [];
+  columns = required (codes "site") TextColumn ∷ required (codes "room") TextColumn ∷ column (codes "beds") Integer ∷ column (codes "head") TextColumn ∷ [];
   key = 1 ∷ 0 ∷ [];
   subject = None;
 }
@@ -51,23 +52,23 @@ table_with_subject : told_act None (Create patients)
 table_with_subject = refl
 
 key_of_two_in_its_order : told_act None (Create wards)
-    ≡ codes "CREATE TABLE ward (site TEXT NOT NULL, room INTEGER NOT NULL, beds INTEGER, PRIMARY KEY (room, site))"
+    ≡ codes "CREATE TABLE ward (site TEXT NOT NULL, room TEXT NOT NULL, beds INTEGER, head TEXT, PRIMARY KEY (room, site))"
 key_of_two_in_its_order = refl
 
-every_value_is_inserted : of_patients (Insert patient (Int (pos 7) ∷ Text (codes "Pat O'Hara") ∷ Null ∷ Null ∷ []))
-    ≡ codes "INSERT INTO patient VALUES (7, 'Pat O''Hara', NULL, NULL)"
+every_value_is_inserted : of_wards (Insert (codes "ward") (Text (codes "south") ∷ Text (codes "r12") ∷ Null ∷ Text (codes "Pat O'Hara") ∷ []))
+    ≡ codes "INSERT INTO ward VALUES ('south', 'r12', NULL, 'Pat O''Hara')"
 every_value_is_inserted = refl
 
-every_other_column_is_set : of_patients (Update patient (Int (negsuc 6) ∷ Text (codes "Ada") ∷ Text [] ∷ Null ∷ []))
-    ≡ codes "UPDATE patient SET name = 'Ada', phone = '', born = NULL WHERE pid = -7"
+-- a number as a literal; the text of a list goes on behind it
+a_number : literal_text (Int (negsuc 6)) ≡ codes "-" ++ decimal 7
+a_number = refl
+
+every_other_column_is_set : of_wards (Update (codes "ward") (Text (codes "south") ∷ Text (codes "r12") ∷ Null ∷ Text [] ∷ []))
+    ≡ codes "UPDATE ward SET beds = NULL, head = '' WHERE room = 'r12' AND site = 'south'"
 every_other_column_is_set = refl
 
-whole_key_is_named : of_wards (Update (codes "ward") (Text (codes "south") ∷ Int (pos 12) ∷ Int (pos 4) ∷ []))
-    ≡ codes "UPDATE ward SET beds = 4 WHERE room = 12 AND site = 'south'"
-whole_key_is_named = refl
-
-deleted_by_its_key : of_wards (Delete (codes "ward") (Int (pos 12) ∷ Text (codes "south") ∷ []))
-    ≡ codes "DELETE FROM ward WHERE room = 12 AND site = 'south'"
+deleted_by_its_key : of_wards (Delete (codes "ward") (Text (codes "r12") ∷ Text (codes "south") ∷ []))
+    ≡ codes "DELETE FROM ward WHERE room = 'r12' AND site = 'south'"
 deleted_by_its_key = refl
 
 purpose : told_act None (Purpose (codes "treatment")) ≡ codes "CREATE PURPOSE treatment"
@@ -95,17 +96,17 @@ columns_by_their_names : of_patients (Allow (codes "treatment") (codes "nurse") 
 columns_by_their_names = refl
 
 with_item_and_days : of_patients (Allow (codes "treatment") (codes "nurse") patient (2 ∷ []) (Some (codes "contact")) (Some 30))
-    ≡ codes "ALLOW treatment TO nurse ON patient (phone) WITH contact RETAIN 30 DAYS"
+    ≡ codes "ALLOW treatment TO nurse ON patient (phone) WITH contact RETAIN " ++ (decimal 30 ++ codes " DAYS")
 with_item_and_days = refl
 
 revoked : of_patients (Revoke (codes "treatment") (codes "nurse") patient (2 ∷ 0 ∷ []))
     ≡ codes "REVOKE treatment TO nurse ON patient (phone, pid)"
 revoked = refl
 
-yes : told_act None (Choice (pos 7) (codes "contact") true) ≡ codes "CHOICE 7 ON contact IS YES"
+yes : told_act None (Choice (pos 7) (codes "contact") true) ≡ codes "CHOICE " ++ (decimal 7 ++ codes " ON contact IS YES")
 yes = refl
 
-no_longer : told_act None (Choice (negsuc 0) (codes "mail") false) ≡ codes "CHOICE -1 ON mail IS NO"
+no_longer : told_act None (Choice (negsuc 0) (codes "mail") false) ≡ codes "CHOICE -" ++ (decimal 1 ++ codes " ON mail IS NO")
 no_longer = refl
 
 -- a history in which the table stands before the rule
@@ -115,6 +116,17 @@ clinic = record { seq = 1; moment = pos 1709535600; act = Create patients }
     ∷ record { seq = 3; moment = pos 1709537400; act = Asked (codes "dora") (codes "treatment") (codes "nurse") (codes "SELECT name FROM patient") }
     ∷ []
 
-a_rule_by_number_and_moment : told_entry clinic (record { seq = 2; moment = pos 1709535600; act = Allow (codes "treatment") (codes "nurse") patient (2 ∷ []) (Some (codes "contact")) None })
-    ≡ codes "2 2024-03-04T07:00:00Z ALLOW treatment TO nurse ON patient (phone) WITH contact\n"
+-- 2024-03-04T07:00:00Z
+abbrev morning : Moment
+morning = pos 1709535600
+
+a_rule_by_number_and_moment : told_entry clinic (record { seq = 2; moment = morning; act = Allow (codes "treatment") (codes "nurse") patient (2 ∷ []) (Some (codes "contact")) None })
+    ≡ decimal 2 ++ (codes " " ++ (moment_text morning ++ codes " ALLOW treatment TO nurse ON patient (phone) WITH contact\n"))
 a_rule_by_number_and_moment = refl
+
+a_question_by_user_pair_and_text : told_entry clinic (record { seq = 3; moment = morning; act = Asked (codes "dora") (codes "treatment") (codes "nurse") (codes "SELECT name FROM patient") })
+    ≡ decimal 3 ++ (codes " " ++ (moment_text morning ++ codes " dora treatment nurse SELECT name FROM patient\n"))
+a_question_by_user_pair_and_text = refl
+
+a_day_as_a_literal : literal_text (Day (pos 19786)) ≡ codes "DATE '" ++ (day_text (pos 19786) ++ codes "'")
+a_day_as_a_literal = refl

@@ -1,5 +1,5 @@
 -- The statement that made an entry, spelled as one types it.
-use Rattle.std.specs.Prelude.{ℕ, ℤ, ◌++◌, Bool, true, false, not, List, [], map, filter, length, nat_eq, slice_get, Option, Some, None, option_and_then, codes, decimal, if◌then◌else◌}
+use Rattle.std.specs.Prelude.{ℕ, ℤ, ◌++◌, Bool, true, false, not, List, [], filter, length, nat_eq, slice_get, Option, Some, None, option_and_then, codes, decimal}
 use Rattle.std.specs.Fmt.{signed_decimal}
 use Rattle.std.specs.List.{list_any, range_with_len, zip}
 use Rattle.std.specs.Option.{option_map_or}
@@ -88,7 +88,7 @@ create_text schema =
 abbrev pub insert_text : Name → Row → Txt
 insert_text table row = codes "INSERT INTO " ++ (table ++ (codes " VALUES (" ++ (literals_text row ++ codes ")")))
 
--- every column is set that is none of the key's
+-- Every column is set that is none of the key's. Where there is none, the text is no statement: none makes such an act.
 abbrev pub update_text : List Column → List Place → Name → Row → Txt
 update_text columns key table row =
     codes "UPDATE " ++ (table ++ (codes " SET " ++ (row_text columns row comma (set_places columns key)

@@ -3,10 +3,10 @@ ghost use Rattle.std.specs.Prelude.{◌≡◌, ◌++◌, option_copied, OnOk, On
 ghost use Rattle.hippo_values.specs.Printing.{KeepsFront};
 ghost use Rattle.hippo_telling.specs.Telling.{columns_of, key_places, told_act, table_named};
 
+use crate::columns::append_named;
 use crate::rows::{append_delete, append_insert, append_update};
 use crate::rules::{
-    Rule, append_allow, append_asked, append_choice, append_grant, append_item, append_named,
-    append_rule,
+    Rule, append_allow, append_asked, append_choice, append_grant, append_item, append_rule,
 };
 use crate::tables::append_create;
 use hippo_model::{Act, Column, Schema};
@@ -117,8 +117,9 @@ fn append_act<const ROOM: usize>(
 }
 
 /// Adds the statement that an act came of, in the language's own spelling: the schema is that of the table that the act
-/// names (`table_named`), as the act found it. An UPDATE sets every column that is none of the key's. A question is told
-/// by its user, purpose, recipient and text. The text is unchanged where memory is short.
+/// names (`table_named`), as the act found it. An UPDATE sets every column that is none of the key's, so its text may be
+/// longer than the line that made it, and than a line may be. A question is told by its user, purpose, recipient and
+/// text. The text is unchanged where memory is short.
 pub fn tell_act<const ROOM: usize>(
     alloc: Global,
     schema: Option<&Schema>,

@@ -6,7 +6,20 @@ ghost use Rattle.hippo_telling.specs.Telling.{name_at, names_text, assigned_text
 use crate::joining::{Spelling, append_joined};
 use crate::literals::append_literal;
 use hippo_model::Column;
-use hippo_values::{Memory, RoomyTxt, Value};
+use hippo_values::{Memory, Name, RoomyTxt, Value};
+
+/// Adds a word or some, and a name.
+pub fn append_named<const ROOM: usize>(
+    words: &str,
+    name: &Name,
+    out: &mut RoomyTxt<ROOM>,
+) -> Result<(), Memory>
+    ensures ok { OnOk result (out.new ≡ out.old ++ (words.now ++ name.now)) }
+    ensures err { OnErr result (KeepsFront out.old out.new) }
+{
+    out.append(words)?;
+    out.append(name.as_str())
+}
 
 /// Adds the name of the column at a place.
 pub fn append_name<const ROOM: usize>(
@@ -39,8 +52,8 @@ impl<'a, const ROOM: usize> Spelling<usize, ROOM> for ColumnNames<'a> {
     }
 }
 
-/// Adds the names of the columns at some places, with commas between them.
-pub fn append_names<const ROOM: usize>(
+// With commas between them.
+fn append_names<const ROOM: usize>(
     columns: &[Column],
     places: &[usize],
     out: &mut RoomyTxt<ROOM>,
@@ -49,6 +62,22 @@ pub fn append_names<const ROOM: usize>(
     ensures err { OnErr result (KeepsFront out.old out.new) }
 {
     append_joined(&ColumnNames { columns }, ", ", places, out)
+}
+
+/// Adds the names of the columns at some places, with commas between them, and what stands before and behind them.
+pub fn append_listed<const ROOM: usize>(
+    before: &str,
+    columns: &[Column],
+    places: &[usize],
+    behind: &str,
+    out: &mut RoomyTxt<ROOM>,
+) -> Result<(), Memory>
+    ensures ok { OnOk result (out.new ≡ out.old ++ (before.now ++ (names_text columns.now places.now ++ behind.now))) }
+    ensures err { OnErr result (KeepsFront out.old out.new) }
+{
+    out.append(before)?;
+    append_names(columns, places, out)?;
+    out.append(behind)
 }
 
 /// Adds a column with a value: `NAME = VALUE`.

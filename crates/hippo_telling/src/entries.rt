@@ -10,10 +10,7 @@ use hippo_values::{Memory, Moment, RoomyTxt, moment_text};
 use itoa::Buffer;
 use std::alloc::Global;
 
-fn append_moment<const ROOM: usize>(
-    moment: &Moment,
-    out: &mut RoomyTxt<ROOM>,
-) -> Result<(), Memory>
+fn append_moment<const ROOM: usize>(moment: &Moment, out: &mut RoomyTxt<ROOM>) -> Result<(), Memory>
     ensures ok { OnOk result (out.new ≡ out.old ++ moment_text moment.now) }
     ensures err { OnErr result (KeepsFront out.old out.new) }
 {

@@ -3,9 +3,10 @@ ghost use Rattle.std.specs.Prelude.{◌≡◌, ◌++◌, filter, flat_map, nat_e
 ghost use Rattle.std.specs.List.{list_any, range_with_len, zip};
 ghost use Rattle.hippo_model.specs.Rows.{cell_at};
 ghost use Rattle.hippo_values.specs.Printing.{KeepsFront};
-ghost use Rattle.hippo_telling.specs.Telling.{is_set, assigned_text, row_text, key_text, insert_text, update_text, delete_text};
+ghost use Rattle.hippo_report.specs.Cells.{comma};
+ghost use Rattle.hippo_telling.specs.Telling.{is_set, assigned_text, literals_text, row_text, key_text, insert_text, update_text, delete_text};
 
-use crate::columns::append_assigned;
+use crate::columns::{append_assigned, append_named};
 use crate::joining::{Spelling, append_joined};
 use crate::literals::append_literals;
 use hippo_model::{Cells, Column, Places};
@@ -58,19 +59,33 @@ fn append_cells<const ROOM: usize>(
     append_joined(&RowCells { columns, row }, separator, places, out)
 }
 
+fn append_pair<const ROOM: usize>(
+    separator: &str,
+    columns: &[Column],
+    place: usize,
+    value: &Value,
+    out: &mut RoomyTxt<ROOM>,
+) -> Result<(), Memory>
+    ensures ok { OnOk result (out.new ≡ out.old ++ (separator.now ++ assigned_text columns.now place value.now)) }
+    ensures err { OnErr result (KeepsFront out.old out.new) }
+{
+    out.append(separator)?;
+    append_assigned(columns, place, value, out)
+}
+
 fn append_key_later<const ROOM: usize>(
+    separator: &str,
     columns: &[Column],
     places: &[usize],
     values: &[Value],
     out: &mut RoomyTxt<ROOM>,
 ) -> Result<(), Memory>
-    ensures ok { OnOk result (out.new ≡ out.old
-        ++ flat_map (λ pair. codes " AND " ++ assigned_text columns.now pair.0 pair.1) (zip places.now values.now)) }
+    ensures ok { OnOk result (out.new ≡ out.old ++ flat_map
+        (λ pair. separator.now ++ assigned_text columns.now pair.0 pair.1) (zip places.now values.now)) }
     ensures err { OnErr result (KeepsFront out.old out.new) }
 {
     for (place, value) in places.iter().zip(values) {
-        out.append(" AND ")?;
-        append_assigned(columns, *place, value, out)?;
+        append_pair(separator, columns, *place, value, out)?;
     }
     Ok(())
 }
@@ -91,7 +106,7 @@ fn append_key<const ROOM: usize>(
         return Ok(());
     };
     append_assigned(columns, *place, value, out)?;
-    append_key_later(columns, places, values, out)
+    append_key_later(" AND ", columns, places, values, out)
 }
 
 fn is_of_key(key: &[usize], place: usize) -> bool
@@ -107,6 +122,7 @@ fn is_set(key: &[usize], place: usize) -> bool
 }
 
 // The places of the columns that are none of the key's.
+#[tactic(auto, using(crate::proofs::SetPlaces::set_taken, crate::proofs::SetPlaces::set_passed))]
 fn set_places(alloc: Global, count: usize, key: &[usize]) -> Result<Places, Memory>
     ensures { IfOk result (λ places. places ≡ filter (is_set key.now) (range_with_len 0 count)) }
 {
@@ -119,6 +135,36 @@ fn set_places(alloc: Global, count: usize, key: &[usize]) -> Result<Places, Memo
     Ok(places)
 }
 
+fn append_values<const ROOM: usize>(
+    before: &str,
+    row: &[Value],
+    behind: &str,
+    out: &mut RoomyTxt<ROOM>,
+) -> Result<(), Memory>
+    ensures ok { OnOk result (out.new ≡ out.old ++ (before.now ++ (literals_text row.now ++ behind.now))) }
+    ensures err { OnErr result (KeepsFront out.old out.new) }
+{
+    out.append(before)?;
+    append_literals(row, out)?;
+    out.append(behind)
+}
+
+fn append_inserted<const ROOM: usize>(
+    words: &str,
+    table: &Name,
+    before: &str,
+    row: &[Value],
+    behind: &str,
+    out: &mut RoomyTxt<ROOM>,
+) -> Result<(), Memory>
+    ensures ok { OnOk result (out.new
+        ≡ out.old ++ (words.now ++ (table.now ++ (before.now ++ (literals_text row.now ++ behind.now))))) }
+    ensures err { OnErr result (KeepsFront out.old out.new) }
+{
+    append_named(words, table, out)?;
+    append_values(before, row, behind, out)
+}
+
 /// Adds an INSERT of a row.
 pub fn append_insert<const ROOM: usize>(
     table: &Name,
@@ -128,11 +174,35 @@ pub fn append_insert<const ROOM: usize>(
     ensures ok { OnOk result (out.new ≡ out.old ++ insert_text table.now row.now) }
     ensures err { OnErr result (KeepsFront out.old out.new) }
 {
-    out.append("INSERT INTO ")?;
-    out.append(table.as_str())?;
-    out.append(" VALUES (")?;
-    append_literals(row.as_slice(), out)?;
-    out.append(")")
+    append_inserted("INSERT INTO ", table, " VALUES (", row.as_slice(), ")", out)
+}
+
+fn append_set<const ROOM: usize>(
+    columns: &[Column],
+    row: &[Value],
+    places: &[usize],
+    out: &mut RoomyTxt<ROOM>,
+) -> Result<(), Memory>
+    ensures ok { OnOk result (out.new
+        ≡ out.old ++ (codes " SET " ++ row_text columns.now row.now comma places.now)) }
+    ensures err { OnErr result (KeepsFront out.old out.new) }
+{
+    out.append(" SET ")?;
+    append_cells(columns, row, ", ", places, out)
+}
+
+fn append_where<const ROOM: usize>(
+    columns: &[Column],
+    row: &[Value],
+    key: &[usize],
+    out: &mut RoomyTxt<ROOM>,
+) -> Result<(), Memory>
+    ensures ok { OnOk result (out.new
+        ≡ out.old ++ (codes " WHERE " ++ row_text columns.now row.now (codes " AND ") key.now)) }
+    ensures err { OnErr result (KeepsFront out.old out.new) }
+{
+    out.append(" WHERE ")?;
+    append_cells(columns, row, " AND ", key, out)
 }
 
 /// Adds an UPDATE to a row, which sets each column that is none of the key's.
@@ -148,12 +218,40 @@ pub fn append_update<const ROOM: usize>(
     ensures err { OnErr result (KeepsFront out.old out.new) }
 {
     let places = set_places(alloc, columns.len(), key)?;
-    out.append("UPDATE ")?;
-    out.append(table.as_str())?;
-    out.append(" SET ")?;
-    append_cells(columns, row.as_slice(), ", ", places.as_slice(), out)?;
-    out.append(" WHERE ")?;
-    append_cells(columns, row.as_slice(), " AND ", key, out)
+    append_named("UPDATE ", table, out)?;
+    append_set(columns, row.as_slice(), places.as_slice(), out)?;
+    append_where(columns, row.as_slice(), key, out)
+}
+
+fn append_keyed<const ROOM: usize>(
+    before: &str,
+    columns: &[Column],
+    places: &[usize],
+    key: &[Value],
+    out: &mut RoomyTxt<ROOM>,
+) -> Result<(), Memory>
+    ensures ok { OnOk result (out.new ≡ out.old ++ (before.now ++ key_text columns.now places.now key.now)) }
+    ensures err { OnErr result (KeepsFront out.old out.new) }
+{
+    out.append(before)?;
+    append_key(columns, places, key, out)
+}
+
+fn append_deleted<const ROOM: usize>(
+    words: &str,
+    table: &Name,
+    before: &str,
+    columns: &[Column],
+    places: &[usize],
+    key: &[Value],
+    out: &mut RoomyTxt<ROOM>,
+) -> Result<(), Memory>
+    ensures ok { OnOk result (out.new
+        ≡ out.old ++ (words.now ++ (table.now ++ (before.now ++ key_text columns.now places.now key.now)))) }
+    ensures err { OnErr result (KeepsFront out.old out.new) }
+{
+    append_named(words, table, out)?;
+    append_keyed(before, columns, places, key, out)
 }
 
 /// Adds a DELETE of the row with a key.
@@ -167,8 +265,13 @@ pub fn append_delete<const ROOM: usize>(
     ensures ok { OnOk result (out.new ≡ out.old ++ delete_text columns.now places.now table.now key.now) }
     ensures err { OnErr result (KeepsFront out.old out.new) }
 {
-    out.append("DELETE FROM ")?;
-    out.append(table.as_str())?;
-    out.append(" WHERE ")?;
-    append_key(columns, places, key.as_slice(), out)
+    append_deleted(
+        "DELETE FROM ",
+        table,
+        " WHERE ",
+        columns,
+        places,
+        key.as_slice(),
+        out,
+    )
 }

@@ -3,23 +3,10 @@ ghost use Rattle.std.specs.Prelude.{◌≡◌, ◌++◌, codes, OnOk, OnErr};
 ghost use Rattle.hippo_values.specs.Printing.{KeepsFront};
 ghost use Rattle.hippo_telling.specs.Telling.{item_kind_text, item_text, grant_text, rule_text, with_text, retention_text, allow_text, agreed_text, choice_text, asked_text};
 
-use crate::columns::append_names;
+use crate::columns::{append_listed, append_named};
 use hippo_model::{Column, ItemKind};
 use hippo_values::{Memory, Name, RoomyTxt, Txt};
 use itoa::Buffer;
-
-/// Adds a word or some, and a name.
-pub fn append_named<const ROOM: usize>(
-    words: &str,
-    name: &Name,
-    out: &mut RoomyTxt<ROOM>,
-) -> Result<(), Memory>
-    ensures ok { OnOk result (out.new ≡ out.old ++ (words.now ++ name.now)) }
-    ensures err { OnErr result (KeepsFront out.old out.new) }
-{
-    out.append(words)?;
-    out.append(name.as_str())
-}
 
 fn item_kind_text(kind: ItemKind) -> &'static str
     ensures { result.now ≡ item_kind_text kind }
@@ -28,6 +15,19 @@ fn item_kind_text(kind: ItemKind) -> &'static str
         ItemKind::OptIn => " OPT IN",
         ItemKind::OptOut => " OPT OUT",
     }
+}
+
+fn append_ended<const ROOM: usize>(
+    words: &str,
+    name: &Name,
+    behind: &str,
+    out: &mut RoomyTxt<ROOM>,
+) -> Result<(), Memory>
+    ensures ok { OnOk result (out.new ≡ out.old ++ (words.now ++ (name.now ++ behind.now))) }
+    ensures err { OnErr result (KeepsFront out.old out.new) }
+{
+    append_named(words, name, out)?;
+    out.append(behind)
 }
 
 /// Adds a CREATE ITEM.
@@ -39,9 +39,7 @@ pub fn append_item<const ROOM: usize>(
     ensures ok { OnOk result (out.new ≡ out.old ++ item_text item.now kind) }
     ensures err { OnErr result (KeepsFront out.old out.new) }
 {
-    out.append("CREATE ITEM ")?;
-    out.append(item.as_str())?;
-    out.append(item_kind_text(kind))
+    append_ended("CREATE ITEM ", item, item_kind_text(kind), out)
 }
 
 /// Adds a word, and whom it authorizes or no longer does.
@@ -83,9 +81,7 @@ pub fn append_rule<const ROOM: usize>(
     append_named(word, rule.purpose, out)?;
     append_named(" TO ", rule.recipient, out)?;
     append_named(" ON ", rule.table, out)?;
-    out.append(" (")?;
-    append_names(columns, rule.places, out)?;
-    out.append(")")
+    append_listed(" (", columns, rule.places, ")", out)
 }
 
 // Adds the item of a rule, where it has one.

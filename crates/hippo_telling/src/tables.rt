@@ -2,12 +2,12 @@
 ghost use Rattle.std.specs.Prelude.{◌≡◌, ◌++◌, OnOk, OnErr};
 ghost use Rattle.hippo_values.specs.Printing.{KeepsFront};
 ghost use Rattle.hippo_report.specs.Cells.{joined, comma};
-ghost use Rattle.hippo_telling.specs.Telling.{kind_text, not_null_text, column_text, subject_text, create_text};
+ghost use Rattle.hippo_telling.specs.Telling.{kind_text, not_null_text, column_text, names_text, subject_text, create_text};
 
-use crate::columns::{append_name, append_names};
+use crate::columns::{append_listed, append_name, append_named};
 use crate::joining::{Spelling, append_joined};
 use hippo_model::{Column, ColumnKind, Schema};
-use hippo_values::{Memory, RoomyTxt};
+use hippo_values::{Memory, Name, RoomyTxt};
 
 fn kind_text(kind: ColumnKind) -> &'static str
     ensures { result.now ≡ kind_text kind }
@@ -25,10 +25,7 @@ fn not_null_text(not_null: bool) -> &'static str
     if not_null { " NOT NULL" } else { "" }
 }
 
-fn append_column<const ROOM: usize>(
-    column: &Column,
-    out: &mut RoomyTxt<ROOM>,
-) -> Result<(), Memory>
+fn append_column<const ROOM: usize>(column: &Column, out: &mut RoomyTxt<ROOM>) -> Result<(), Memory>
     ensures ok { OnOk result (out.new ≡ out.old ++ column_text column.now) }
     ensures err { OnErr result (KeepsFront out.old out.new) }
 {
@@ -78,6 +75,55 @@ fn append_subject<const ROOM: usize>(
     }
 }
 
+fn append_head<const ROOM: usize>(
+    words: &str,
+    table: &Name,
+    before: &str,
+    columns: &[Column],
+    out: &mut RoomyTxt<ROOM>,
+) -> Result<(), Memory>
+    ensures ok { OnOk result (out.new
+        ≡ out.old ++ (words.now ++ (table.now ++ (before.now ++ joined column_text comma columns.now)))) }
+    ensures err { OnErr result (KeepsFront out.old out.new) }
+{
+    append_named(words, table, out)?;
+    out.append(before)?;
+    append_definitions(columns, out)
+}
+
+fn append_end<const ROOM: usize>(
+    columns: &[Column],
+    subject: Option<usize>,
+    end: &str,
+    out: &mut RoomyTxt<ROOM>,
+) -> Result<(), Memory>
+    ensures ok { OnOk result (out.new ≡ out.old ++ (subject_text columns.now subject ++ end.now)) }
+    ensures err { OnErr result (KeepsFront out.old out.new) }
+{
+    append_subject(columns, subject, out)?;
+    out.append(end)
+}
+
+fn append_created<const ROOM: usize>(
+    words: &str,
+    before_columns: &str,
+    before_key: &str,
+    schema: &Schema,
+    end: &str,
+    out: &mut RoomyTxt<ROOM>,
+) -> Result<(), Memory>
+    ensures ok { OnOk result (out.new ≡ out.old ++ (words.now ++ (schema.now.name ++ (before_columns.now
+        ++ (joined column_text comma schema.now.columns ++ (before_key.now
+        ++ (names_text schema.now.columns schema.now.key ++ (end.now
+        ++ (subject_text schema.now.columns schema.now.subject ++ end.now))))))))) }
+    ensures err { OnErr result (KeepsFront out.old out.new) }
+{
+    let columns = schema.columns.as_slice();
+    append_head(words, &schema.name, before_columns, columns, out)?;
+    append_listed(before_key, columns, schema.key.as_slice(), end, out)?;
+    append_end(columns, schema.subject, end, out)
+}
+
 /// Adds the CREATE TABLE of a table.
 pub fn append_create<const ROOM: usize>(
     schema: &Schema,
@@ -86,14 +132,5 @@ pub fn append_create<const ROOM: usize>(
     ensures ok { OnOk result (out.new ≡ out.old ++ create_text schema.now) }
     ensures err { OnErr result (KeepsFront out.old out.new) }
 {
-    let columns = schema.columns.as_slice();
-    out.append("CREATE TABLE ")?;
-    out.append(schema.name.as_str())?;
-    out.append(" (")?;
-    append_definitions(columns, out)?;
-    out.append(", PRIMARY KEY (")?;
-    append_names(columns, schema.key.as_slice(), out)?;
-    out.append(")")?;
-    append_subject(columns, schema.subject, out)?;
-    out.append(")")
+    append_created("CREATE TABLE ", " (", ", PRIMARY KEY (", schema, ")", out)
 }

@@ -1,3 +1,9 @@
 pub mod SayingLemmas
 pub mod SpellingLemmas
+pub mod ListLemmas
+pub mod FitLemmas
+pub mod RowTheorem
+pub mod NamePlaces
+pub mod RuleTheorem
+pub mod KeyTheorem
 pub mod ReadingTheorem

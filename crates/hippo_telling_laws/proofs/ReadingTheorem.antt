@@ -1,19 +1,13 @@
 -- What is told of acts that name no table reads back.
-use Rattle.std.proofs.Common.{◌≡◌, ◌∙◌, ℕ, ℤ, ◌+◌, ◌≤◌, true, false, cond, ◌&&◌, List, [], ◌∷◌, ◌++◌, take, drop, Option, Some, Ok, refl, sym, ap, subst, arith, codes}
-use Rattle.std.specs.Prelude.{count_by}
+use Rattle.std.proofs.Common.{◌≡◌, ℤ, true, false, ◌&&◌, [], ◌∷◌, ◌++◌, Ok, refl, sym, subst, codes}
 use Rattle.std.specs.Fmt.{signed_decimal}
-use Rattle.std.specs.List.{list_any}
 use Rattle.std.proofs.lemmas.Bool.{and_parts}
-use Rattle.std.proofs.lemmas.List.{take-append-drop}
-use Rattle.std.proofs.lemmas.List.Sums.{sum_by-append}
 use Rattle.hippo_values.specs.Moments.{is_signed_number}
 use Rattle.hippo_values.specs.Texts.{Txt}
 use Rattle.hippo_values.specs.declared.names.Name.{Name}
 use Rattle.hippo_values.specs.declared.keywords.Keyword.TheVariants.{KAuthorize, KChoice, KCreate, KDeauthorize, KFor, KIn, KIs, KItem, KNo, KOn, KOpt, KOut, KPurpose, KRecipient, KYes}
 use Rattle.hippo_lexer.specs.Cutting.{outcome_of}
-use Rattle.hippo_lexer.specs.Words.{opens, closes, negates, is_unsupported}
 use Rattle.hippo_lexer.specs.declared.kinds.Symbol.TheVariants.{Comma}
-use Rattle.hippo_lexer.specs.declared.kinds.TokenKind.{TokenKind}
 use Rattle.hippo_lexer.specs.declared.kinds.TokenKind.TheVariants.{Word, Keyword, Number, Symbol}
 use Rattle.hippo_lexer.proofs.RunLemmas.{cut-is}
 use Rattle.hippo_model.specs.declared.entry.Act.TheVariants.{Create, Insert, Update, Delete, Purpose, Recipient, Item, Authorize, Deauthorize, Allow, Revoke, Choice, Asked}
@@ -23,29 +17,15 @@ use Rattle.hippo_model.specs.declared.statement.Stmt.{Stmt}
 use Rattle.hippo_model.specs.declared.statement.Stmt.TheVariants as stmt
 use Rattle.hippo_model.specs.declared.statement.Wanted.TheVariants.{Ready}
 use Rattle.hippo_model.specs.Keepable.{is_folded_name}
-use Rattle.hippo_spj_reader.specs.Front.{Kinds, kinds}
+use Rattle.hippo_spj_reader.specs.Front.{Kinds}
 use Rattle.hippo_stmt_reader.specs.StatementGrammar.{IsConsole, create_purpose, create_recipient, create_opt_in, create_opt_out, authorize, deauthorize, choice_yes, choice_no, nothing, console}
 use Rattle.hippo_stmt_reader.proofs.StatementTheorem.{complete}
 use Rattle.hippo_reading_laws.proofs.FitWords.{AreFit, words-fit}
-use Rattle.hippo_telling.specs.Telling.{item_text, grant_text, choice_text, agreed_text}
+use Rattle.hippo_telling_laws.proofs.FitLemmas.{flat-fit}
+use Rattle.hippo_telling.specs.Telling.{item_text, grant_text, choice_text}
 use Rattle.hippo_telling_laws.specs.TellingLaws.{ReadsAs, NamesReadBack}
 use Rattle.hippo_telling_laws.proofs.SayingLemmas.{Says, says-blank, says-word, says-last_word, says-name, says-name_first, says-last_name}
 use Rattle.hippo_telling_laws.proofs.SpellingLemmas.{says-number_first, says-comma, authorize-word, choice-word, create-word, deauthorize-word, for-word, in-word, is-word, item-word, no-word, on-word, opt-word, out-word, purpose-word, recipient-word, yes-word}
-
--- words with few parentheses and few NOT are fit to be read
-pub few-fit : (said : Kinds) → count_by opens said ≤ 64 → count_by negates said ≤ 64 → list_any is_unsupported said ≡ false → AreFit said
-few-fit said opened negated supported = record {
-  level = λ n small.
-      let parts : count_by opens said ≡ count_by opens (take n said) + count_by opens (drop n said) =
-      ap (count_by opens) (sym (take-append-drop n said)) ∙ sum_by-append (λ (k : TokenKind). cond (opens k) 1 0) (take n said) (drop n said) in
-      omega (arith, parts, opened);
-  few = negated;
-  supported = supported;
-}
-
--- words without any
-flat-fit : (said : Kinds) → count_by opens said ≡ 0 → count_by negates said ≡ 0 → list_any is_unsupported said ≡ false → AreFit said
-flat-fit said opened negated supported = few-fit said (omega (arith, opened)) (omega (arith, negated)) supported
 
 -- a text that says a statement of the console is read as it
 pub console-reads : (text : Txt) (said : Kinds) (s : Stmt) → Says text said → AreFit said → IsConsole said s [] → ReadsAs text s
@@ -94,7 +74,7 @@ opt_out-reads item is =
     console-reads _ said _ says (flat-fit said refl refl refl) create_opt_out
 
 -- three names in lower case
-three-names : (a b c : Name) → (is_folded_name a && is_folded_name b && is_folded_name c) ≡ true → (is_folded_name a ≡ true) × (is_folded_name b ≡ true) × (is_folded_name c ≡ true)
+pub three-names : (a b c : Name) → (is_folded_name a && is_folded_name b && is_folded_name c) ≡ true → (is_folded_name a ≡ true) × (is_folded_name b ≡ true) × (is_folded_name c ≡ true)
 three-names a b c are =
     let two = and_parts (is_folded_name a && is_folded_name b) (is_folded_name c) are in
     let one = and_parts (is_folded_name a) (is_folded_name b) two.0 in

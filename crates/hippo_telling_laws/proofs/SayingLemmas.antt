@@ -1,11 +1,9 @@
 -- What a text says, piece by piece from its end on.
-use Rattle.std.proofs.Common.{◌≡◌, ℕ, ◌+◌, ◌<◌, ◌≤◌, ◌^◌, true, false, List, [], ◌∷◌, ◌++◌, length, take, drop, Some, None, Ok, refl, sym, ap, subst, arith, ℤ, pos, negsuc}
+use Rattle.std.proofs.Common.{◌≡◌, ℕ, ◌+◌, true, false, List, [], ◌∷◌, ◌++◌, length, Some, Ok, refl, ap, subst}
 use Rattle.std.proofs.lemmas.Bool.{and_parts, both_ways}
 use Rattle.std.proofs.lemmas.List.{append-nil}
 use Rattle.std.proofs.lemmas.Slice.Eq.{bytes_eq-Decides}
 use Rattle.std.specs.Prelude.{bytes_eq}
-use Rattle.hippo_values.specs.Dates.{day_text}
-use Rattle.hippo_values.specs.Moments.{is_day}
 use Rattle.hippo_values.specs.Names.{folded, is_name, is_word, is_word_byte, keyword_of}
 use Rattle.hippo_values.specs.Quoting.{quoted}
 use Rattle.hippo_values.specs.Texts.{Txt}
@@ -17,7 +15,7 @@ use Rattle.hippo_lexer.specs.Spelling.{begins_with, is_quote, sign_of}
 use Rattle.hippo_lexer.specs.declared.kinds.Symbol as signs
 use Rattle.hippo_lexer.specs.declared.kinds.Token.{Token}
 use Rattle.hippo_lexer.specs.declared.kinds.TokenKind.{TokenKind}
-use Rattle.hippo_lexer.specs.declared.kinds.TokenKind.TheVariants.{Word, Keyword, Number, Quoted, Symbol}
+use Rattle.hippo_lexer.specs.declared.kinds.TokenKind.TheVariants.{Word, Keyword, Quoted, Symbol}
 use Rattle.hippo_model.specs.Keepable.{is_folded_name}
 use Rattle.hippo_spj_reader.specs.Front.{Kinds, kinds}
 
@@ -90,3 +88,9 @@ says-sign text rest sign said is longest more = says-token text rest (Symbol sig
 pub says-quoted : (text rest : Txt) (said : Kinds) → begins_with is_quote rest ≡ false → Says rest said → Says (quoted text ++ rest) (Quoted text ∷ said)
 says-quoted text rest said ends more =
     says-token (quoted text) rest (Quoted text) said (a_quoted_text (quoted text) text rest refl ends) more
+
+-- a word in whatever case that is no word of the language
+pub says-plain_word : (word rest : Txt) (said : Kinds) → is_name word ≡ true → EndsWord rest → Says rest said → Says (word ++ rest) (Word (folded word) ∷ said)
+says-plain_word word rest said is ends more =
+    let form = (and_parts _ _ (and_parts _ _ is).0).0 in
+    says-token word rest (Word (folded word)) said (a_name word rest (record { form = form; ends = ends }) is) more

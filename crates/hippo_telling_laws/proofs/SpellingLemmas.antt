@@ -1,30 +1,33 @@
 -- What numbers, days and literals say, and the words of statements.
-use Rattle.std.proofs.Common.{◌≡◌, ◌∙◌, ℕ, suc, ◌+◌, ◌<◌, ◌≤◌, ◌^◌, true, false, List, [], ◌∷◌, ◌++◌, length, Some, None, Ok, refl, sym, ap, subst, arith, ℤ, pos, negsuc, neg_ℤ, codes, decimal}
+use Rattle.std.proofs.Common.{◌≡◌, ℕ, suc, ◌+◌, ◌/◌, ◌%◌, ◌<◌, ◌^◌, int_le, true, false, List, [], ◌∷◌, ◌++◌, refl, sym, ap, arith, ℤ, pos, negsuc, neg_ℤ, codes, decimal}
 use Rattle.std.specs.Fmt.{signed_decimal}
 use Rattle.std.specs.Char.{is_ascii_digit}
 use Rattle.std.specs.List.{list_all}
-use Rattle.std.specs.Str.Parse.{AllDigits, digits_value}
-use Rattle.std.proofs.lemmas.Bool.{and_from}
+use Rattle.std.specs.Str.Parse.{AllDigits}
+use Rattle.std.proofs.lemmas.Bool.{and_from, and_parts, ne_eqb}
 use Rattle.std.proofs.lemmas.Bool.Decides.{nat_tests}
 use Rattle.std.proofs.lemmas.Fmt.{decimal_is_IsNumeral}
 use Rattle.std.proofs.lemmas.Int.{ints}
-use Rattle.std.proofs.lemmas.List.{append-nil, append_assoc}
 use Rattle.std.proofs.lemmas.Str.Parse.{digit_at}
-use Rattle.hippo_values.specs.Dates.{day_text}
-use Rattle.hippo_values.specs.Moments.{is_day, is_signed_number, IsSignedNumber, IsDayNumber}
-use Rattle.hippo_values.specs.Names.{keywords, keyword_of, is_word_byte}
-use Rattle.hippo_values.specs.Quoting.{quoted}
+use Rattle.hippo_values.specs.Dates.{year_of, month_of, day_of_month, date_text, day_text}
+use Rattle.hippo_values.specs.Moments.{first_day, last_day, is_day, is_signed_number, IsSignedNumber, IsDayNumber}
+use Rattle.hippo_values.specs.Names.{keywords}
+use Rattle.hippo_values.specs.Quoting.{is_quote, doubled, quoted}
 use Rattle.hippo_values.specs.Texts.{Txt}
 use Rattle.hippo_values.specs.declared.values.Value.{Value}
 use Rattle.hippo_values.specs.declared.values.Value.TheVariants as values
-use Rattle.hippo_values.specs.declared.keywords.Keyword.TheVariants.{KAllow, KAnd, KAuthorize, KChoice, KCreate, KDate, KDeauthorize, KDelete, KFor, KFrom, KIn, KInsert, KInteger, KInto, KIs, KItem, KKey, KNo, KNot, KNull, KOn, KOpt, KOut, KPrimary, KPurpose, KRecipient, KRevoke, KSet, KSubject, KTable, KText, KTo, KUpdate, KValues, KWhere, KWith, KYes}
-use Rattle.hippo_lexer.specs.Grammar.{IsToken, IsNumber, AreDigits, plain, negative, a_number}
+use Rattle.hippo_values.specs.declared.keywords.Keyword.TheVariants.{KAllow, KAnd, KAuthorize, KChoice, KCreate, KDeauthorize, KDelete, KFor, KFrom, KIn, KInsert, KInteger, KInto, KIs, KItem, KKey, KNo, KNot, KNull, KOn, KOpt, KOut, KPrimary, KPurpose, KRecipient, KRevoke, KSet, KSubject, KTable, KText, KTo, KUpdate, KValues, KWhere, KWith, KYes}
+use Rattle.hippo_lexer.specs.Grammar.{IsNumber, AreDigits, OpensDay, plain, negative, a_number, a_day}
 use Rattle.hippo_lexer.specs.Spelling.{begins_with, sign_table, sign_of}
 use Rattle.hippo_lexer.specs.declared.kinds.Symbol.TheVariants.{Comma, Equal, LeftParen, RightParen}
-use Rattle.hippo_lexer.specs.declared.kinds.TokenKind.TheVariants.{Word, Keyword, Number, Quoted, Symbol}
+use Rattle.hippo_lexer.specs.declared.kinds.TokenKind.TheVariants.{Keyword, Number, Quoted, Day, Symbol}
 use Rattle.hippo_lexer.proofs.NumberLemmas.{fits-signed}
+use Rattle.hippo_model.specs.Keepable.{value_is_keepable}
+use Rattle.hippo_spj_reader.specs.ConditionGrammar.{IsLiteral}
+use Rattle.hippo_spj_reader.specs.ConditionGrammar as literals
 use Rattle.hippo_spj_reader.specs.Front.{Kinds}
-use Rattle.hippo_telling_laws.proofs.SayingLemmas.{Says, EndsWord, Spells, says-token, says-sign, says-blank, says-nothing}
+use Rattle.hippo_telling.specs.Telling.{literal_text}
+use Rattle.hippo_telling_laws.proofs.SayingLemmas.{Says, EndsWord, Spells, says-token, says-keyword, says-quoted, says-sign, says-blank}
 
 digits_pass : (digits : List ℕ) → AllDigits 10 digits → list_all is_ascii_digit digits ≡ true
 digits_pass [] are = refl
@@ -55,20 +58,50 @@ says-number_first number rest said is more = says-number number (32 ∷ rest) sa
 
 -- the signs
 pub says-comma : (rest : Txt) (said : Kinds) → Says rest said → Says (44 ∷ rest) (Symbol Comma ∷ said)
-unfolding (sign_table, sign_of)
+unfolding sign_table sign_of
 says-comma rest said more = says-sign (44 ∷ []) rest Comma said refl (λ byte behind is. refl) more
 
 pub says-equal : (rest : Txt) (said : Kinds) → Says rest said → Says (61 ∷ rest) (Symbol Equal ∷ said)
-unfolding (sign_table, sign_of)
+unfolding sign_table sign_of
 says-equal rest said more = says-sign (61 ∷ []) rest Equal said refl (λ byte behind is. refl) more
 
 pub says-opening : (rest : Txt) (said : Kinds) → Says rest said → Says (40 ∷ rest) (Symbol LeftParen ∷ said)
-unfolding (sign_table, sign_of)
+unfolding sign_table sign_of
 says-opening rest said more = says-sign (40 ∷ []) rest LeftParen said refl (λ byte behind is. refl) more
 
 pub says-closing : (rest : Txt) (said : Kinds) → Says rest said → Says (41 ∷ rest) (Symbol RightParen ∷ said)
-unfolding (sign_table, sign_of)
+unfolding sign_table sign_of
 says-closing rest said more = says-sign (41 ∷ []) rest RightParen said refl (λ byte behind is. refl) more
+
+-- digits are no quotes
+unquoted : (n : ℕ) → is_quote (48 + n) ≡ false
+unquoted n = ne_eqb (48 + n) 39 (λ same. absurd (omega arith))
+
+date-plain : (y m d : ℕ) → doubled (date_text y m d) ≡ date_text y m d
+date-plain y m d =
+    rw (unquoted (y / 100 / 10), unquoted (y / 100 % 10), unquoted (y % 100 / 10), unquoted (y % 100 % 10), unquoted (m / 10), unquoted (m % 10), unquoted (d / 10), unquoted (d % 10))
+    refl
+
+day-plain : (day : ℤ) → doubled (day_text day) ≡ day_text day
+unfolding day_text
+day-plain day = date-plain (year_of day) (month_of day) (day_of_month day)
+
+day-fits : (day : ℤ) → is_day day ≡ true → IsDayNumber day
+day-fits day fits = let parts = and_parts (int_le first_day day) (int_le day last_day) fits in grind (arith, ints)
+
+pub says-day : (day : ℤ) (rest : Txt) (said : Kinds) → is_day day ≡ true → begins_with is_quote rest ≡ false → Says rest said → Says ((codes "DATE '" ++ (day_text day ++ codes "'")) ++ rest) (Day day ∷ said)
+unfolding keywords
+says-day day rest said fits ends more =
+    let text : Txt = day_text day in
+    let written : Txt = codes "DATE '" ++ (text ++ codes "'") in
+    let behind : Txt = 32 ∷ (quoted text ++ rest) in
+    let opens : OpensDay (codes "DATE") behind (32 ∷ []) text rest = record {
+      whole = record { form = refl; ends = refl };
+      date = refl;
+      quotation = record { gap = refl; parts = refl; ends = ends };
+    } in
+    let spelled : written ≡ codes "DATE" ++ (32 ∷ quoted text) = ap (λ (t : Txt). codes "DATE '" ++ (t ++ codes "'")) (sym (day-plain day)) in
+    says-token written rest (Day day) said (a_day written (codes "DATE") behind (32 ∷ []) text rest day opens (day-fits day fits, refl) spelled) more
 
 -- the words
 pub allow-word : Spells (codes "ALLOW") KAllow
@@ -214,3 +247,25 @@ with-word = record { form = refl; written = refl; other = refl }
 pub yes-word : Spells (codes "YES") KYes
 unfolding keywords
 yes-word = record { form = refl; written = refl; other = refl }
+
+-- what a literal says, and what may follow it
+abbrev pub literal_said : Value → Kinds
+literal_said values.Null = Keyword KNull ∷ []
+literal_said (values.Int number) = Number number ∷ []
+literal_said (values.Text text) = Quoted text ∷ []
+literal_said (values.Day day) = Day day ∷ []
+
+abbrev pub EndsLiteral : Txt → Type 0
+EndsLiteral rest = EndsWord rest × (begins_with is_quote rest ≡ false)
+
+pub says-literal : (value : Value) (rest : Txt) (said : Kinds) → value_is_keepable value ≡ true → EndsLiteral rest → Says rest said → Says (literal_text value ++ rest) (literal_said value ++ said)
+says-literal values.Null rest said fits ends more = says-keyword (codes "NULL") rest KNull said null-word ends.0 more
+says-literal (values.Int number) rest said fits ends more = says-number number rest said fits ends.0 more
+says-literal (values.Text text) rest said fits ends more = says-quoted text rest said ends.1 more
+says-literal (values.Day day) rest said fits ends more = says-day day rest said fits ends.1 more
+
+pub literal-is : (value : Value) (rest : Kinds) → IsLiteral (literal_said value ++ rest) value rest
+literal-is values.Null rest = literals.null
+literal-is (values.Int number) rest = literals.number
+literal-is (values.Text text) rest = literals.quoted
+literal-is (values.Day day) rest = literals.day

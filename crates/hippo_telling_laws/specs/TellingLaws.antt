@@ -1,20 +1,25 @@
 -- What is told of an act reads back.
-use Rattle.std.specs.Prelude.{◌≡◌, Bool, true, false, List, Option, Some, Ok}
+use Rattle.std.specs.Prelude.{◌≡◌, ℕ, ◌<◌, Bool, true, false, ◌&&◌, List, map, length, nat_eq, nat_lt, bytes_eq, Option, Some, None, Ok}
+use Rattle.std.specs.List.{list_all}
 use Rattle.hippo_values.specs.Texts.{Txt}
+use Rattle.hippo_values.specs.declared.names.Name.{Name}
 use Rattle.hippo_lexer.specs.Cutting.{outcome_of}
 use Rattle.hippo_lexer.specs.Words.{words_check}
 use Rattle.hippo_lexer.specs.declared.kinds.Token.{Token}
 use Rattle.hippo_model.specs.declared.entry.Act.{Act}
-use Rattle.hippo_model.specs.declared.entry.Act.TheVariants.{Purpose, Recipient, Item, Authorize, Deauthorize, Choice}
+use Rattle.hippo_model.specs.declared.entry.Act.TheVariants.{Insert, Delete, Purpose, Recipient, Item, Authorize, Deauthorize, Allow, Revoke, Choice}
+use Rattle.hippo_model.specs.declared.schema.Column.{Column}
 use Rattle.hippo_model.specs.declared.schema.Schema.{Schema}
 use Rattle.hippo_model.specs.declared.statement.Stmt.{Stmt}
 use Rattle.hippo_model.specs.declared.statement.Wanted.{Wanted}
-use Rattle.hippo_model.specs.Keepable.{act_is_keepable}
-use Rattle.hippo_model.specs.Terms.{History}
+use Rattle.hippo_model.specs.Keepable.{is_folded_name, item_is_keepable, value_is_keepable, act_is_keepable}
+use Rattle.hippo_model.specs.Rows.{key_of}
+use Rattle.hippo_model.specs.Terms.{History, Key, Place, Row}
+use Rattle.hippo_model.specs.Validity.{all_differ, days_fit}
 use Rattle.hippo_stmt_reader.specs.StatementFinder.{statement_of}
-use Rattle.hippo_catalog.specs.Catalogs.{known_at}
+use Rattle.hippo_catalog.specs.Catalogs.{known_at, table_of}
 use Rattle.hippo_catalog.specs.ChangesWanted.{wanted_by}
-use Rattle.hippo_tables.specs.Finished.{finished}
+use Rattle.hippo_tables.specs.Finished.{finished, live_row, live_number}
 use Rattle.hippo_telling.specs.Telling.{told_act}
 
 -- a text is read as this statement: it has tokens, whose words pass, and they are found to be the statement
@@ -47,3 +52,44 @@ abbrev pub NamesReadBack : Type 0
 NamesReadBack =
     (history : History) (schema : Option Schema) (act : Act) → names_no_table act ≡ true → act_is_keepable act ≡ true
     → ReadsBack history schema act
+
+-- a row of at least one value, for a table that is there, whose key is not: what is told of its INSERT reads back
+abbrev pub InsertsReadBack : Type 0
+InsertsReadBack =
+    (history : History) (schema : Schema) (table : Name) (row : Row) → table_of (known_at history) table ≡ Some schema
+    → live_number history table (key_of schema.key row) ≡ None → is_folded_name table ≡ true → 0 < length row
+    → list_all value_is_keepable row ≡ true → ReadsBack history (Some schema) (Insert table row)
+
+-- a table is there after the history, with columns whose names differ and are names in lower case, and these places are
+-- those of at least one of them
+pub record NamesColumns (history : History) (schema : Schema) (table : Name) (places : List Place) : Type 0 where
+  pub known : table_of (known_at history) table ≡ Some schema
+  pub differ : all_differ bytes_eq (map (λ (column : Column). column.name) schema.columns) ≡ true
+  pub columns_named : list_all (λ (column : Column). is_folded_name column.name) schema.columns ≡ true
+  pub some : 0 < length places
+  pub within : list_all (λ (place : Place). nat_lt place (length schema.columns)) places ≡ true
+
+-- what is told of a REVOKE reads back
+abbrev pub RevokesReadBack : Type 0
+RevokesReadBack =
+    (history : History) (schema : Schema) (purpose recipient table : Name) (places : List Place)
+    → NamesColumns history schema table places
+    → (is_folded_name purpose && is_folded_name recipient && is_folded_name table) ≡ true
+    → ReadsBack history (Some schema) (Revoke purpose recipient table places)
+
+-- and so does what is told of an ALLOW
+abbrev pub AllowsReadBack : Type 0
+AllowsReadBack =
+    (history : History) (schema : Schema) (purpose recipient table : Name) (places : List Place) (item : Option Name)
+    (days : Option ℕ) → NamesColumns history schema table places
+    → (is_folded_name purpose && is_folded_name recipient && is_folded_name table) ≡ true
+    → item_is_keepable item ≡ true → days_fit days ≡ true
+    → ReadsBack history (Some schema) (Allow purpose recipient table places item days)
+
+-- a key of a row that is there, for a table whose key's columns differ: what is told of its DELETE reads back
+abbrev pub DeletesReadBack : Type 0
+DeletesReadBack =
+    (history : History) (schema : Schema) (table : Name) (key : Key) (row : Row)
+    → NamesColumns history schema table schema.key → all_differ nat_eq schema.key ≡ true → is_folded_name table ≡ true
+    → length schema.key ≡ length key → list_all value_is_keepable key ≡ true → live_row history table key ≡ Some row
+    → ReadsBack history (Some schema) (Delete table key)
