@@ -1,5 +1,5 @@
 -- The kept entries, read piece by piece and shown.
-use Rattle.std.proofs.Common.{◌≡◌, ◌≢◌, ◌∙◌, ◌×◌, ℕ, ◌+◌, ◌<◌, ◌≤◌, Bool, true, false, not, List, [], ◌∷◌, ◌++◌, length, take, drop, cond, Option, Some, None, Result, Ok, Err, refl, sym, ap, subst, append_assoc, arith}
+use Rattle.std.proofs.Common.{◌≡◌, ◌≢◌, ◌∙◌, ℕ, ◌+◌, ◌^◌, ◌<◌, ◌≤◌, Bool, true, false, not, List, [], ◌∷◌, ◌++◌, length, take, drop, cond, Option, Some, None, Result, Ok, Err, refl, sym, ap, subst, append_assoc, arith}
 use Rattle.std.proofs.lemmas.Bool.{false≢true}
 use Rattle.std.proofs.lemmas.List.{append-nil, take-append-drop}
 use Rattle.std.proofs.lemmas.Option.{same_Some}
@@ -70,10 +70,10 @@ module _ (known : KnownNames) (excerpt : Excerpt) (max number : ℕ) (before aft
 
   -- a piece was shown
   pub ShowsNext-piece : (result : Option Ending) (number' : ℕ) (clock clock' : Option Moment) (written written' : Option Txt) (faults faults' : ℕ)
-      → ¬ (piece ≡ []) → ShowsKept known excerpt piece result clock clock' written written' faults faults'
+      → number < 2 ^ 64 → ¬ (piece ≡ []) → ShowsKept known excerpt piece result clock clock' written written' faults faults'
       → (result ≡ None → number' ≡ last_number number piece)
       → ShowsNext known excerpt result before after number number' clock clock' written written' faults faults' steps steps'
-  ShowsNext-piece result number' clock clock' written written' faults faults' some shows last =
+  ShowsNext-piece result number' clock clock' written written' faults faults' room some shows last =
       let may = cuts_so result shows.ends in
       record {
         call = IsAfterCall-as true false (Ok piece) (as_part result) before after may.fine reads.call;
@@ -83,7 +83,7 @@ module _ (known : KnownNames) (excerpt : Excerpt) (max number : ℕ) (before aft
         shows = subst (λ (r : Option Ending). ShowsKept known excerpt piece r clock clock' written written' faults faults') (sym may.same) shows;
         steps = counted;
         last = last;
-        more = λ on. subst (λ (n : ℕ). number < n) (sym (last on)) (last_above number piece reads.ok.order some);
+        more = λ on. (subst (λ (n : ℕ). number < n) (sym (last on)) (last_above number piece reads.ok.order some), room);
         told = λ tells read rest upto. (drop max rest, behind tells read rest upto);
         nothing = λ e. absurd (may.unended e);
         ended = λ e. absurd (may.unended e);

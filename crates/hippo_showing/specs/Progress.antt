@@ -1,5 +1,5 @@
 -- What showing kept entries one after the other comes to.
-use Rattle.std.specs.Prelude.{◌≡◌, ◌≢◌, ℕ, ◌+◌, ◌<◌, ◌≤◌, true, false, [], ◌∷◌, ◌++◌, map, Option, Some, None, Ok}
+use Rattle.std.specs.Prelude.{◌≡◌, ◌≢◌, ℕ, ◌+◌, ◌^◌, ◌<◌, ◌≤◌, true, false, [], ◌∷◌, ◌++◌, map, Option, Some, None, Ok}
 use Rattle.std.specs.List.{list_all}
 use Rattle.hippo_values.specs.Texts.{Txt}
 use Rattle.hippo_values.specs.declared.moments.Moment.{Moment}
@@ -65,7 +65,7 @@ pub record ShowsNext (known : KnownNames) (excerpt : Excerpt) (result : Option E
   pub shows : ShowsKept known excerpt piece (cut_of result) clock clock' written written' faults faults'
   pub steps : ticks' ≡ ticks + stored_versions piece
   pub last : result ≡ None → number' ≡ last_number number piece
-  pub more : result ≡ None → number < number'
+  pub more : result ≡ None → (number < number') × (number < 2 ^ 64)
   pub told : after.tells → (read rest : Store) → IsReadUpTo number before read rest
       → ((behind : Store) × (rest ≡ piece ++ behind))
   pub nothing : result ≡ Some Shown → piece ≡ []

@@ -1,5 +1,5 @@
 -- Piece by piece, until the program ends.
-use Rattle.std.proofs.Common.{Some}
+use Rattle.std.proofs.Common.{◌<◌, ◌^◌, arith}
 use Rattle.hippo_showing.proofs.ReadingLemmas.{IsShowing-first, IsShowing-on, ShowsAll-end, showing_ready}
 use Rattle.hippo_showing.proofs.showing.show_all.Goals as goal
 
@@ -27,3 +27,9 @@ returns-in-Some g c = record {
       (g.K.Sink.written c.args.sink.now) (g.K.Sink.written c.loop-ending.sink) (g.K.Sink.written c.show_next.new.sink) (g.K.Sink.faults c.args.sink.now) (g.K.Sink.faults c.loop-ending.sink) (g.K.Sink.faults c.show_next.new.sink)
       c.args.steps.now c.loop-ending.steps c.show_next.new.steps c.loop-ending.invariant c.requires.order c.in-Some.ending (rw c.in-Some.is at c.show_next.ensures.shows);
 }
+
+pub loop-ending-smaller : goal.loop-ending-smaller
+loop-ending-smaller g c =
+    let more : c.loop-ending.progress.number < c.show_next.new.progress.number = (c.show_next.ensures.shows.more c.in-None.is).0 in
+    let room : c.loop-ending.progress.number < 2 ^ 64 = (c.show_next.ensures.shows.more c.in-None.is).1 in
+    omega (arith, more, room)
