@@ -1,0 +1,6 @@
+mod WriteLemmas
+mod EntryLemmas
+mod KeptLemmas
+mod ReadingLemmas
+mod OutcomeLemmas
+mod StatusLemmas

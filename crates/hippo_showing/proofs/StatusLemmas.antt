@@ -1,0 +1,69 @@
+-- Each status is that of one ending.
+use Rattle.std.proofs.Common.{◌≡◌, ◌≢◌, ◌⊎◌, ◌∙◌, ℕ, Bool, true, false, ◌∷◌, [], Any, Option, Some, arith, refl, sym, ap, subst}
+use Rattle.std.proofs.lemmas.Option.{same_Some}
+use Rattle.hippo_values.specs.Texts.{Txt}
+use Rattle.hippo_io.specs.Faults.{HasRisen}
+use Rattle.hippo_keeper.specs.Keeping.{KeeperState, IsAfterCall}
+use Rattle.hippo_showing.specs.declared.asking.Call.{Call}
+use Rattle.hippo_showing.specs.declared.asking.Excerpt.{Excerpt}
+use Rattle.hippo_showing.specs.declared.endings.Ending.{Ending}
+use Rattle.hippo_showing.specs.declared.endings.Ending.TheVariants.{Shown, Refused, KeeperFault, WriteFault, Damaged, NoMemory}
+use Rattle.hippo_showing.specs.Endings.{status_of, as_call}
+use Rattle.hippo_showing.specs.Saying.{CountsWrites}
+use Rattle.hippo_showing.specs.Outcomes.{IsIdle, SaysDamaged, BeginsDamaged, ShowsExcerpt, BeginsExcerpt, Ends}
+
+-- an ending's status is one of six
+pub status-listed : (ending : Ending) (status : ℕ) → status ≡ status_of ending → Any (λ listed. status ≡ listed) (0 ∷ 2 ∷ 3 ∷ 5 ∷ 6 ∷ 7 ∷ [])
+status-listed Shown status e = (0, 0, omega arith, refl, e)
+status-listed Refused status e = (1, 2, omega arith, refl, e)
+status-listed KeeperFault status e = (2, 3, omega arith, refl, e)
+status-listed WriteFault status e = (3, 5, omega arith, refl, e)
+status-listed Damaged status e = (4, 6, omega arith, refl, e)
+status-listed NoMemory status e = (5, 7, omega arith, refl, e)
+
+-- what showing comes to, by its status
+module _ (excerpt : Excerpt) (name : Txt) (before after : KeeperState) (written written' : Option Txt) (unwritten : Type 0) where
+  abbrev pub ByStatus : ℕ → Type 0
+  ByStatus status = (status ≡ 0 → ShowsExcerpt excerpt name before after written written')
+      × (status ≡ 3 → (unwritten × IsIdle name before after) ⊎ BeginsExcerpt excerpt name before after written written')
+      × (status ≡ 5 → BeginsDamaged name before after written written' ⊎ BeginsExcerpt excerpt name before after written written')
+      × (status ≡ 6 → SaysDamaged name before after written written')
+      × (status ≡ 7 → (unwritten × IsIdle name before after) ⊎ BeginsExcerpt excerpt name before after written written')
+
+  pub by_status : (ending : Ending) → Ends ending unwritten excerpt name before after written written' → ByStatus (status_of ending)
+  by_status Shown ends = (λ e. ends, λ e. absurd (omega (arith, e)), λ e. absurd (omega (arith, e)), λ e. absurd (omega (arith, e)), λ e. absurd (omega (arith, e)))
+  by_status Refused ends = absurd ends
+  by_status KeeperFault ends = (λ e. absurd (omega (arith, e)), λ e. ends, λ e. absurd (omega (arith, e)), λ e. absurd (omega (arith, e)), λ e. absurd (omega (arith, e)))
+  by_status WriteFault ends = (λ e. absurd (omega (arith, e)), λ e. absurd (omega (arith, e)), λ e. ends, λ e. absurd (omega (arith, e)), λ e. absurd (omega (arith, e)))
+  by_status Damaged ends = (λ e. absurd (omega (arith, e)), λ e. absurd (omega (arith, e)), λ e. absurd (omega (arith, e)), λ e. ends, λ e. absurd (omega (arith, e)))
+  by_status NoMemory ends = (λ e. absurd (omega (arith, e)), λ e. absurd (omega (arith, e)), λ e. absurd (omega (arith, e)), λ e. absurd (omega (arith, e)), λ e. ends)
+
+-- what was found in the words is what they ask for
+pub as_asked : (P : Excerpt → Txt → Type 0) (found call : Call) (store : Txt) → Some found ≡ Some call → store ≡ found.store → P found.excerpt store → P call.excerpt call.store
+as_asked P found call store same is holds = subst (λ (c : Call). P c.excerpt c.store) (same_Some found call same) (subst (P found.excerpt) is holds)
+
+-- faults by the status
+module _ (ending : Ending) (status : ℕ) (is : status ≡ status_of ending) where
+  pub write_faults : (faults faults' : ℕ) → CountsWrites (Some ending) faults faults' → (status ≡ 5 → HasRisen faults faults') × (status ≢ 5 → faults' ≡ faults)
+  write_faults faults faults' writes = (λ e. writes.cause (ap Some (of_5 ending (sym is ∙ e))), λ other. writes.unfailed (λ e. other (is ∙ ap status_of (same_Some ending WriteFault e))))
+    where
+      of_5 : (ending : Ending) → status_of ending ≡ 5 → ending ≡ WriteFault
+      of_5 WriteFault e = refl
+      of_5 Shown e = absurd (omega (arith, e))
+      of_5 Refused e = absurd (omega (arith, e))
+      of_5 KeeperFault e = absurd (omega (arith, e))
+      of_5 Damaged e = absurd (omega (arith, e))
+      of_5 NoMemory e = absurd (omega (arith, e))
+
+  pub keeper_faults : (started closed : Bool) (before after : KeeperState) → IsAfterCall started closed (as_call ending) before after
+      → (status ≡ 3 → HasRisen before.faults after.faults × (after.spent ≡ true)) × (status ≢ 3 → (after.faults ≡ before.faults) × (after.spent ≡ false))
+  keeper_faults started closed before after call = by_ending ending is call
+    where
+      by_ending : (ending : Ending) → status ≡ status_of ending → IsAfterCall started closed (as_call ending) before after
+          → (status ≡ 3 → HasRisen before.faults after.faults × (after.spent ≡ true)) × (status ≢ 3 → (after.faults ≡ before.faults) × (after.spent ≡ false))
+      by_ending KeeperFault is call = (λ e. (call.faults.cause refl, call.spent_is), λ other. absurd (other is))
+      by_ending Shown is call = (λ e. absurd (omega (arith, is, e)), λ other. (call.faults.unfailed refl, call.spent_is))
+      by_ending Refused is call = (λ e. absurd (omega (arith, is, e)), λ other. (call.faults.unfailed refl, call.spent_is))
+      by_ending WriteFault is call = (λ e. absurd (omega (arith, is, e)), λ other. (call.faults.unfailed refl, call.spent_is))
+      by_ending Damaged is call = (λ e. absurd (omega (arith, is, e)), λ other. (call.faults.unfailed refl, call.spent_is))
+      by_ending NoMemory is call = (λ e. absurd (omega (arith, is, e)), λ other. (call.faults.unfailed refl, call.spent_is))

@@ -1,0 +1,91 @@
+-- The command line: which words the program takes, and what they ask for.
+use Rattle.std.specs.Prelude.{ℕ, Bool, true, false, not, ◌&&◌, ◌||◌, List, [], ◌∷◌, Option, Some, None, is_some, option_map, unwrap_or, if◌then◌else◌, codes, bytes_eq}
+use Rattle.std.specs.Option.{option_map_or}
+use Rattle.std.specs.Str.Parse.{digits_value, without_leading_plus}
+use Rattle.clap.specs.Words.{App, Rule, Row, new_rule, first_of, matches_of, fault_of}
+use Rattle.clap.specs.Simple.{new_shape}
+use Rattle.clap.specs.Walk.{is_empty}
+use Rattle.clap.specs.declared.builder.action.ArgAction.TheVariants.{SetTrue}
+use Rattle.clap.specs.declared.builder.value_parser.ValueParser.TheVariants.{Unsigned}
+use Rattle.hippo_values.specs.Texts.{Txt}
+use Rattle.hippo_values.specs.Names.{name_of}
+use Rattle.hippo_showing.specs.declared.asking.Call.{Call}
+use Rattle.hippo_showing.specs.declared.asking.Excerpt.{Excerpt}
+use Rattle.hippo_showing.specs.declared.asking.Form.{Form}
+use Rattle.hippo_showing.specs.declared.asking.Form.TheVariants.{Listing, Script}
+use Rattle.hippo_showing.specs.declared.asking.Scope.{Scope}
+use Rattle.hippo_showing.specs.declared.asking.Scope.TheVariants.{Whole, Table}
+
+-- an argument that is written behind its name, as a text or as the number of an entry; and one that is a name alone
+abbrev pub text_option : Txt → Rule
+text_option name = record (new_rule name) { long = Some name }
+
+abbrev pub number_option : Txt → Rule
+number_option name = record (text_option name) { parser = Some (Unsigned 1 4000000) }
+
+abbrev pub flag : Txt → Rule
+flag name = record (text_option name) { action = Some SetTrue }
+
+abbrev pub store_option : Rule
+store_option = record (text_option (codes "store")) { required = true }
+
+-- the command, as clap is told of it
+abbrev pub command_line : App
+command_line = record {
+  top = record (new_shape (codes "hippo_history")) {
+    rules = store_option ∷ number_option (codes "entry") ∷ number_option (codes "from") ∷ number_option (codes "to")
+        ∷ text_option (codes "table") ∷ flag (codes "script") ∷ [];
+    no_binary_name = true;
+    disable_help_flag = true;
+  };
+  subs = [];
+}
+
+-- the number that is written, or another one where nothing is
+abbrev pub number_or : ℕ → Option Txt → ℕ
+number_or otherwise written = option_map_or (λ text. digits_value 10 (without_leading_plus text)) written otherwise
+
+-- whether a name that stands alone was written
+abbrev pub is_on : Txt → List Row → Bool
+is_on name rows = option_map_or (λ text. bytes_eq text (codes "true")) (first_of name rows) false
+
+-- one entry alone, or those from one number to another
+abbrev pub first_in : List Row → ℕ
+first_in rows = number_or (number_or 1 (first_of (codes "from") rows)) (first_of (codes "entry") rows)
+
+abbrev pub last_in : List Row → ℕ
+last_in rows = number_or (number_or 4000000 (first_of (codes "to") rows)) (first_of (codes "entry") rows)
+
+-- one entry goes with no end of a stretch
+abbrev pub has_end : List Row → Bool
+has_end rows = is_some (first_of (codes "from") rows) || is_some (first_of (codes "to") rows)
+
+abbrev pub fits : List Row → Bool
+fits rows = not (is_some (first_of (codes "entry") rows) && has_end rows)
+
+-- the table whose entries are shown; a word that is no name is none
+abbrev pub scope_of : Option Txt → Option Scope
+scope_of None = Some Whole
+scope_of (Some word) = option_map Table (name_of word)
+
+abbrev pub form_in : List Row → Form
+form_in rows = if is_on (codes "script") rows then Script else Listing
+
+abbrev pub excerpt_in : List Row → Scope → Excerpt
+excerpt_in rows scope = record { first = first_in rows; last = last_in rows; scope = scope; form = form_in rows }
+
+abbrev pub call_with : List Row → Scope → Call
+call_with rows scope = record { store = unwrap_or (first_of (codes "store") rows) []; excerpt = excerpt_in rows scope }
+
+-- what is asked for by words that the command takes
+abbrev pub asked_in : List Row → Option Call
+asked_in rows =
+    if fits rows then option_map (call_with rows) (scope_of (first_of (codes "table") rows)) else None
+
+-- whether the command takes the words: it finds no fault in them
+abbrev pub is_taken : List Txt → Bool
+is_taken words = is_empty (fault_of command_line words)
+
+-- what the words of a call ask for, if anything
+unfoldable pub asked_of : List Txt → Option Call
+asked_of words = if is_taken words then asked_in (matches_of command_line words) else None

@@ -1,0 +1,42 @@
+-- How a call of the program ends, as a status and as one call of its keeper.
+use Rattle.std.specs.Prelude.{ℕ, Bool, true, false, Option, Some, None, Result, Ok, Err}
+use Rattle.hippo_keeper.specs.declared.faults.KeeperFault.{KeeperFault as Fault}
+use Rattle.hippo_keeper.specs.declared.faults.KeeperFault.TheVariants as faults
+use Rattle.hippo_showing.specs.declared.endings.Ending.{Ending}
+use Rattle.hippo_showing.specs.declared.endings.Ending.TheVariants.{Shown, Refused, KeeperFault, WriteFault, Damaged, NoMemory}
+
+abbrev pub status_of : Ending → ℕ
+status_of Shown = 0
+status_of Refused = 2
+status_of KeeperFault = 3
+status_of WriteFault = 5
+status_of Damaged = 6
+status_of NoMemory = 7
+
+-- all that a program did with its keeper, as one call of it
+abbrev pub as_call : Ending → Result (Unit {0}) Fault
+as_call KeeperFault = Err faults.Failed
+as_call ending = Ok tt
+
+abbrev pub ending_of : Fault → Ending
+ending_of faults.Failed = KeeperFault
+ending_of faults.Memory = NoMemory
+
+-- what a part did with it, where the program may end there
+abbrev pub as_part : Option Ending → Result (Unit {0}) Fault
+as_part None = Ok tt
+as_part (Some ending) = as_call ending
+
+-- whether entries that are shown may end the program so
+abbrev pub cuts : Option Ending → Bool
+cuts None = true
+cuts (Some WriteFault) = true
+cuts (Some Damaged) = true
+cuts (Some NoMemory) = true
+cuts (Some ending) = false
+
+-- where the entries that were read did not end it, as the others do
+abbrev pub cut_of : Option Ending → Option Ending
+cut_of (Some Shown) = None
+cut_of (Some KeeperFault) = None
+cut_of ending = ending

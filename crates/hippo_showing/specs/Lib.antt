@@ -1,0 +1,6 @@
+pub mod CommandLine
+pub mod Endings
+pub mod Saying
+pub mod Showing
+pub mod Progress
+pub mod Outcomes

@@ -1,0 +1,33 @@
+-- What the program writes of its own, and what a write comes to.
+use Rattle.std.specs.Prelude.{◌≡◌, ◌≢◌, ◌⊎◌, ℕ, ◌++◌, Option, Some, None, codes, decimal}
+use Rattle.hippo_values.specs.Texts.{Txt}
+use Rattle.hippo_io.specs.Faults.{HasRisen}
+use Rattle.hippo_io.specs.Told.{Appends, AppendsFront}
+use Rattle.hippo_showing.specs.declared.endings.Ending.{Ending}
+use Rattle.hippo_showing.specs.declared.endings.Ending.TheVariants.{WriteFault, NoMemory}
+
+-- how the program is called
+unfoldable pub usage : Txt
+usage = codes "usage: hippo_history --store NAME [--entry N | [--from N] [--to N]] [--table NAME] [--script]\n"
+
+-- at which place the kept entries are damaged
+abbrev pub damaged_line : ℕ → Txt
+damaged_line place = codes "damaged " ++ (decimal place ++ codes "\n")
+
+-- a line is written, and the program ends so; or a front of it is, and the sink failed
+abbrev pub Says : Ending → Txt → Ending → Option Txt → Option Txt → ℕ → ℕ → Type 0
+Says ending line result before after faults faults' =
+    ((result ≡ ending) × Appends before after line × (faults' ≡ faults))
+    ⊎ ((result ≡ WriteFault) × AppendsFront before after line × HasRisen faults faults')
+
+-- a text is written; or a front of it is, and the sink failed; or memory was short, and nothing is
+abbrev pub Writes : Txt → Option Ending → Option Txt → Option Txt → ℕ → ℕ → Type 0
+Writes text None before after faults faults' = Appends before after text × (faults' ≡ faults)
+Writes text (Some WriteFault) before after faults faults' = AppendsFront before after text × HasRisen faults faults'
+Writes text (Some NoMemory) before after faults faults' = (after ≡ before) × (faults' ≡ faults)
+Writes text (Some ending) before after faults faults' = ⊥
+
+-- the sink's count rose where the program ends by its fault, and only there
+pub record CountsWrites (result : Option Ending) (faults faults' : ℕ) : Type 0 where
+  pub cause : result ≡ Some WriteFault → HasRisen faults faults'
+  pub unfailed : result ≢ Some WriteFault → faults' ≡ faults

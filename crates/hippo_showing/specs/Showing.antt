@@ -1,0 +1,100 @@
+-- What is shown of a history: the entries that are asked for, each as the statement that made it.
+use Rattle.std.specs.Prelude.{ℕ, Bool, true, false, ◌&&◌, List, [], ◌∷◌, ◌++◌, nat_le, Option, Some, None, option_and_then, if◌then◌else◌, codes, bytes_eq}
+use Rattle.std.specs.List.{list_any}
+use Rattle.std.specs.Option.{option_map_or}
+use Rattle.std.specs.Ordering.{int_eq}
+use Rattle.hippo_values.specs.Dates.{moment_text}
+use Rattle.hippo_values.specs.Texts.{Txt}
+use Rattle.hippo_values.specs.declared.moments.Moment.{Moment}
+use Rattle.hippo_values.specs.declared.names.Name.{Name}
+use Rattle.hippo_model.specs.declared.entry.Act.{Act}
+use Rattle.hippo_model.specs.declared.entry.Act.TheVariants.{Create, Insert, Update, Delete, Allow, Revoke, Asked}
+use Rattle.hippo_model.specs.declared.entry.Entry.{Entry}
+use Rattle.hippo_model.specs.declared.schema.Schema.{Schema}
+use Rattle.hippo_model.specs.Terms.{History}
+use Rattle.hippo_catalog.specs.Catalogs.{KnownNames, known_at, table_of}
+use Rattle.hippo_typing.specs.Meanings.{meaning_in}
+use Rattle.hippo_telling.specs.Telling.{told_act, table_named, entry_line}
+use Rattle.hippo_showing.specs.declared.asking.Excerpt.{Excerpt}
+use Rattle.hippo_showing.specs.declared.asking.Form.{Form}
+use Rattle.hippo_showing.specs.declared.asking.Form.TheVariants.{Listing, Script}
+use Rattle.hippo_showing.specs.declared.asking.Scope.{Scope}
+use Rattle.hippo_showing.specs.declared.asking.Scope.TheVariants.{Whole, Table}
+
+-- whether a text is a question that names this table in FROM
+abbrev pub asks : KnownNames → Name → Txt → Bool
+asks known table text = option_map_or (λ query. list_any (bytes_eq table) query.tables) (meaning_in known text) false
+
+-- whether an act speaks of a table: it creates it, changes a row of it, rules over it or asks it
+abbrev pub speaks_of : KnownNames → Name → Act → Bool
+speaks_of known table (Create schema) = bytes_eq table schema.name
+speaks_of known table (Insert name row) = bytes_eq table name
+speaks_of known table (Update name row) = bytes_eq table name
+speaks_of known table (Delete name key) = bytes_eq table name
+speaks_of known table (Allow purpose recipient name columns item days) = bytes_eq table name
+speaks_of known table (Revoke purpose recipient name columns) = bytes_eq table name
+speaks_of known table (Asked user purpose recipient text) = asks known table text
+speaks_of known table act = false
+
+abbrev pub is_within : KnownNames → Scope → Act → Bool
+is_within known Whole act = true
+is_within known (Table table) act = speaks_of known table act
+
+-- whether an entry is asked for
+abbrev pub is_asked : KnownNames → Excerpt → Entry → Bool
+is_asked known excerpt entry =
+    nat_le excerpt.first entry.seq && nat_le entry.seq excerpt.last && is_within known excerpt.scope entry.act
+
+-- the schema of the table that an act names
+abbrev pub schema_named : KnownNames → Act → Option Schema
+schema_named known act = option_and_then (table_of known) (table_named act)
+
+-- a line of the console, and those of a session that asks one question
+abbrev pub console_lines : Txt → Txt
+console_lines statement = codes "0 " ++ (statement ++ codes "\n")
+
+abbrev pub session_lines : Name → Name → Name → Txt → Txt
+session_lines user purpose recipient text =
+    codes "1 login " ++ (user ++ (codes " " ++ (purpose ++ (codes " " ++ (recipient
+    ++ (codes "\n1 " ++ (text ++ codes "\n1 logout\n")))))))
+
+-- the lines that make an act again
+abbrev pub act_lines : KnownNames → Act → Txt
+act_lines known (Asked user purpose recipient text) = session_lines user purpose recipient text
+act_lines known act = console_lines (told_act (schema_named known act) act)
+
+-- whether the clock stands at a moment
+abbrev pub stands_at : Option Moment → Moment → Bool
+stands_at clock moment = option_map_or (λ set. int_eq set moment) clock false
+
+-- the clock is set where it does not stand so
+abbrev pub clock_line : Option Moment → Moment → Txt
+clock_line clock moment =
+    if stands_at clock moment then [] else codes "at " ++ (moment_text moment ++ codes "\n")
+
+-- an entry as it is shown, where the entry that was shown last had this moment
+abbrev pub shown_as : KnownNames → Form → Option Moment → Entry → Txt
+shown_as known Listing clock entry = entry_line (schema_named known entry.act) entry
+shown_as known Script clock entry = clock_line clock entry.moment ++ act_lines known entry.act
+
+abbrev pub entry_shown : KnownNames → Excerpt → Option Moment → Entry → Txt
+entry_shown known excerpt clock entry =
+    if is_asked known excerpt entry then shown_as known excerpt.form clock entry else []
+
+abbrev pub clock_after : KnownNames → Excerpt → Option Moment → Entry → Option Moment
+clock_after known excerpt clock entry = if is_asked known excerpt entry then Some entry.moment else clock
+
+-- entries one after the other
+abbrev pub entries_shown : KnownNames → Excerpt → Option Moment → History → Txt
+entries_shown known excerpt clock [] = []
+entries_shown known excerpt clock (entry ∷ later) =
+    entry_shown known excerpt clock entry ++ entries_shown known excerpt (clock_after known excerpt clock entry) later
+
+abbrev pub clock_at_end : KnownNames → Excerpt → Option Moment → History → Option Moment
+clock_at_end known excerpt clock [] = clock
+clock_at_end known excerpt clock (entry ∷ later) =
+    clock_at_end known excerpt (clock_after known excerpt clock entry) later
+
+-- the excerpt of a history
+abbrev pub shown : Excerpt → History → Txt
+shown excerpt history = entries_shown (known_at history) excerpt None history

@@ -1,0 +1,17 @@
+//! What a store keeps, entry by entry as a person reads it: the command line, and the top call.
+#![tactic(auto)]
+
+mod arguments;
+mod asking;
+mod endings;
+mod lines;
+mod printing;
+mod reading;
+mod scope;
+mod showing;
+mod top;
+
+pub use asking::{Call, Excerpt, Form, Scope};
+pub use endings::Ending;
+pub use reading::asked_of;
+pub use top::history_top;

@@ -1,0 +1,144 @@
+//! The lines of one entry.
+ghost use Rattle.std.specs.Prelude.{◌≡◌, ◌++◌, option_copied, OnOk, codes};
+ghost use Rattle.hippo_values.specs.Dates.{moment_text};
+ghost use Rattle.hippo_telling.specs.Telling.{told_act};
+ghost use Rattle.hippo_showing.specs.Showing.{schema_named, console_lines, session_lines, act_lines, stands_at, clock_line, shown_as};
+
+use crate::asking::Form;
+use hippo_catalog::Catalog;
+use hippo_model::{Act, Entry, Schema};
+use hippo_telling::{entry_line, table_named, tell_act};
+use hippo_values::{Memory, Moment, Name, Txt, moment_text};
+use std::alloc::Global;
+
+// The schema of the table that an act names.
+fn schema_named<'a>(catalog: &'a Catalog, act: &Act) -> Option<&'a Schema>
+    ensures { option_copied result ≡ schema_named catalog.now.names act.now }
+{
+    match table_named(act) {
+        None => None,
+        Some(table) => catalog.table(table),
+    }
+}
+
+fn append_moment(moment: &Moment, out: &mut Txt) -> Result<(), Memory>
+    ensures { OnOk result (out.new ≡ out.old ++ moment_text moment.now) }
+{
+    match str::from_utf8(&moment_text(*moment)) {
+        Ok(text) => out.append(text),
+        Err(_) => unreachable!(),
+    }
+}
+
+// Whether the clock stands at a moment.
+fn stands_at(clock: &Option<Moment>, moment: &Moment) -> bool
+    ensures { result ≡ stands_at clock.now moment.now }
+{
+    match clock {
+        None => false,
+        Some(set) => set.seconds() == moment.seconds(),
+    }
+}
+
+// A line that sets the clock.
+fn append_at(moment: &Moment, out: &mut Txt) -> Result<(), Memory>
+    ensures { OnOk result (out.new ≡ out.old ++ (codes "at " ++ (moment_text moment.now ++ codes "\n"))) }
+{
+    out.append("at ")?;
+    append_moment(moment, out)?;
+    out.append("\n")
+}
+
+// A line that sets the clock where it does not stand so.
+fn append_clock(clock: &Option<Moment>, moment: &Moment, out: &mut Txt) -> Result<(), Memory>
+    ensures { OnOk result (out.new ≡ out.old ++ clock_line clock.now moment.now) }
+{
+    if stands_at(clock, moment) {
+        Ok(())
+    } else {
+        append_at(moment, out)
+    }
+}
+
+fn append_console(alloc: Global, catalog: &Catalog, act: &Act, out: &mut Txt) -> Result<(), Memory>
+    ensures { OnOk result (out.new
+        ≡ out.old ++ console_lines (told_act (schema_named catalog.now.names act.now) act.now)) }
+{
+    out.append("0 ")?;
+    tell_act(alloc, schema_named(catalog, act), act, out)?;
+    out.append("\n")
+}
+
+fn append_login(user: &Name, purpose: &Name, recipient: &Name, out: &mut Txt) -> Result<(), Memory>
+    ensures { OnOk result (out.new
+        ≡ out.old ++ (codes "1 login " ++ (user.now ++ (codes " " ++ (purpose.now ++ (codes " " ++ recipient.now)))))) }
+{
+    out.append("1 login ")?;
+    out.append(user.as_str())?;
+    out.append(" ")?;
+    out.append(purpose.as_str())?;
+    out.append(" ")?;
+    out.append(recipient.as_str())
+}
+
+// The lines of a session that asks one question.
+fn append_session(
+    user: &Name,
+    purpose: &Name,
+    recipient: &Name,
+    text: &Txt,
+    out: &mut Txt,
+) -> Result<(), Memory>
+    ensures { OnOk result (out.new ≡ out.old ++ session_lines user.now purpose.now recipient.now text.now) }
+{
+    append_login(user, purpose, recipient, out)?;
+    out.append("\n1 ")?;
+    out.append(text.as_str())?;
+    out.append("\n1 logout\n")
+}
+
+// The lines that make an act again.
+fn append_act(alloc: Global, catalog: &Catalog, act: &Act, out: &mut Txt) -> Result<(), Memory>
+    ensures { OnOk result (out.new ≡ out.old ++ act_lines catalog.now.names act.now) }
+{
+    match act {
+        Act::Asked {
+            user,
+            purpose,
+            recipient,
+            text,
+        } => append_session(user, purpose, recipient, text, out),
+        _ => append_console(alloc, catalog, act, out),
+    }
+}
+
+fn append_script(
+    alloc: Global,
+    catalog: &Catalog,
+    clock: &Option<Moment>,
+    entry: &Entry,
+    out: &mut Txt,
+) -> Result<(), Memory>
+    ensures { OnOk result (out.new
+        ≡ out.old ++ (clock_line clock.now entry.now.moment ++ act_lines catalog.now.names entry.now.act)) }
+{
+    append_clock(clock, &entry.moment, out)?;
+    append_act(alloc, catalog, &entry.act, out)
+}
+
+/// Adds an entry as it is shown, where the entry that was shown last had this moment.
+pub(crate) fn append_shown(
+    alloc: Global,
+    catalog: &Catalog,
+    form: Form,
+    clock: &Option<Moment>,
+    entry: &Entry,
+    out: &mut Txt,
+) -> Result<(), Memory>
+    ensures { OnOk result (out.new ≡ out.old ++ shown_as catalog.now.names form clock.now entry.now) }
+{
+    match form {
+        Form::Listing => entry_line(alloc, schema_named(catalog, &entry.act), entry, out),
+        Form::Script => append_script(alloc, catalog, clock, entry, out),
+    }
+}

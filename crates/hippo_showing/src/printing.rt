@@ -1,0 +1,61 @@
+//! What the program writes of its own, and the write of a text.
+ghost use Rattle.std.specs.Prelude.{◌≡◌, ◌++◌, OnOk, OnErr, codes, decimal};
+ghost use Rattle.hippo_io.specs.Faults.{HasRisen};
+ghost use Rattle.hippo_io.specs.Told.{Appends, AppendsFront};
+ghost use Rattle.hippo_showing.specs.declared.endings.Ending.TheVariants.{Refused, Damaged};
+ghost use Rattle.hippo_showing.specs.Saying.{usage, damaged_line, Says, Writes};
+
+use crate::endings::Ending;
+use hippo_io::{Failed, Sink, write_whole};
+use itoa::Buffer;
+
+const USAGE: &str =
+    "usage: hippo_history --store NAME [--entry N | [--from N] [--to N]] [--table NAME] [--script]\n";
+
+// Writes words, a number and a line feed.
+fn write_numbered<K: Sink>(sink: &mut K, words: &str, number: u64) -> Result<(), Failed>
+    ensures ok { OnOk result (Appends (K.written sink.old) (K.written sink.new)
+        (words.now ++ (decimal number ++ codes "\n"))) }
+    ensures failed { OnErr result (AppendsFront (K.written sink.old) (K.written sink.new)
+        (words.now ++ (decimal number ++ codes "\n"))) }
+    ensures cause { OnErr result (HasRisen (K.faults sink.old) (K.faults sink.new)) }
+    ensures unfailed { OnOk result (K.faults sink.new ≡ K.faults sink.old) }
+{
+    write_whole(sink, words.as_bytes())?;
+    write_whole(sink, Buffer::new().format(number).as_bytes())?;
+    write_whole(sink, b"\n")
+}
+
+/// Writes the usage line.
+#[tactic(auto, unfolding(crate::specs::Saying::usage))]
+pub(crate) fn refuse<K: Sink>(sink: &mut K) -> Ending
+    ensures says { Says Refused usage result
+        (K.written sink.old) (K.written sink.new) (K.faults sink.old) (K.faults sink.new) }
+{
+    match write_whole(sink, USAGE.as_bytes()) {
+        Ok(()) => Ending::Refused,
+        Err(Failed) => Ending::WriteFault,
+    }
+}
+
+/// Writes at which place the kept entries are damaged.
+pub(crate) fn say_damaged<K: Sink>(sink: &mut K, place: u64) -> Ending
+    ensures says { Says Damaged (damaged_line place) result
+        (K.written sink.old) (K.written sink.new) (K.faults sink.old) (K.faults sink.new) }
+{
+    match write_numbered(sink, "damaged ", place) {
+        Ok(()) => Ending::Damaged,
+        Err(Failed) => Ending::WriteFault,
+    }
+}
+
+/// Writes the lines of an entry.
+pub(crate) fn write_lines<K: Sink>(sink: &mut K, lines: &str) -> Option<Ending>
+    ensures writes { Writes lines.now result
+        (K.written sink.old) (K.written sink.new) (K.faults sink.old) (K.faults sink.new) }
+{
+    match write_whole(sink, lines.as_bytes()) {
+        Ok(()) => None,
+        Err(Failed) => Some(Ending::WriteFault),
+    }
+}

@@ -1,0 +1,131 @@
+//! What the words of a call ask for.
+ghost use Rattle.std.specs.Prelude.{◌≡◌, codes, map, is_some, IfOk};
+ghost use Rattle.clap.specs.Words.{first_of, rows_of, found_of};
+ghost use Rattle.hippo_showing.specs.CommandLine.{first_in, last_in, has_end, fits, scope_of, form_in, excerpt_in, call_with, asked_in, asked_of};
+
+use crate::arguments::{found_in, is_on, number_or, text_of};
+use crate::asking::{Call, Excerpt, Form, Scope};
+use clap::ArgMatches;
+use hippo_values::{Memory, Name, Txt};
+use std::alloc::Global;
+
+fn is_there(matches: &ArgMatches<'_>, name: &str) -> bool
+    ensures { result ≡ is_some (first_of name.now (rows_of (found_of matches.now))) }
+{
+    text_of(matches, name).is_some()
+}
+
+fn has_end(matches: &ArgMatches<'_>) -> bool
+    ensures { result ≡ has_end (rows_of (found_of matches.now)) }
+{
+    is_there(matches, "from") || is_there(matches, "to")
+}
+
+fn fits(matches: &ArgMatches<'_>) -> bool
+    ensures { result ≡ fits (rows_of (found_of matches.now)) }
+{
+    !(is_there(matches, "entry") && has_end(matches))
+}
+
+fn first_of(matches: &ArgMatches<'_>) -> Result<u64, Memory>
+    ensures { IfOk result (λ number. number ≡ first_in (rows_of (found_of matches.now))) }
+{
+    let from = number_or(matches, "from", 1)?;
+    number_or(matches, "entry", from)
+}
+
+fn last_of(matches: &ArgMatches<'_>) -> Result<u64, Memory>
+    ensures { IfOk result (λ number. number ≡ last_in (rows_of (found_of matches.now))) }
+{
+    let to = number_or(matches, "to", 4_000_000)?;
+    number_or(matches, "entry", to)
+}
+
+fn scope_of(alloc: Global, matches: &ArgMatches<'_>) -> Result<Option<Scope>, Memory>
+    ensures { IfOk result (λ scope. scope ≡ scope_of (first_of (codes "table") (rows_of (found_of matches.now)))) }
+{
+    match text_of(matches, "table") {
+        None => Ok(Some(Scope::Whole)),
+        Some(word) => Ok(Name::from_word(alloc, word)?.map(Scope::Table)),
+    }
+}
+
+fn form_of(matches: &ArgMatches<'_>) -> Form
+    ensures { result ≡ form_in (rows_of (found_of matches.now)) }
+{
+    if is_on(matches, "script") {
+        Form::Script
+    } else {
+        Form::Listing
+    }
+}
+
+fn excerpt_of(matches: &ArgMatches<'_>, scope: Scope) -> Result<Excerpt, Memory>
+    ensures { IfOk result (λ excerpt. excerpt ≡ excerpt_in (rows_of (found_of matches.now)) scope) }
+{
+    let first = first_of(matches)?;
+    let last = last_of(matches)?;
+    Ok(Excerpt {
+        first,
+        last,
+        scope,
+        form: form_of(matches),
+    })
+}
+
+fn call_with(alloc: Global, matches: &ArgMatches<'_>, scope: Scope) -> Result<Call, Memory>
+    ensures { IfOk result (λ call. call ≡ call_with (rows_of (found_of matches.now)) scope) }
+{
+    let excerpt = excerpt_of(matches, scope)?;
+    let store = Txt::from_str(alloc, text_of(matches, "store").unwrap_or(""))?;
+    Ok(Call { store, excerpt })
+}
+
+fn asked_with(alloc: Global, matches: &ArgMatches<'_>) -> Result<Option<Call>, Memory>
+    ensures { IfOk result (λ call. call ≡ asked_in (rows_of (found_of matches.now))) }
+{
+    if !fits(matches) {
+        return Ok(None);
+    }
+    match scope_of(alloc, matches)? {
+        None => Ok(None),
+        Some(scope) => Ok(Some(call_with(alloc, matches, scope)?)),
+    }
+}
+
+fn texts_of<'w>(alloc: Global, words: &'w [Txt]) -> Result<Vec<&'w str>, Memory>
+    ensures { IfOk result (λ texts. map (λ text. text.now) texts.items ≡ words.now) }
+{
+    let mut texts = Vec::with_capacity(alloc, words.len())?;
+    for word in words {
+        texts.push(word.as_str())?;
+    }
+    Ok(texts)
+}
+
+#[tactic(auto, unfolding(crate::specs::CommandLine::asked_of))]
+fn asked_in(alloc: Global, words: &[&str]) -> Result<Option<Call>, Memory>
+    ensures { IfOk result (λ call. call ≡ asked_of (map (λ word. word.now) words.now)) }
+{
+    match found_in(alloc, words)? {
+        None => Ok(None),
+        Some(matches) => asked_with(alloc, &matches),
+    }
+}
+
+/// What the words of a call ask for: options in any order, `--NAME VALUE` or `--NAME=VALUE`, and the store must be
+/// among them. Nothing where the command does not take them, as where a word is unknown or an option stands twice, where
+/// a number is out of its bounds or a table's name is none, or where an entry is named beside an end of a stretch. Or
+/// want of memory.
+///
+/// ```text
+/// --store clinic.db --entry 18
+/// --store clinic.db --from 10 --to 20 --table patient
+/// --store clinic.db --script
+/// ```
+pub fn asked_of(alloc: Global, words: &[Txt]) -> Result<Option<Call>, Memory>
+    ensures { IfOk result (λ call. call ≡ asked_of words.now) }
+{
+    let texts = texts_of(alloc, words)?;
+    asked_in(alloc, &texts)
+}

@@ -1,0 +1,82 @@
+//! Which entries are asked for.
+ghost use Rattle.std.specs.Prelude.{◌≡◌, ◌&&◌, nat_le, bytes_eq, IfOk};
+ghost use Rattle.std.specs.List.{list_any};
+ghost use Rattle.hippo_showing.specs.Showing.{asks, speaks_of, is_within, is_asked};
+
+use crate::asking::{Excerpt, Scope};
+use hippo_catalog::Catalog;
+use hippo_model::{Act, Entry, Query};
+use hippo_typing::read_meaning;
+use hippo_values::{Memory, Name, Txt};
+use std::alloc::Global;
+
+fn is_among(table: &Name, tables: &[Name]) -> bool
+    ensures { result ≡ list_any (bytes_eq table.now) tables.now }
+{
+    tables.iter().any(|name| table == name)
+}
+
+// Whether a query has a table; the query falls here.
+fn reads(query: Query, table: &Name) -> bool
+    ensures { result ≡ list_any (bytes_eq table.now) query.tables }
+{
+    let reads = is_among(table, query.tables.as_slice());
+    drop(query);
+    reads
+}
+
+fn asks(alloc: Global, catalog: &Catalog, table: &Name, text: &Txt) -> Result<bool, Memory>
+    ensures { IfOk result (λ asked. asked ≡ asks catalog.now.names table.now text.now) }
+{
+    match read_meaning(alloc, catalog, text.as_str()) {
+        Ok(Some(query)) => Ok(reads(query, table)),
+        Ok(None) => Ok(false),
+        Err(Memory) => Err(Memory),
+    }
+}
+
+fn speaks_of(alloc: Global, catalog: &Catalog, table: &Name, act: &Act) -> Result<bool, Memory>
+    ensures { IfOk result (λ speaks. speaks ≡ speaks_of catalog.now.names table.now act.now) }
+{
+    match act {
+        Act::Create(schema) => Ok(*table == schema.name),
+        Act::Insert { table: name, .. } => Ok(table == name),
+        Act::Update { table: name, .. } => Ok(table == name),
+        Act::Delete { table: name, .. } => Ok(table == name),
+        Act::Allow { table: name, .. } => Ok(table == name),
+        Act::Revoke { table: name, .. } => Ok(table == name),
+        Act::Asked { text, .. } => asks(alloc, catalog, table, text),
+        _ => Ok(false),
+    }
+}
+
+fn is_within(alloc: Global, catalog: &Catalog, scope: &Scope, act: &Act) -> Result<bool, Memory>
+    ensures { IfOk result (λ within. within ≡ is_within catalog.now.names scope.now act.now) }
+{
+    match scope {
+        Scope::Whole => Ok(true),
+        Scope::Table(table) => speaks_of(alloc, catalog, table, act),
+    }
+}
+
+fn is_between(excerpt: &Excerpt, number: u64) -> bool
+    ensures { result ≡ (nat_le excerpt.now.first number && nat_le number excerpt.now.last) }
+{
+    excerpt.first <= number && number <= excerpt.last
+}
+
+/// Whether an entry is asked for.
+pub(crate) fn is_asked(
+    alloc: Global,
+    catalog: &Catalog,
+    excerpt: &Excerpt,
+    entry: &Entry,
+) -> Result<bool, Memory>
+    ensures { IfOk result (λ asked. asked ≡ is_asked catalog.now.names excerpt.now entry.now) }
+{
+    if is_between(excerpt, entry.seq) {
+        is_within(alloc, catalog, &excerpt.scope, &entry.act)
+    } else {
+        Ok(false)
+    }
+}
