@@ -1,0 +1,7 @@
+mod BagLemmas
+mod FormLemmas
+mod NeedingLemmas
+mod TupleLemmas
+mod PastLemmas
+mod ReadingLemmas
+mod ExaminingLemmas

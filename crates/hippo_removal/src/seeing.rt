@@ -1,0 +1,145 @@
+//! Whether what an audit asks to be seen was shown.
+ghost use Rattle.std.specs.Prelude.{◌≡◌, map, IfOk};
+ghost use Rattle.hippo_model.specs.Masking.{is_shown_cell, masked_cell};
+ghost use Rattle.hippo_join.specs.Existence.{are_shown};
+ghost use Rattle.hippo_shared.specs.Sharing.{query_has};
+ghost use Rattle.hippo_examining.specs.Seen.{column_in, to_be_seen};
+
+use crate::tuples::{has_tuple, place_in};
+use hippo_eval::{Onward, Visitor, cell, passes, walk};
+use hippo_model::{
+    Audit, ChoiceView, Combo, Expr, Exprs, Masked, Query, Ref, Refs, RulesInForce, Sets,
+    SharedTuple,
+};
+use hippo_rewrite::mask_columns;
+use hippo_values::{Memory, Name, Sequence};
+use std::alloc::Global;
+
+// An audited column, by its table's place in the query.
+fn column_in(query: &[Name], audit: &[Name], column: Ref) -> Ref
+    ensures { result ≡ column_in query.now audit.now column }
+{
+    let table = match audit.get(column.table) {
+        Some(table) => place_in(query, table),
+        None => query.len(),
+    };
+    Ref {
+        table,
+        column: column.column,
+    }
+}
+
+fn columns_in(alloc: Global, query: &[Name], audit: &Audit) -> Result<Refs, Memory>
+    ensures { IfOk result (λ columns. columns ≡ map (column_in query.now audit.now.tables) audit.now.columns) }
+{
+    let tables = audit.tables.as_slice();
+    let mut columns = Sequence::new(alloc);
+    for column in audit.columns.as_slice() {
+        columns.push(column_in(query, tables, *column))?;
+    }
+    Ok(columns)
+}
+
+/// What is to be seen of the query's rows, where the audit asks for cells that were shown.
+pub(crate) fn to_be_seen(
+    alloc: Global,
+    query: &Query,
+    audit: &Audit,
+    rules: &RulesInForce,
+) -> Result<Exprs, Memory>
+    ensures { IfOk result (λ seen. seen ≡ to_be_seen rules.now query.now audit.now) }
+{
+    if !audit.shown {
+        return Ok(Sequence::new(alloc));
+    }
+    let columns = columns_in(alloc, query.tables.as_slice(), audit)?;
+    mask_columns(alloc, &columns, rules)
+}
+
+fn is_shown<C: ChoiceView>(expr: &Expr, rows: &Combo<'_>, choices: &C) -> bool
+    ensures { result ≡ is_shown_cell (masked_cell (C.choices choices.now) rows.now expr.now) }
+{
+    cell(expr, rows, choices).is_shown()
+}
+
+fn are_shown<C: ChoiceView>(seen: &Exprs, rows: &Combo<'_>, choices: &C) -> bool
+    ensures { result ≡ are_shown (C.choices choices.now) seen.now rows.now }
+{
+    for expr in seen.as_slice() {
+        if !is_shown(expr, rows, choices) {
+            return false;
+        }
+    }
+    true
+}
+
+// Looks for a combination that has a tuple, makes a row, and shows what is to be seen.
+#[derive(Drop)]
+struct Seeker<'a, C> {
+    query: &'a Masked,
+    seen: &'a Exprs,
+    sets: &'a Sets<'a>,
+    tuple: &'a SharedTuple,
+    choices: &'a C,
+}
+
+impl<'a, C: ChoiceView> Seeker<'a, C> {
+    ghost use Rattle.std.specs.Prelude.{◌≡◌, IfOk};
+    ghost use Rattle.hippo_removal.specs.Removing.{is_seen_in};
+
+    // Whether this is such a combination.
+    fn is_it(&self, alloc: Global, combo: &Combo<'_>) -> Result<bool, Memory>
+        ensures { IfOk result (λ is. is ≡ is_seen_in (C.choices self.now.choices.now) self.now.query.now
+            self.now.seen.now self.now.sets.now self.now.tuple.now combo.now) }
+    {
+        if !has_tuple(alloc, &self.query.tables, self.sets, self.tuple, combo)? {
+            return Ok(false);
+        }
+        if !passes(self.query, combo, self.choices) {
+            return Ok(false);
+        }
+        Ok(are_shown(self.seen, combo, self.choices))
+    }
+}
+
+impl<'a, C: ChoiceView> Visitor for Seeker<'a, C> {
+    ghost use Rattle.std.specs.Prelude.{◌≡◌};
+    ghost use Rattle.std.specs.List.{list_any};
+    ghost use Rattle.hippo_removal.specs.Removing.{is_seen_in};
+
+    type State = bool;
+
+    ghost Keeps = { λ seeker combinations found. found ≡ list_any (is_seen_in (C.choices seeker.choices.now)
+        seeker.query.now seeker.seen.now seeker.sets.now seeker.tuple.now) combinations };
+
+    fn visit(&self, alloc: Global, state: &mut bool, combo: &Combo<'_>) -> Result<Onward, Memory> {
+        if *state {
+            return Ok(Onward::Enough);
+        }
+        *state = self.is_it(alloc, combo)?;
+        Ok(Onward::More)
+    }
+}
+
+/// Whether some combination that makes a row of a query's answer has a tuple and shows what is to be seen.
+pub(crate) fn has_seen<C: ChoiceView>(
+    alloc: Global,
+    query: &Masked,
+    seen: &Exprs,
+    sets: &Sets<'_>,
+    tuple: &SharedTuple,
+    choices: &C,
+) -> Result<bool, Memory>
+    ensures { IfOk result (λ has. has ≡ query_has (C.choices choices.now) query.now seen.now sets.now tuple.now) }
+{
+    let seeker = Seeker {
+        query: &*query,
+        seen: &*seen,
+        sets: &*sets,
+        tuple: &*tuple,
+        choices: &*choices,
+    };
+    let mut found = false;
+    walk(alloc, sets, &seeker, &mut found)?;
+    Ok(found)
+}
