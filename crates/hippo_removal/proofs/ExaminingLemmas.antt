@@ -21,7 +21,9 @@ use Rattle.hippo_typing.specs.Meanings.{meaning}
 use Rattle.hippo_backlog.specs.Calls.{as_call}
 use Rattle.hippo_backlog.specs.declared.faults.ReadFault.{ReadFault}
 use Rattle.hippo_backlog.specs.declared.faults.ReadFault.TheVariants.{Damaged, Memory}
-use Rattle.hippo_backlog.proofs.CallLemmas.{err_of, same_Err, as_call-fault, KeepsSame-here, IsAfterCall-none, IsAfterCall-as}
+use Rattle.hippo_backlog.proofs.CallLemmas.{same_Err, as_call-fault}
+use Rattle.hippo_keeper.proofs.CallLemmas.{KeepsSame-here, IsAfterCall-none, IsAfterCall-as}
+use Rattle.hippo_keeper.proofs.Results.{err_of}
 use Rattle.hippo_audit_job.specs.declared.past.Past.{Past}
 use Rattle.hippo_audit_job.specs.Examining.{IsPastOf, IsAuditOf, first_serving, FindsServing, IsNew, Examines}
 use Rattle.hippo_combine.proofs.PastLemmas.{front_valid, created_by_meaning}

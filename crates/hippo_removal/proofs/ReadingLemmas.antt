@@ -20,7 +20,9 @@ use Rattle.hippo_backlog.specs.Backlogs.{Snapshots}
 use Rattle.hippo_backlog.specs.Calls.{as_call}
 use Rattle.hippo_backlog.specs.declared.faults.ReadFault.{ReadFault}
 use Rattle.hippo_backlog.specs.declared.faults.ReadFault.TheVariants.{Keeper, Damaged, Memory}
-use Rattle.hippo_backlog.proofs.CallLemmas.{err_of, well, same_Err, as_call-fault, KeepsSame-here, KeepsSame-then, IsAfterCall-none, IsAfterCall-as, IsAfterCall-then}
+use Rattle.hippo_backlog.proofs.CallLemmas.{same_Err, as_call-fault}
+use Rattle.hippo_keeper.proofs.CallLemmas.{KeepsSame-here, KeepsSame-then, IsAfterCall-none, IsAfterCall-as, IsAfterCall-then}
+use Rattle.hippo_keeper.proofs.Results.{err_of, well}
 use Rattle.hippo_audit_job.specs.declared.past.Past.{Past}
 use Rattle.hippo_audit_job.specs.Examining.{IsPastOf}
 use Rattle.hippo_removal.specs.declared.snapshots.BothRows.{BothRows}

@@ -10,10 +10,10 @@ use Rattle.hippo_model.specs.Histories.{schema_at}
 use Rattle.hippo_model.specs.RowSets.{KeyedRows, kept_at}
 use Rattle.hippo_model.specs.StoredForms.{stored}
 use Rattle.hippo_model.specs.Terms.{History}
-use Rattle.hippo_keeper.specs.Keeping.{KeeperState, IsAfterCall}
+use Rattle.hippo_keeper.specs.Keeping.{KeeperState, IsAfterCall, KeepsSame}
 use Rattle.hippo_backlog.specs.declared.faults.ReadFault.{ReadFault}
 use Rattle.hippo_backlog.specs.declared.faults.ReadFault.TheVariants.{Keeper, Damaged, Memory}
-use Rattle.hippo_backlog.specs.Calls.{as_call, KeepsSame}
+use Rattle.hippo_backlog.specs.Calls.{as_call}
 use Rattle.hippo_audit_job.specs.declared.past.Past.{Past}
 use Rattle.hippo_audit_job.specs.Examining.{IsPastOf, IsAuditOf, Examination}
 use Rattle.hippo_removal.specs.declared.removal.Removal.{Removal}

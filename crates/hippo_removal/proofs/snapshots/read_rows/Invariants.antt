@@ -2,7 +2,7 @@
 use Rattle.std.proofs.Common.{true, take}
 use Rattle.hippo_keeper.specs.Keeping.{IsReady}
 use Rattle.hippo_backlog.specs.declared.faults.ReadFault.{ReadFault}
-use Rattle.hippo_backlog.proofs.CallLemmas.{well}
+use Rattle.hippo_keeper.proofs.Results.{well}
 use Rattle.hippo_removal.specs.Removals.{Reads}
 use Rattle.hippo_removal.proofs.snapshots.read_rows.Given as goal
 
