@@ -1,8 +1,7 @@
 -- The kept entries, read piece by piece and shown.
-use Rattle.std.proofs.Common.{◌≡◌, ◌≢◌, ◌∙◌, ℕ, ◌+◌, ◌^◌, ◌<◌, ◌≤◌, Bool, true, false, not, List, [], ◌∷◌, ◌++◌, length, take, drop, cond, Option, Some, None, Result, Ok, Err, refl, sym, ap, subst, append_assoc, arith}
+use Rattle.std.proofs.Common.{◌≡◌, ◌≢◌, ◌∙◌, ℕ, ◌+◌, ◌^◌, ◌<◌, ◌≤◌, true, false, [], ◌++◌, take, drop, Option, Some, None, Ok, Err, refl, sym, ap, subst, append_assoc, arith}
 use Rattle.std.proofs.lemmas.Bool.{false≢true}
-use Rattle.std.proofs.lemmas.List.{append-nil, take-append-drop}
-use Rattle.std.proofs.lemmas.Option.{same_Some}
+use Rattle.std.proofs.lemmas.List.{take-append-drop}
 use Rattle.hippo_values.specs.declared.moments.Moment.{Moment}
 use Rattle.hippo_values.specs.Texts.{Txt}
 use Rattle.hippo_io.specs.Told.{Appends, AppendsFront}
@@ -13,7 +12,6 @@ use Rattle.hippo_keeper.specs.declared.faults.KeeperFault.TheVariants as keeper_
 use Rattle.hippo_keeper.specs.Answering.{has_failed}
 use Rattle.hippo_keeper.specs.Keeping.{Store, RisesAbove, last_number, KeeperState, IsReady, IsAfterCall}
 use Rattle.hippo_keeper.specs.Selecting.{is_any, stored_versions, handed_over, Reads}
-use Rattle.hippo_replay.specs.Loading.{KeepsSame}
 use Rattle.hippo_replay.proofs.KeeperLemmas.{handed_over-behind, nothing_taken, KeepsSame-here, KeepsSame-then, KeepsSame-Stays, IsAfterCall-then, IsAfterCall-as, IsAfterCall-none, IsReady-after}
 use Rattle.hippo_replay.proofs.ReadingLemmas.{versions-append}
 use Rattle.hippo_showing.specs.declared.asking.Excerpt.{Excerpt}

@@ -60,12 +60,7 @@ fn append_clock(clock: &Option<Moment>, moment: &Moment, out: &mut Txt) -> Resul
     }
 }
 
-fn append_console(
-    alloc: Global,
-    catalog: &Catalog,
-    act: &Act,
-    out: &mut Txt,
-) -> Result<(), Memory>
+fn append_console(alloc: Global, catalog: &Catalog, act: &Act, out: &mut Txt) -> Result<(), Memory>
     ensures { OnOk result (out.new
         ≡ out.old ++ console_lines (told_act (schema_named catalog.now.names act.now) act.now)) }
 {
@@ -74,12 +69,7 @@ fn append_console(
     out.append("\n")
 }
 
-fn append_login(
-    user: &Name,
-    purpose: &Name,
-    recipient: &Name,
-    out: &mut Txt,
-) -> Result<(), Memory>
+fn append_login(user: &Name, purpose: &Name, recipient: &Name, out: &mut Txt) -> Result<(), Memory>
     ensures { OnOk result (out.new
         ≡ out.old ++ (codes "1 login " ++ (user.now ++ (codes " " ++ (purpose.now ++ (codes " " ++ recipient.now)))))) }
 {
