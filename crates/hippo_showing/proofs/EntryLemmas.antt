@@ -1,7 +1,7 @@
 -- One entry is shown, or is not asked for.
-use Rattle.std.proofs.Common.{◌≡◌, ◌≢◌, ◌∙◌, ◌⊎◌, inl, inr, ℕ, Bool, true, false, List, [], ◌∷◌, ◌++◌, cond, map, Option, Some, None, refl, sym, ap, subst}
+use Rattle.std.proofs.Common.{◌≡◌, ◌≢◌, ◌∙◌, inl, inr, ℕ, Bool, true, false, [], ◌∷◌, ◌++◌, cond, map, Option, Some, None, refl, sym, ap, subst}
 use Rattle.std.specs.List.{list_all}
-use Rattle.std.proofs.lemmas.Bool.{and_parts, false≢true}
+use Rattle.std.proofs.lemmas.Bool.{and_parts}
 use Rattle.std.proofs.lemmas.List.{append-nil}
 use Rattle.std.proofs.lemmas.Option.{none-some, same_Some}
 use Rattle.hippo_values.specs.Texts.{Txt}
@@ -12,13 +12,13 @@ use Rattle.hippo_model.specs.declared.stored.StoredEntry.{StoredEntry}
 use Rattle.hippo_model.specs.Keepable.{is_keepable}
 use Rattle.hippo_model.specs.StoredForms.{stored}
 use Rattle.hippo_model.specs.Terms.{History}
-use Rattle.hippo_entry.specs.Forms.{HasForm, IsEntryOf}
+use Rattle.hippo_entry.specs.Forms.{IsEntryOf}
 use Rattle.hippo_catalog.specs.Catalogs.{KnownNames}
 use Rattle.hippo_showing.specs.declared.asking.Excerpt.{Excerpt}
 use Rattle.hippo_showing.specs.declared.endings.Ending.{Ending}
-use Rattle.hippo_showing.specs.declared.endings.Ending.TheVariants.{Shown, Refused, KeeperFault, WriteFault, Damaged, NoMemory}
+use Rattle.hippo_showing.specs.declared.endings.Ending.TheVariants.{WriteFault, Damaged, NoMemory}
 use Rattle.hippo_showing.specs.Endings.{cuts}
-use Rattle.hippo_showing.specs.Saying.{damaged_line, Says, Writes, CountsWrites}
+use Rattle.hippo_showing.specs.Saying.{Says, Writes, CountsWrites}
 use Rattle.hippo_showing.specs.Showing.{is_asked, shown_as, entry_shown, clock_after, entries_shown, clock_at_end}
 use Rattle.hippo_showing.specs.Progress.{HasForms, ShowsEntry, ShowsKept}
 use Rattle.hippo_showing.proofs.WriteLemmas.{none_written, none_of, whole_front, CountsWrites-same}

@@ -1,5 +1,5 @@
 -- Stored entries, shown one after the other.
-use Rattle.std.proofs.Common.{◌≡◌, ◌≢◌, ◌∙◌, ℕ, ◌+◌, ◌<◌, ◌≤◌, Bool, true, false, List, [], ◌∷◌, ◌++◌, map, length, take, drop, get_or, Option, Some, None, refl, sym, ap, subst, append_assoc, arith}
+use Rattle.std.proofs.Common.{◌≡◌, ◌≢◌, ◌∙◌, ℕ, ◌+◌, ◌<◌, ◌≤◌, Bool, true, false, [], ◌∷◌, ◌++◌, map, length, take, drop, get_or, Option, Some, None, refl, sym, ap, subst, append_assoc, arith}
 use Rattle.std.specs.Prelude.{◌&&◌}
 use Rattle.std.specs.List.{list_all}
 use Rattle.std.proofs.lemmas.Bool.{and_parts}
@@ -8,7 +8,6 @@ use Rattle.hippo_values.specs.Texts.{Txt}
 use Rattle.hippo_values.specs.declared.moments.Moment.{Moment}
 use Rattle.hippo_io.specs.Faults.{HasRisen}
 use Rattle.hippo_io.specs.Told.{Appends, AppendsFront}
-use Rattle.hippo_model.specs.declared.entry.Entry.{Entry}
 use Rattle.hippo_model.specs.declared.stored.StoredEntry.{StoredEntry}
 use Rattle.hippo_model.specs.Keepable.{is_keepable}
 use Rattle.hippo_model.specs.StoredForms.{stored}
@@ -18,8 +17,7 @@ use Rattle.hippo_keeper.specs.Keeping.{Store, RisesAbove, last_number}
 use Rattle.hippo_replay.proofs.TakingInLemmas.{take_at_entry}
 use Rattle.hippo_showing.specs.declared.asking.Excerpt.{Excerpt}
 use Rattle.hippo_showing.specs.declared.endings.Ending.{Ending}
-use Rattle.hippo_showing.specs.declared.endings.Ending.TheVariants.{WriteFault, Damaged, NoMemory}
-use Rattle.hippo_showing.specs.Saying.{CountsWrites}
+use Rattle.hippo_showing.specs.declared.endings.Ending.TheVariants.{NoMemory}
 use Rattle.hippo_showing.specs.Showing.{entry_shown, clock_after, entries_shown, clock_at_end}
 use Rattle.hippo_showing.specs.Progress.{HasForms, ShowsKept}
 use Rattle.hippo_showing.proofs.WriteLemmas.{front_of_more, whole_and_front, both_whole, none_written, none_of, CountsWrites-same}

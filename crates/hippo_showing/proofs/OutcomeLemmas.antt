@@ -1,18 +1,17 @@
 -- What a load, and showing what was loaded, come to.
-use Rattle.std.proofs.Common.{◌≡◌, ◌≢◌, ◌∙◌, inl, inr, ℕ, ◌+◌, ◌≤◌, Bool, true, false, not, ◌&&◌, Option, Some, None, Result, Ok, Err, refl, sym, ap, subst, arith, map}
+use Rattle.std.proofs.Common.{◌≡◌, ◌≢◌, ◌∙◌, inl, inr, ℕ, ◌+◌, ◌≤◌, Bool, true, false, Option, Some, None, Result, Ok, refl, sym, ap, subst, arith}
 use Rattle.std.specs.Prelude.{◌*◌}
 use mathlib.Core.Logic.{∥∥₁_map}
 use Rattle.std.proofs.lemmas.Bool.{false≢true}
 use Rattle.std.proofs.lemmas.Option.{same_Some}
 use Rattle.hippo_values.specs.Texts.{Txt}
 use Rattle.hippo_io.specs.Told.{Appends, AppendsFront}
-use Rattle.hippo_model.specs.StoredForms.{stored}
-use Rattle.hippo_model.specs.Stores.{IsStoreOf, IsDamagedAt}
+use Rattle.hippo_model.specs.Stores.{IsStoreOf}
 use Rattle.hippo_model.specs.Terms.{History}
 use Rattle.hippo_laws.proofs.OneStore.{one_history, all_can_be_kept}
 use Rattle.hippo_catalog.specs.Catalogs.{KnownNames, known_at}
 use Rattle.hippo_keeper.specs.declared.faults.KeeperFault.{KeeperFault as Fault}
-use Rattle.hippo_keeper.specs.Keeping.{Store, Survivors, RisesAbove, KeeperState, IsReady, IsAfterCall, KeepsSame}
+use Rattle.hippo_keeper.specs.Keeping.{Store, Survivors, RisesAbove, KeeperState, IsAfterCall, KeepsSame}
 use Rattle.hippo_keeper.specs.Selecting.{stored_versions}
 use Rattle.hippo_typing.specs.Meanings.{meaning}
 use Rattle.hippo_replay.specs.declared.faults.LoadFault.{LoadFault}
@@ -29,7 +28,7 @@ use Rattle.hippo_showing.specs.Endings.{as_call}
 use Rattle.hippo_showing.specs.Saying.{CountsWrites}
 use Rattle.hippo_showing.specs.Showing.{entries_shown, shown}
 use Rattle.hippo_showing.specs.Progress.{HasForms, ShowsAll}
-use Rattle.hippo_showing.specs.Outcomes.{FromFound, IsIdle, KeepsDamaged, Ends, Stops}
+use Rattle.hippo_showing.specs.Outcomes.{FromFound, KeepsDamaged, Ends, Stops}
 
 -- what was found and is kept still
 found_still : (finds : Survivors) (before after : KeeperState) → KeepsFound finds before → KeepsSame before after → KeepsFound finds after

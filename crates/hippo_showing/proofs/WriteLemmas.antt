@@ -1,9 +1,8 @@
 -- Writes, one after the other.
-use Rattle.std.proofs.Common.{◌≡◌, ◌≢◌, ℕ, ◌+◌, [], ◌++◌, length, take, min, Option, Some, None, Result, Ok, Err, OnOk, OnErr, ap, sym, refl, ◌∙◌, append_assoc, arith}
+use Rattle.std.proofs.Common.{◌≡◌, ◌≢◌, ℕ, ◌+◌, [], ◌++◌, length, take, min, Option, Some, Result, Ok, Err, OnOk, OnErr, ap, sym, refl, ◌∙◌, append_assoc, arith}
 use Rattle.std.proofs.lemmas.List.{take_min, take-append-le, append-nil, take_at}
 use Rattle.std.proofs.Math.Seq.{take-append-add}
 use Rattle.hippo_values.specs.Texts.{Txt}
-use Rattle.hippo_io.specs.Faults.{HasRisen}
 use Rattle.hippo_io.specs.Told.{Appends, AppendsFront}
 use Rattle.hippo_showing.specs.declared.endings.Ending.{Ending}
 use Rattle.hippo_showing.specs.declared.endings.Ending.TheVariants.{WriteFault}

@@ -1,11 +1,10 @@
 -- What showing an excerpt comes to, over what a start may find.
-use Rattle.std.specs.Prelude.{◌≡◌, ◌⊎◌, ℕ, ◌*◌, ◌+◌, ◌≤◌, true, Option}
+use Rattle.std.specs.Prelude.{◌≡◌, ◌⊎◌, ℕ, true, Option}
 use Rattle.hippo_values.specs.Texts.{Txt}
 use Rattle.hippo_io.specs.Told.{Appends, AppendsFront}
 use Rattle.hippo_model.specs.Terms.{History}
 use Rattle.hippo_model.specs.Stores.{IsStoreOf, IsDamagedAt}
 use Rattle.hippo_keeper.specs.Keeping.{KeeperState}
-use Rattle.hippo_keeper.specs.Selecting.{stored_versions}
 use Rattle.hippo_typing.specs.Meanings.{meaning}
 use Rattle.hippo_replay.specs.Loading.{KeepsFound}
 use Rattle.hippo_replay.specs.declared.faults.LoadFault.{LoadFault}

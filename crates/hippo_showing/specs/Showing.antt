@@ -1,5 +1,5 @@
 -- What is shown of a history: the entries that are asked for, each as the statement that made it.
-use Rattle.std.specs.Prelude.{ℕ, Bool, true, false, ◌&&◌, List, [], ◌∷◌, ◌++◌, nat_le, Option, Some, None, option_and_then, if◌then◌else◌, codes, bytes_eq}
+use Rattle.std.specs.Prelude.{Bool, true, false, ◌&&◌, [], ◌∷◌, ◌++◌, nat_le, Option, Some, None, option_and_then, if◌then◌else◌, codes, bytes_eq}
 use Rattle.std.specs.List.{list_any}
 use Rattle.std.specs.Option.{option_map_or}
 use Rattle.std.specs.Ordering.{int_eq}
