@@ -2,20 +2,12 @@
 use Rattle.std.specs.Prelude.{◌≡◌, Bool, true, false, ◌&&◌, nat_lt, List, [], ◌∷◌, map, length, slice_get, Option, Some, None, unwrap_or}
 use Rattle.std.specs.List.{range_with_len}
 use Rattle.std.specs.Option.{option_map_or}
-use Rattle.hippo_values.specs.Moments.{first_moment}
-use Rattle.hippo_model.specs.declared.born_row.BornRow.{BornRow}
 use Rattle.hippo_model.specs.declared.query.Masked.{Masked}
 use Rattle.hippo_model.specs.Terms.{Combination, Place}
 use Rattle.hippo_model.specs.RowSets.{KeyedRows}
+pub use Rattle.hippo_model.specs.RowSets.{blank, row_at}
 use Rattle.hippo_model.specs.Answers.{product}
 use Rattle.hippo_model.specs.Masking.{Choices, is_guarded, masked_passes}
-
--- a row that is not chosen yet
-abbrev pub blank : BornRow
-blank = record { row = []; born = first_moment }
-
-abbrev pub row_at : List BornRow → Place → BornRow
-row_at rows place = unwrap_or (slice_get rows place) blank
 
 -- the place that is chosen in a table, if one is
 abbrev pub slot_at : List (Option Place) → Place → Option Place

@@ -1,12 +1,14 @@
 -- A table's rows as they are kept: in the order of their keys, each with the moment at which it was born.
-use Rattle.std.specs.Prelude.{◌≡◌, List, [], ◌∷◌, Option, if◌then◌else◌, find, position}
+use Rattle.std.specs.Prelude.{◌≡◌, List, [], ◌∷◌, Option, if◌then◌else◌, find, position, slice_get, unwrap_or}
 use Rattle.std.specs.Ordering.{match_ordering}
 use Rattle.std.specs.declared.cmp.Ordering.TheVariants.{Less}
 use Rattle.hippo_model.specs.declared.born_row.BornRow.{BornRow}
 use Rattle.hippo_model.specs.declared.schema.Schema.{Schema}
 use Rattle.hippo_model.specs.Terms.{History, Key, Place}
+use Rattle.hippo_values.specs.Moments.{first_moment}
 use Rattle.hippo_values.specs.Order.{cells_cmp, same_cells}
-use Rattle.hippo_model.specs.Rows.{key_of, table_rows}
+use Rattle.hippo_values.specs.declared.values.Value.{Value}
+use Rattle.hippo_model.specs.Rows.{cell_at, key_of, table_rows}
 
 -- the places of the key, and the rows
 pub record KeyedRows : Type 0 where
@@ -58,3 +60,15 @@ find_row places key rows = position (λ kept. same_cells (key_in places kept) ke
 -- the row that has a key
 abbrev pub row_with : Key → KeyedRows → Option BornRow
 row_with key set = find (λ kept. same_cells (key_in set.key kept) key) set.rows
+
+-- a row that is not there
+abbrev pub blank : BornRow
+blank = record { row = []; born = first_moment }
+
+-- the row at a place; a blank one where there is none
+abbrev pub row_at : List BornRow → Place → BornRow
+row_at rows place = unwrap_or (slice_get rows place) blank
+
+-- the value in a column of the row at a place; null where there is none
+abbrev pub value_at : KeyedRows → Place → Place → Value
+value_at set column place = cell_at (row_at set.rows place).row column

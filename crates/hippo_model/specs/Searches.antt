@@ -3,8 +3,8 @@ use Rattle.std.specs.Prelude.{List}
 use Rattle.std.specs.declared.cmp.Ordering.{Ordering}
 use Rattle.hippo_values.specs.Order.{cells_cmp}
 use Rattle.hippo_model.specs.declared.born_row.BornRow.{BornRow}
-use Rattle.hippo_model.specs.declared.row_set.Sought.{Sought}
-use Rattle.hippo_model.specs.declared.row_set.Sought.TheVariants.{Key as ByKey, Row as ByRow}
+use Rattle.hippo_model.specs.declared.keyed_set.Sought.{Sought}
+use Rattle.hippo_model.specs.declared.keyed_set.Sought.TheVariants.{Key as ByKey, Row as ByRow}
 use Rattle.hippo_model.specs.Terms.{Key, Place}
 use Rattle.hippo_model.specs.Rows.{key_of}
 

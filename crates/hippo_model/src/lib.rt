@@ -6,6 +6,7 @@ mod born_row;
 mod cells;
 mod combo;
 mod entry;
+mod keyed_set;
 mod lent;
 mod name_fault;
 mod operands;

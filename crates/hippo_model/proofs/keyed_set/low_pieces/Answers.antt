@@ -5,7 +5,7 @@ use Rattle.hippo_model.specs.declared.born_row.BornRow.{BornRow}
 use Rattle.hippo_model.specs.declared.pieces.Piece.{Piece}
 use Rattle.hippo_model.specs.Pieces.{begins_low}
 use Rattle.hippo_model.specs.Searches.{sought_order}
-use Rattle.hippo_model.proofs.row_set.low_pieces.Goals as goal
+use Rattle.hippo_model.proofs.keyed_set.low_pieces.Goals as goal
 
 pub returns-clause-parted : goal.returns-clause-parted
 returns-clause-parted c first =

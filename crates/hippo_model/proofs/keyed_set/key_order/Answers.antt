@@ -2,7 +2,7 @@
 use Rattle.std.proofs.Common.{rules}
 use Rattle.std.proofs.lemmas.Slice.Zip.{zip_end}
 use Rattle.hippo_model.proofs.KeyOrder.{cells_cmp-past_end}
-use Rattle.hippo_model.proofs.row_set.key_order.Goals as goal
+use Rattle.hippo_model.proofs.keyed_set.key_order.Goals as goal
 
 pub returns : goal.returns
 returns c =

@@ -4,7 +4,7 @@ use Rattle.std.proofs.lemmas.Bool.{false≢true}
 use Rattle.hippo_model.specs.Rows.{key_of}
 use Rattle.hippo_model.specs.RowSets.{KeyedRows, with_row, find_row}
 use Rattle.hippo_model.proofs.KeptRows.{IsAscending-set, IsAscending-insert, answers_rise, with_row-found, with_row-missing, find_row-missing}
-use Rattle.hippo_model.proofs.row_set.RowSet.put.Goals as goal
+use Rattle.hippo_model.proofs.keyed_set.KeyedSet.put.Goals as goal
 
 -- the key was there, and its row is written over
 pub invariant_of-self : goal.invariant_of-self

@@ -2,7 +2,7 @@
 use Rattle.std.proofs.Common.{sym, ap, ◌∙◌}
 use Rattle.hippo_model.specs.RowSets.{KeyedRows, find_row}
 use Rattle.hippo_model.proofs.KeptRows.{find_row-range, find_row-searched}
-use Rattle.hippo_model.proofs.row_set.RowSet.find.Goals as goal
+use Rattle.hippo_model.proofs.keyed_set.KeyedSet.find.Goals as goal
 
 pub returns-clause-place : goal.returns-clause-place
 returns-clause-place c =
