@@ -83,7 +83,7 @@ module _ (places : List Place) (key : Key) where
   below_at (member ∷ kept) first zero d below in_range = below.0
   below_at (member ∷ kept) first (suc i) d below in_range = below_at kept first i d below.1 (omega arith)
 
-  sorted_kept : (kept : List BornRow) → IsAscending (map (key_in places) kept) → (k j : ℕ) (d : BornRow) → k < j → j < length kept → cells_cmp (key_in places (get_or kept k d)) (key_in places (get_or kept j d)) ≡ Less
+  pub sorted_kept : (kept : List BornRow) → IsAscending (map (key_in places) kept) → (k j : ℕ) (d : BornRow) → k < j → j < length kept → cells_cmp (key_in places (get_or kept k d)) (key_in places (get_or kept j d)) ≡ Less
   sorted_kept [] ascends k j d less in_range = absurd (omega arith)
   sorted_kept (member ∷ kept) ascends k zero d less in_range = absurd (omega arith)
   sorted_kept (member ∷ kept) ascends zero (suc j) d less in_range = below_at kept (key_in places member) j d ascends.0 (omega arith)

@@ -15,3 +15,6 @@ pub mod HeldParts
 pub mod ChangesOfRows
 pub mod PiecesLemmas
 pub mod PieceSearch
+pub mod RowsByKey
+pub mod EntryLemmas
+pub mod PlacesWithLemmas

@@ -10,7 +10,7 @@ use Rattle.hippo_values.specs.declared.values.Value.TheVariants.{Null, Int, Text
 use Rattle.hippo_values.specs.OrderLaws.{value_total}
 use Rattle.hippo_values.specs.Order.{value_cmp, cells_cmp, same_cells}
 
-value_exact : IsAntisymmetric value_cmp
+pub value_exact : IsAntisymmetric value_cmp
 value_exact Null Null same = refl
 value_exact Null (Int b) same = cc
 value_exact Null (Text b) same = cc

@@ -5,6 +5,7 @@ pub mod Rows
 pub mod Pieces
 pub mod RowSets
 pub mod Searches
+pub mod ColumnOrders
 pub mod Versions
 pub mod Changes
 pub mod Rules

@@ -1,7 +1,10 @@
 //! A table's rows in the order of their keys.
-ghost use Rattle.std.specs.Prelude.{◌≡◌, ◌<◌, ◌≤◌, ◌↔◌, [], length, map, option_map, slice_get, Some, IsTrue, OnOk, OnErr, IsOk, IsSome, IfSome};
+ghost use Rattle.std.specs.Prelude.{◌≡◌, ◌<◌, ◌≤◌, ◌↔◌, [], ◌∷◌, nat_lt, length, map, option_map, slice_get, Some, IsTrue, OnOk, OnErr, IsOk, IsSome, IfSome};
 ghost use Rattle.std.specs.List.Sorted.{IsSearchInRange, IsBinarySearchResult};
+ghost use Rattle.std.specs.Ordering.{is_lt};
 ghost use Rattle.hippo_values.specs.Order.{value_cmp, cells_cmp};
+ghost use Rattle.hippo_model.specs.declared.born_row.BornRow.{BornRow};
+ghost use Rattle.hippo_model.specs.Terms.{Place};
 ghost use Rattle.hippo_model.specs.Rows.{cell_at, key_of};
 ghost use Rattle.hippo_model.specs.Pieces.{begins_low, PartsLow};
 ghost use Rattle.hippo_model.specs.Searches.{sought_order};
@@ -15,9 +18,10 @@ use hippo_values::{Memory, Moment, Value};
 use std::alloc::Global;
 use std::cmp::Ordering;
 use std::marker::Model;
+use std::slice;
 
 // The value in a row's column, which is null past the row's end, against another value.
-fn cell_order(row: &[Value], place: usize, other: &Value) -> Ordering
+pub(crate) fn cell_order(row: &[Value], place: usize, other: &Value) -> Ordering
     ensures { result ≡ value_cmp (cell_at row.now place) other.now }
 {
     row.get(place).unwrap_or(&Value::Null).cmp(other)
@@ -181,13 +185,31 @@ impl KeyedSet {
     pub(crate) fn find(&self, key: &Cells) -> Option<usize>
         ensures place { result ≡ find_row self.now.key key.now self.now.rows }
         ensures range { IfSome result (λ place. place < length self.now.rows) }
+        ensures order { IsAscending (map (key_in self.now.key) self.now.rows) }
     {
-        search(
-            &self.rows,
-            self.key.as_slice(),
-            &Sought::Key(key.as_slice()),
-        )
-        .ok()
+        self.find_values(key.as_slice())
+    }
+
+    // The same for a key that is lent.
+    pub(crate) fn find_values(&self, key: &[Value]) -> Option<usize>
+        ensures place { result ≡ find_row self.now.key key.now self.now.rows }
+        ensures range { IfSome result (λ place. place < length self.now.rows) }
+        ensures order { IsAscending (map (key_in self.now.key) self.now.rows) }
+    {
+        search(&self.rows, self.key.as_slice(), &Sought::Key(key)).ok()
+    }
+
+    // The place of the first row whose key does not stand before a key with this value alone.
+    pub(crate) fn first_from(&self, value: &Value) -> usize
+        ensures range { result ≤ length self.now.rows }
+        ensures low { (place : Place) → (kept : BornRow) → slice_get self.now.rows place ≡ Some kept
+            → is_lt (cells_cmp (key_in self.now.key kept) (value.now ∷ [])) ≡ nat_lt place result }
+    {
+        let key = slice::from_ref(value);
+        match search(&self.rows, self.key.as_slice(), &Sought::Key(key)) {
+            Ok(place) => place,
+            Err(place) => place,
+        }
     }
 
     // The place of the row that has the same key as this one, none exactly where no row has it.
@@ -212,7 +234,8 @@ impl KeyedSet {
     }
 
     pub(crate) fn is_empty(&self) -> bool
-        ensures { IsTrue result ↔ (self.now.rows ≡ []) }
+        ensures none { IsTrue result ↔ (self.now.rows ≡ []) }
+        ensures order { IsAscending (map (key_in self.now.key) self.now.rows) }
     {
         self.rows.is_empty()
     }

@@ -4,6 +4,7 @@
 mod audit;
 mod born_row;
 mod cells;
+mod column_order;
 mod combo;
 mod entry;
 mod keyed_set;

@@ -6,24 +6,35 @@ ghost use Rattle.hippo_model.specs.Rows.{key_of};
 ghost use Rattle.hippo_model.specs.RowSets.{IsAscending, key_in, with_row, without_row, find_row, value_at};
 
 use crate::cells::Cells;
+use crate::column_order::{
+    ColumnOrder, add_order, entries_by, entries_of, forget_in_orders, free_place, places_among,
+    prepare_orders,
+};
 use crate::keyed_set::KeyedSet;
 use crate::schema::Places;
 use hippo_values::{Memory, Moment, Value};
 use std::alloc::Global;
 use std::marker::Model;
 
+// How many orders by a column a set keeps.
+const ORDER_LIMIT: usize = 8;
+
 /// The rows of a table in the order of their keys, each with the moment at which it was born.
 #[derive(Debug, Drop)]
 pub struct RowSet {
     set: KeyedSet,
+    orders: Vec<ColumnOrder>,
 }
 
 impl Model for RowSet {
     ghost use Rattle.hippo_model.specs.RowSets.{KeyedRows};
+    ghost use Rattle.hippo_model.specs.ColumnOrders.{AreOrdersOf};
 
     ghost Value = { KeyedRows };
 
     ghost view = { λ rows. rows.set };
+
+    ghost invariant = { λ rows. AreOrdersOf rows.set rows.orders.items };
 }
 
 impl RowSet {
@@ -33,6 +44,7 @@ impl RowSet {
     {
         RowSet {
             set: KeyedSet::new(alloc, key),
+            orders: Vec::new(alloc),
         }
     }
 
@@ -43,6 +55,8 @@ impl RowSet {
         ensures err { OnErr result (self.new ≡ self.old) }
         ensures replaces { IsSome (find_row self.old.key (key_of self.old.key row) self.old.rows) → IsOk result }
     {
+        let alloc = *self.orders.allocator();
+        prepare_orders(alloc, &self.set, &row, born, self.orders.as_mut_slice());
         self.set.put(row, born)
     }
 
@@ -50,20 +64,35 @@ impl RowSet {
     pub fn take(&mut self, key: &Cells)
         ensures { self.new ≡ without_row key.now self.old }
     {
+        let alloc = *self.orders.allocator();
+        forget_in_orders(alloc, &self.set, key, self.orders.as_mut_slice());
         self.set.take(key);
     }
 
     /// Keeps, from now on, an order of the rows by a column, so that rows with a value there are found by halves. Does
     /// nothing where there is one, where there are eight, where the column is the key's first one, or where memory is
     /// short.
-    pub fn order_by(&mut self, _alloc: Global, _column: usize)
+    pub fn order_by(&mut self, alloc: Global, column: usize)
         ensures { self.new ≡ self.old }
     {
+        if !self.wants_order(column) {
+            return;
+        }
+        if let Ok(entries) = entries_of(alloc, column, &self.set) {
+            add_order(&mut self.orders, column, entries);
+        }
+    }
+
+    // Whether an order by a column is not kept, and would be of use.
+    fn wants_order(&self, column: usize) -> bool {
+        free_place(self.orders.as_slice()) < ORDER_LIMIT
+            && !self.is_ordered_by(column)
+            && self.set.key().as_slice().first() != Some(&column)
     }
 
     /// Whether an order by a column is kept.
-    pub fn is_ordered_by(&self, _column: usize) -> bool {
-        false
+    pub fn is_ordered_by(&self, column: usize) -> bool {
+        entries_by(self.orders.as_slice(), column).is_some()
     }
 
     /// The places of rows, each in the set, among them all whose column has this value; none where no order of the
@@ -79,7 +108,13 @@ impl RowSet {
         ensures all { IfOk result (λ found. IfSome found (λ places. (place : Place) → place < length self.now.rows
             → value_at self.now column place ≡ value.now → Contains places.items place)) }
     {
-        Ok(None)
+        match entries_by(self.orders.as_slice(), column) {
+            None => Ok(None),
+            Some(entries) => {
+                let places = places_among(alloc, entries, column, &self.set, value)?;
+                Ok(Some(places))
+            }
+        }
     }
 
     /// The place of the row with a key, none exactly where no row has it.

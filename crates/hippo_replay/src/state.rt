@@ -13,7 +13,7 @@ use hippo_catalog::Catalog;
 use hippo_model::Entry;
 use hippo_policy::PolicyBook;
 use hippo_tables::Tables;
-use hippo_values::{Memory, Moment};
+use hippo_values::{Memory, Moment, Name};
 use std::alloc::Global;
 
 /// What a valid history says: its names, rules and rows, and how far it goes.
@@ -77,6 +77,14 @@ impl State {
             last,
             earlier: last,
         }
+    }
+
+    /// Keeps, from now on, an order of a table's rows by a column, where the table is there and has more than 256 rows;
+    /// the state stays what it is.
+    pub fn order_by(&mut self, alloc: Global, table: &Name, column: usize)
+        ensures { self.new ≡ self.old }
+    {
+        self.tables.order_by(alloc, table, column);
     }
 
     // Catalog, book and tables take in an entry, all of them or none.

@@ -149,6 +149,16 @@ impl Tables {
         }
     }
 
+    /// Keeps, from now on, an order of a table's rows by a column, where the table is there and has more than 256 rows;
+    /// the tables stay what they are.
+    pub fn order_by(&mut self, alloc: Global, table: &Name, column: usize)
+        ensures { self.new ≡ self.old }
+    {
+        if let Some(kept) = self.tables.get_mut(table) {
+            kept.order_by(alloc, column);
+        }
+    }
+
     // The number of the last entry that names a live key.
     pub(crate) fn number(&self, table: &Name, key: &Cells) -> Option<u64>
         ensures { (history : History) → StandsFor self.now history → result ≡ live_number history table.now key.now }

@@ -1,0 +1,9 @@
+-- The key of the entry is that of the row.
+use Rattle.std.proofs.Common.{◌≡◌, sym, ◌∙◌}
+use Rattle.hippo_model.proofs.PlacesWithLemmas.{found-behind, contains-pushed}
+use Rattle.hippo_model.proofs.column_order.add_place.Goals as goal
+
+pub returns-in_default-find_values-clause-added : goal.returns-in_default-find_values-clause-added
+returns-in_default-find_values-clause-added c cell kept place at has =
+    let found = found-behind c.args.set.now c.args.entry.now _ c.in-Some.key.now c.find_values.result c.find_values.ensures.order c.in-Some.ensures.0 c.find_values.ensures.place cell kept place at has in
+    absurd cc
