@@ -3,7 +3,7 @@ use Rattle.std.proofs.Common.{◌≡◌, Bool, true, false, ℕ, zero, suc, ◌+
 use Rattle.std.specs.Prelude.{option_map, unwrap_or}
 use Rattle.std.specs.List.{range_with_len, HoldsAt, Contains, All}
 use Rattle.std.specs.List.Sorted.{IsPartitionPoint}
-use Rattle.std.specs.Ordering.{is_eq, is_lt, ordering_then}
+use Rattle.std.specs.Ordering.{is_eq, is_ne, is_lt, ordering_then}
 use Rattle.std.specs.declared.cmp.Ordering.{Ordering}
 use Rattle.std.specs.declared.cmp.Ordering.TheVariants.{Less, Equal, Greater}
 use Rattle.std.proofs.lemmas.Bool.{cases_lt, false≢true}
@@ -190,6 +190,11 @@ before-other entries value n start here row is ascends low from stands differs p
       | inl before ↦ before
       | inr behind ↦ absurd (none-behind entries.key n is value entries.rows ascends here stood.0 stood.1 high place kept at behind cells begins)
     ]
+
+pub other-value : (o : Ordering) → is_ne o ≡ true → is_eq o ≡ false
+other-value Less test = refl
+other-value Equal test = absurd (false≢true test)
+other-value Greater test = refl
 
 -- and none behind the last of all
 pub before-end : (entries : KeyedRows) (value : Value) (end : ℕ) → length entries.rows ≤ end → (place : Place) (kept : BornRow) → slice_get entries.rows place ≡ Some kept → (cells : Key) → kept.row ≡ value ∷ cells → place < end

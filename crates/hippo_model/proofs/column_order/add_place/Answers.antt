@@ -5,5 +5,9 @@ use Rattle.hippo_model.proofs.column_order.add_place.Goals as goal
 
 pub returns-in_default-find_values-clause-added : goal.returns-in_default-find_values-clause-added
 returns-in_default-find_values-clause-added c cell kept place at has =
-    let found = found-behind c.args.set.now c.args.entry.now _ c.in-Some.key.now c.find_values.result c.find_values.ensures.order c.in-Some.ensures.0 c.find_values.ensures.place cell kept place at has in
+    let found = found-behind c.args.set.now c.args.entry.now _ c.in-Some.key.now _ c.find_values.ensures.order c.in-Some.ensures.cases.0 c.find_values.ensures.place cell kept place at has in
     absurd cc
+
+pub returns-clause-added : goal.returns-clause-added
+returns-clause-added c cell kept place at has =
+    contains-pushed _ _ _ place c.in_ok-push.ensures.items (found-behind c.args.set.now c.args.entry.now _ c.in-Some.key.now _ c.find_values.ensures.order c.in-Some.ensures.cases.0 c.find_values.ensures.place cell kept place at has)
