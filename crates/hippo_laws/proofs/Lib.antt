@@ -8,6 +8,7 @@ mod RetentionExamples
 mod FormExamples
 mod HandedOverExamples
 mod FlagExamples
+mod OrderExamples
 pub mod Codes
 pub mod ActCodes
 pub mod TruthWithChange

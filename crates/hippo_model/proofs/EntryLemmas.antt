@@ -1,23 +1,21 @@
 -- Entries of an order by a column: each row of the set keeps its own.
 use Rattle.std.proofs.Common.{◌≡◌, Bool, true, false, ℕ, zero, suc, ◌+◌, ◌<◌, ◌≤◌, nat_lt, List, [], ◌∷◌, ◌++◌, map, length, get_or, Option, Some, None, IfSome, if◌then◌else◌, slice_get, inl, inr, sym, ap, ◌∙◌, refl, subst, arith, add-one, add-zero, ltb-true, ltb-false}
-use Rattle.std.specs.Prelude.{option_map, OnOk, OnErr, IsSome, IsOk, Result, Ok, Err}
-use Rattle.std.specs.List.{All, range_with_len}
+use Rattle.std.specs.Prelude.{option_map, OnOk, Result, Ok, Err}
+use Rattle.std.specs.List.{range_with_len}
 use Rattle.std.specs.Ordering.{is_eq, is_lt, ordering_then}
 use Rattle.std.specs.declared.cmp.Ordering.{Ordering}
 use Rattle.std.specs.declared.cmp.Ordering.TheVariants.{Less, Equal, Greater}
 use Rattle.std.proofs.lemmas.Bool.{cases_lt, false≢true}
 use Rattle.std.proofs.lemmas.Cmp.{tied_itself}
-use Rattle.std.proofs.lemmas.List.Elements.{All-weaker}
 use Rattle.hippo_values.specs.declared.moments.Moment.{Moment}
 use Rattle.hippo_values.specs.declared.values.Value.{Value}
 use Rattle.hippo_values.specs.Order.{value_cmp, cells_cmp, same_cells}
 use Rattle.hippo_values.specs.OrderLaws.{value_total}
 use Rattle.hippo_model.specs.declared.born_row.BornRow.{BornRow}
-use Rattle.hippo_model.specs.declared.column_order.ColumnOrder.{ColumnOrder}
 use Rattle.hippo_model.specs.Terms.{Key, Place, Row}
 use Rattle.hippo_model.specs.Rows.{cell_at, key_of}
 use Rattle.hippo_model.specs.RowSets.{KeyedRows, IsAscending, key_in, with_row, without_row, find_row, row_with}
-use Rattle.hippo_model.specs.ColumnOrders.{entry_of, HasEntry, AreEntriesOf, IsOrderOf, AreOrdersOf, AreReadyFor, IsReadyFor}
+use Rattle.hippo_model.specs.ColumnOrders.{entry_of, HasEntry, AreEntriesOf, AreReadyFor}
 use Rattle.hippo_model.proofs.Orders.{cells_total, same_exact, value_exact}
 use Rattle.hippo_model.proofs.RowsByKey.{row_with-put, row_with-take_other, row_with-take_own, key_in-row_with, place-row_with, slice_get-within, row_with-found, row_at-is}
 
@@ -245,22 +243,3 @@ AreFilled-all column set entries end past filled = record {
         let at = place-row_with set.key set.rows key kept is in
         let within = slice_get-within set.rows at.0 kept at.1 in
         filled.so_far at.0 (omega arith) kept at.1
-
--- ---- orders of a set in which a row was put
-
-module _ (kept : BornRow) (set : KeyedRows) (orders : List ColumnOrder) (ready : All (IsReadyFor kept set) orders) where
-  pub orders-put : AreOrdersOf (with_row kept set) orders
-  orders-put = All-weaker (IsReadyFor kept set) (IsOrderOf (with_row kept set)) (λ order is. IfSome-weaker (AreReadyFor order.column kept set) (AreEntriesOf order.column (with_row kept set)) order.entries (λ entries found both. both.0) is) orders ready
-
-  pub orders-same : find_row set.key (key_in set.key kept) set.rows ≡ None → AreOrdersOf set orders
-  orders-same none = All-weaker (IsReadyFor kept set) (IsOrderOf set) (λ order is. IfSome-weaker (AreReadyFor order.column kept set) (AreEntriesOf order.column set) order.entries (λ entries found both. both.1 none) is) orders ready
-
-  -- whether memory was short for the row or not
-  pub orders-after : {A E : Type 0} (later : KeyedRows) (result : Result A E) → OnOk result (later ≡ with_row kept set) → OnErr result (later ≡ set) → (IsSome (find_row set.key (key_in set.key kept) set.rows) → IsOk result) → AreOrdersOf later orders
-  orders-after later (Ok done) is_put is_same replaces = subst (λ (s : KeyedRows). AreOrdersOf s orders) (sym is_put) orders-put
-  orders-after later (Err fault) is_put is_same replaces =
-      subst (λ (s : KeyedRows). AreOrdersOf s orders) (sym is_same) (orders-same (none (find_row set.key (key_in set.key kept) set.rows) replaces))
-    where
-      none : (found : Option Place) → (IsSome found → false ≡ true) → found ≡ None
-      none None replaces = refl
-      none (Some place) replaces = absurd (false≢true (replaces refl))

@@ -16,6 +16,7 @@ use Rattle.hippo_catalog.specs.Catalogs.{KnownNames, known_at, known_after, crea
 use Rattle.hippo_catalog.specs.NewestNames.{Remembers as RemembersNames, creates_nothing}
 use Rattle.hippo_policy.specs.declared.book.PolicyBook.{PolicyBook}
 use Rattle.hippo_policy.specs.Books.{StandsFor as BookStandsFor, Remembers as RemembersMatter, Adds as BookAdds, is_silent}
+use Rattle.hippo_tables.specs.declared.tables.Tables.{Tables}
 use Rattle.hippo_tables.specs.Standing.{is_delete, is_silent as leaves_tables, StandsFor as TablesStandFor, IsAsBefore as TablesAreAsBefore}
 use Rattle.hippo_tables.proofs.NextLemmas.{IsNext-valid}
 use Rattle.hippo_typing.specs.Meanings.{meaning}
@@ -106,3 +107,26 @@ StandsFor-before old new history entry knows names book tables count last =
       count = omega (arith, count, grown, length-append history (entry ∷ []));
       last = last ∙ knows.moment;
     }
+
+-- a state with tables that are what they were
+abbrev pub with_tables : State → Tables → State
+with_tables state tables = record { catalog = state.catalog; book = state.book; tables = tables; count = state.count; last = state.last; earlier = state.earlier }
+
+pub StandsFor-with_tables : (state : State) (tables : Tables) (history : History) → TablesAreAsBefore state.tables tables → StandsFor state history → StandsFor (with_tables state tables) history
+StandsFor-with_tables state tables history same stands = record {
+  valid = stands.valid;
+  names = stands.names;
+  book = stands.book;
+  tables = record { kept = λ name. same.kept name ∙ stands.tables.kept name };
+  count = stands.count;
+  last = stands.last;
+}
+
+pub Remembers-with_tables : (state : State) (tables : Tables) (history : History) (entry : Entry) → TablesAreAsBefore state.tables tables → Remembers state history entry → Remembers (with_tables state tables) history entry
+Remembers-with_tables state tables history entry same knows = record {
+  stands = StandsFor-with_tables state tables (history ++ entry ∷ []) same knows.stands;
+  names = knows.names;
+  matter = knows.matter;
+  rows = record { before = λ name. rw (same.same_last, same.kept name) (knows.rows.before name) };
+  moment = knows.moment;
+}

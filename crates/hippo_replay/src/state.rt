@@ -82,7 +82,9 @@ impl State {
     /// Keeps, from now on, an order of a table's rows by a column, where the table is there and has more than 256 rows;
     /// the state stays what it is.
     pub fn order_by(&mut self, alloc: Global, table: &Name, column: usize)
-        ensures { self.new ≡ self.old }
+        ensures stands { (history : History) → StandsFor self.old history → StandsFor self.new history }
+        ensures remembers { (history : History) (entry : HistoryEntry) → Remembers self.old history entry
+            → Remembers self.new history entry }
     {
         self.tables.order_by(alloc, table, column);
     }

@@ -152,7 +152,7 @@ impl Tables {
     /// Keeps, from now on, an order of a table's rows by a column, where the table is there and has more than 256 rows;
     /// the tables stay what they are.
     pub fn order_by(&mut self, alloc: Global, table: &Name, column: usize)
-        ensures { self.new ≡ self.old }
+        ensures { IsAsBefore self.old self.new }
     {
         if let Some(kept) = self.tables.get_mut(table) {
             kept.order_by(alloc, column);

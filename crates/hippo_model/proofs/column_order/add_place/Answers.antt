@@ -10,4 +10,4 @@ returns-in_default-find_values-clause-added c cell kept place at has =
 
 pub returns-clause-added : goal.returns-clause-added
 returns-clause-added c cell kept place at has =
-    contains-pushed _ _ _ place c.in_ok-push.ensures.items (found-behind c.args.set.now c.args.entry.now _ c.in-Some.key.now _ c.find_values.ensures.order c.in-Some.ensures.cases.0 c.find_values.ensures.place cell kept place at has)
+    contains-pushed _ _ _ place c.in_ok-push.ensures.items (found-behind c.args.set.now c.args.entry.now _ c.in-Some.key.now _ c.in-Some-find_values.ensures.order c.in-Some.ensures.cases.0 c.in-Some-find_values.ensures.place cell kept place at has)

@@ -12,4 +12,4 @@ pub returns-in-Some : goal.returns-in-Some
 returns-in-Some c are =
     let left = rw (c.as_slice.ensures, c.as_slice-in-Some.ensures, c.key.ensures) at c.leave.ensures in
     OnOk-weaker _ _ c.leave.result (λ is. subst (AreEntriesOf c.args.column (without_row c.args.key.now c.args.set.now)) (sym is)
-    (forgotten-at c.args.column c.args.set.now c.args.entries.now c.args.key.now c.in-Some.place c.row.result.now are c.find.ensures.order (sym c.find.ensures.place) c.row.ensures)) left
+    (forgotten-at c.args.column c.args.set.now c.args.entries.now c.args.key.now c.in-Some.place c.row.result.now are c.find.ensures.order (sym c.in-Some.ensures.place) c.row.ensures)) left
