@@ -1,8 +1,8 @@
 -- Entries of an order by a column: each row of the set keeps its own.
-use Rattle.std.proofs.Common.{◌≡◌, Bool, true, false, ℕ, zero, suc, ◌+◌, ◌<◌, ◌≤◌, nat_lt, List, [], ◌∷◌, ◌++◌, map, length, get_or, Option, Some, None, IfSome, if◌then◌else◌, slice_get, inl, inr, sym, ap, ◌∙◌, refl, subst, arith, add-one, add-zero, ltb-true, ltb-false}
+use Rattle.std.proofs.Common.{◌≡◌, Bool, true, false, ℕ, zero, suc, ◌+◌, ◌<◌, ◌≤◌, List, [], ◌∷◌, ◌++◌, map, length, Option, Some, None, IfSome, if◌then◌else◌, slice_get, inl, inr, sym, ap, ◌∙◌, refl, subst, arith, add-one, add-zero}
 use Rattle.std.specs.Prelude.{option_map, OnOk, Result, Ok, Err}
 use Rattle.std.specs.List.{range_with_len}
-use Rattle.std.specs.Ordering.{is_eq, is_lt, ordering_then}
+use Rattle.std.specs.Ordering.{is_eq, ordering_then}
 use Rattle.std.specs.declared.cmp.Ordering.{Ordering}
 use Rattle.std.specs.declared.cmp.Ordering.TheVariants.{Less, Equal, Greater}
 use Rattle.std.proofs.lemmas.Bool.{cases_lt, false≢true}
@@ -10,7 +10,6 @@ use Rattle.std.proofs.lemmas.Cmp.{tied_itself}
 use Rattle.hippo_values.specs.declared.moments.Moment.{Moment}
 use Rattle.hippo_values.specs.declared.values.Value.{Value}
 use Rattle.hippo_values.specs.Order.{value_cmp, cells_cmp, same_cells}
-use Rattle.hippo_values.specs.OrderLaws.{value_total}
 use Rattle.hippo_model.specs.declared.born_row.BornRow.{BornRow}
 use Rattle.hippo_model.specs.Terms.{Key, Place, Row}
 use Rattle.hippo_model.specs.Rows.{cell_at, key_of}

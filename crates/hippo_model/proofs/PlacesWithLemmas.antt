@@ -1,7 +1,7 @@
 -- The entries of a column's value stand behind one another, from the first that is not below it.
-use Rattle.std.proofs.Common.{◌≡◌, Bool, true, false, ℕ, zero, suc, ◌+◌, ◌<◌, ◌≤◌, nat_lt, List, [], ◌∷◌, ◌++◌, map, length, get_or, Option, Some, None, IfSome, slice_get, inl, inr, sym, ap, ◌∙◌, refl, subst, arith, ltb-false}
+use Rattle.std.proofs.Common.{◌≡◌, true, false, ℕ, zero, suc, ◌+◌, ◌<◌, ◌≤◌, nat_lt, List, [], ◌∷◌, ◌++◌, map, length, get_or, Option, Some, None, IfSome, slice_get, inl, inr, sym, ap, ◌∙◌, refl, subst, arith, ltb-false}
 use Rattle.std.specs.Prelude.{option_map, unwrap_or}
-use Rattle.std.specs.List.{range_with_len, HoldsAt, Contains, All}
+use Rattle.std.specs.List.{range_with_len, HoldsAt, Contains}
 use Rattle.std.specs.List.Sorted.{IsPartitionPoint}
 use Rattle.std.specs.Ordering.{is_eq, is_ne, is_lt, ordering_then}
 use Rattle.std.specs.declared.cmp.Ordering.{Ordering}

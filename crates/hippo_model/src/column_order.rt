@@ -1,5 +1,5 @@
 //! Orders of a table's rows by a column that is not the first of its key.
-ghost use Rattle.std.specs.Prelude.{◌≡◌, ◌<◌, ◌≤◌, ◌↔◌, ◌++◌, ◌∷◌, [], ℕ, suc, length, None, Some, true, option_map, slice_get, IfOk, IfSome, OnOk};
+ghost use Rattle.std.specs.Prelude.{◌≡◌, ◌<◌, ◌++◌, ◌∷◌, [], ℕ, suc, length, Some, slice_get, IfOk, IfSome, OnOk};
 ghost use Rattle.std.specs.List.{All, Contains, range_with_len};
 ghost use Rattle.std.specs.Ordering.{is_eq};
 ghost use Rattle.hippo_values.specs.Order.{value_cmp};

@@ -1,5 +1,4 @@
 -- The key of the entry is that of the row.
-use Rattle.std.proofs.Common.{◌≡◌, sym, ◌∙◌}
 use Rattle.hippo_model.proofs.PlacesWithLemmas.{found-behind, contains-pushed}
 use Rattle.hippo_model.proofs.column_order.add_place.Goals as goal
 

@@ -1,5 +1,5 @@
 -- The entries that begin with the value stand from the first that is not below it to before one with another.
-use Rattle.std.proofs.Common.{◌≡◌, sym, ◌∙◌, arith}
+use Rattle.std.proofs.Common.{sym, ◌∙◌, arith}
 use Rattle.hippo_values.specs.Order.{value_cmp}
 use Rattle.hippo_model.specs.Rows.{cell_at}
 use Rattle.hippo_model.proofs.PlacesWithLemmas.{all-gathered, next-gathered, before-other, before-end, other-value}

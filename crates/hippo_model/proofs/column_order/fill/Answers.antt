@@ -1,5 +1,5 @@
 -- One row more has its entry.
-use Rattle.std.proofs.Common.{◌≡◌, sym, ◌∙◌, arith}
+use Rattle.std.proofs.Common.{arith}
 use Rattle.hippo_model.proofs.EntryLemmas.{AreFilled-next, AreFilled-all}
 use Rattle.hippo_model.proofs.column_order.fill.Goals as goal
 

@@ -1,8 +1,6 @@
 -- The rows before this place have their entries.
-use Rattle.std.proofs.Common.{◌≡◌, ℕ, suc, ◌<◌, length, slice_get, Some}
+use Rattle.std.proofs.Common.{◌≡◌, suc, length}
 use Rattle.std.specs.List.{range_with_len}
-use Rattle.hippo_model.specs.declared.born_row.BornRow.{BornRow}
-use Rattle.hippo_model.specs.Terms.{Place}
 use Rattle.hippo_model.proofs.EntryLemmas.{AreFilled}
 use Rattle.hippo_model.proofs.column_order.fill.Given as goal
 

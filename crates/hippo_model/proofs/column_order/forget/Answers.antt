@@ -1,7 +1,7 @@
 -- The entry of the row that is taken goes, if there is one.
-use Rattle.std.proofs.Common.{◌≡◌, sym, subst}
-use Rattle.hippo_model.specs.RowSets.{KeyedRows, without_row}
-use Rattle.hippo_model.specs.ColumnOrders.{entry_of, AreEntriesOf}
+use Rattle.std.proofs.Common.{sym, subst}
+use Rattle.hippo_model.specs.RowSets.{without_row}
+use Rattle.hippo_model.specs.ColumnOrders.{AreEntriesOf}
 use Rattle.hippo_model.proofs.EntryLemmas.{OnOk-weaker, forgotten-none, forgotten-at}
 use Rattle.hippo_model.proofs.column_order.forget.Goals as goal
 

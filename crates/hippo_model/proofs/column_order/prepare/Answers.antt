@@ -1,6 +1,6 @@
 -- The row's key is new, and so is its entry.
-use Rattle.std.proofs.Common.{◌≡◌, sym, subst}
-use Rattle.hippo_model.specs.ColumnOrders.{entry_of, AreReadyFor}
+use Rattle.std.proofs.Common.{sym, subst}
+use Rattle.hippo_model.specs.ColumnOrders.{AreReadyFor}
 use Rattle.hippo_model.proofs.EntryLemmas.{OnOk-weaker, ready-new}
 use Rattle.hippo_model.proofs.column_order.prepare.Goals as goal
 

@@ -1,7 +1,7 @@
 -- The row's entry stands there already, or it comes instead of the other row's.
-use Rattle.std.proofs.Common.{◌≡◌, sym, subst, ◌∙◌, ap}
-use Rattle.hippo_model.specs.RowSets.{KeyedRows, with_row, without_row}
-use Rattle.hippo_model.specs.ColumnOrders.{entry_of, AreEntriesOf}
+use Rattle.std.proofs.Common.{sym, subst, ◌∙◌}
+use Rattle.hippo_model.specs.RowSets.{with_row}
+use Rattle.hippo_model.specs.ColumnOrders.{AreEntriesOf}
 use Rattle.hippo_model.proofs.EntryLemmas.{OnOk-weaker, stays-at, replaced-at}
 use Rattle.hippo_model.proofs.column_order.replace.Goals as goal
 

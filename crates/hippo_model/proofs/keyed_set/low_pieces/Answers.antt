@@ -1,5 +1,4 @@
 use Rattle.std.proofs.Common.{rules}
-use Rattle.std.specs.List.Sorted.{IsPartitionedBy}
 use Rattle.std.proofs.lemmas.List.Sorted.{IsPartitionPoint-from_clause}
 use Rattle.hippo_model.specs.declared.born_row.BornRow.{BornRow}
 use Rattle.hippo_model.specs.declared.pieces.Piece.{Piece}

@@ -1,5 +1,5 @@
 -- The last piece that begins low is searched.
-use Rattle.std.proofs.Common.{◌≡◌, ◌+◌, ◌-◌, arith}
+use Rattle.std.proofs.Common.{◌-◌, arith}
 use Rattle.hippo_model.specs.Searches.{sought_order}
 use Rattle.hippo_model.proofs.PieceSearch.{ends_inside, found_in, missing_in, missing_before}
 use Rattle.hippo_model.proofs.keyed_set.search.Goals as goal

@@ -1,5 +1,5 @@
 -- The search goes by the keys, which ascend.
-use Rattle.std.proofs.Common.{◌≡◌, length, nat_lt, slice_get, Some, [], ◌∷◌, ap, subst, arith}
+use Rattle.std.proofs.Common.{◌≡◌, nat_lt, slice_get, Some, [], ◌∷◌, subst}
 use Rattle.std.specs.Ordering.{is_lt}
 use Rattle.hippo_values.specs.Order.{cells_cmp}
 use Rattle.hippo_model.specs.declared.born_row.BornRow.{BornRow}
