@@ -324,8 +324,9 @@ fn add_place(set: &KeyedSet, entry: &[Value], places: &mut Vec<usize>) -> Result
     ensures range { All (λ place. place < length set.now.rows) places.old.items
         → OnOk result (All (λ place. place < length set.now.rows) places.new.items) }
     ensures kept { OnOk result ((place : Place) → Contains places.old.items place → Contains places.new.items place) }
-    ensures added { OnOk result ((cell : Value) → (kept : BornRow) → (place : Place) → slice_get set.now.rows place ≡ Some kept
-        → entry.now ≡ cell ∷ key_of set.now.key kept.row → Contains places.new.items place) }
+    ensures added { OnOk result ((cell : Value) → (kept : BornRow) → (place : Place)
+        → slice_get set.now.rows place ≡ Some kept → entry.now ≡ cell ∷ key_of set.now.key kept.row
+        → Contains places.new.items place) }
 {
     let Some((_, key)) = entry.split_first() else {
         return Ok(());
