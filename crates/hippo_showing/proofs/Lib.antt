@@ -4,3 +4,5 @@ mod KeptLemmas
 mod ReadingLemmas
 mod OutcomeLemmas
 mod StatusLemmas
+mod PageLemmas
+mod LoopLemmas

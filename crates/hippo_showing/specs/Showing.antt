@@ -1,5 +1,5 @@
 -- What is shown of a history: the entries that are asked for, each as the statement that made it.
-use Rattle.std.specs.Prelude.{Bool, true, false, ◌&&◌, [], ◌∷◌, ◌++◌, nat_le, Option, Some, None, option_and_then, if◌then◌else◌, codes, bytes_eq}
+use Rattle.std.specs.Prelude.{Bool, true, false, ◌&&◌, [], ◌∷◌, ◌++◌, take, nat_le, Option, Some, None, option_and_then, if◌then◌else◌, codes, bytes_eq}
 use Rattle.std.specs.List.{list_any}
 use Rattle.std.specs.Option.{option_map_or}
 use Rattle.std.specs.Ordering.{int_eq}
@@ -15,11 +15,17 @@ use Rattle.hippo_model.specs.Terms.{History}
 use Rattle.hippo_catalog.specs.Catalogs.{KnownNames, known_at, table_of}
 use Rattle.hippo_typing.specs.Meanings.{meaning_in}
 use Rattle.hippo_telling.specs.Telling.{told_act, table_named, entry_line}
+use Rattle.hippo_model.specs.Validity.{creates_table}
+use Rattle.hippo_showing.specs.declared.asking.Acts.{Acts}
+use Rattle.hippo_showing.specs.declared.asking.Acts.TheVariants.{All, Tables}
 use Rattle.hippo_showing.specs.declared.asking.Excerpt.{Excerpt}
 use Rattle.hippo_showing.specs.declared.asking.Form.{Form}
 use Rattle.hippo_showing.specs.declared.asking.Form.TheVariants.{Listing, Script}
 use Rattle.hippo_showing.specs.declared.asking.Scope.{Scope}
 use Rattle.hippo_showing.specs.declared.asking.Scope.TheVariants.{Whole, Table}
+use Rattle.hippo_showing.specs.declared.asking.View.{View}
+use Rattle.hippo_showing.specs.declared.asking.View.TheVariants.{Entries, Rules}
+use Rattle.hippo_showing.specs.Ruling.{rules_shown}
 
 -- whether a text is a question that names this table in FROM
 abbrev pub asks : KnownNames → Name → Txt → Bool
@@ -40,10 +46,15 @@ abbrev pub is_within : KnownNames → Scope → Act → Bool
 is_within known Whole act = true
 is_within known (Table table) act = speaks_of known table act
 
+abbrev pub is_of : Acts → Act → Bool
+is_of All act = true
+is_of Tables act = creates_table act
+
 -- whether an entry is asked for
 abbrev pub is_asked : KnownNames → Excerpt → Entry → Bool
 is_asked known excerpt entry =
-    nat_le excerpt.first entry.seq && nat_le entry.seq excerpt.last && is_within known excerpt.scope entry.act
+    nat_le excerpt.first entry.seq && nat_le entry.seq excerpt.last && is_of excerpt.acts entry.act
+    && is_within known excerpt.scope entry.act
 
 -- the schema of the table that an act names
 abbrev pub schema_named : KnownNames → Act → Option Schema
@@ -95,6 +106,7 @@ clock_at_end known excerpt clock [] = clock
 clock_at_end known excerpt clock (entry ∷ later) =
     clock_at_end known excerpt (clock_after known excerpt clock entry) later
 
--- the excerpt of a history
-abbrev pub shown : Excerpt → History → Txt
-shown excerpt history = entries_shown (known_at history) excerpt None history
+-- what is asked for of a history: an excerpt, or the rules in force after its first entries
+abbrev pub shown : View → History → Txt
+shown (Entries excerpt) history = entries_shown (known_at history) excerpt None history
+shown (Rules page) history = rules_shown (known_at history) page.scope (take page.last history)

@@ -7,11 +7,12 @@ mod endings;
 mod lines;
 mod printing;
 mod reading;
+mod rules;
 mod scope;
 mod showing;
 mod top;
 
-pub use asking::{Call, Excerpt, Form, Scope};
+pub use asking::{Acts, Call, Excerpt, Form, Page, Scope, View};
 pub use endings::Ending;
 pub use reading::asked_of;
 pub use top::history_top;
