@@ -4,5 +4,7 @@ mod KeptLemmas
 mod ReadingLemmas
 mod OutcomeLemmas
 mod StatusLemmas
-mod PageLemmas
 mod LoopLemmas
+mod NameLemmas
+mod PolicyLemmas
+mod PageLemmas

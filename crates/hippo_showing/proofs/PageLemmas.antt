@@ -1,5 +1,5 @@
 -- What showing what is asked for comes to, by what was written.
-use Rattle.std.proofs.Common.{◌≡◌, ◌≢◌, ℕ, Bool, true, false, Option, Some, None, take, unwrap_or, arith, refl, sym, ap, subst}
+use Rattle.std.proofs.Common.{◌≡◌, ◌≢◌, ◌∙◌, ℕ, Bool, true, false, Option, Some, None, take, unwrap_or, arith, refl, sym, ap, subst}
 use Rattle.std.proofs.lemmas.Bool.{false≢true}
 use Rattle.hippo_values.specs.Texts.{Txt}
 use Rattle.hippo_io.specs.Told.{Appends, AppendsFront}
@@ -15,10 +15,13 @@ use Rattle.hippo_showing.specs.declared.asking.View.TheVariants.{Entries, Rules}
 use Rattle.hippo_showing.specs.declared.endings.Ending.{Ending}
 use Rattle.hippo_showing.specs.declared.endings.Ending.TheVariants.{Shown, Refused, KeeperFault, WriteFault, Damaged, NoMemory}
 use Rattle.hippo_showing.specs.Endings.{as_call}
-use Rattle.hippo_showing.specs.Ruling.{rules_shown}
+use Rattle.hippo_showing.specs.Ruling.{rules_by_names}
 use Rattle.hippo_showing.specs.Saying.{Writes, CountsWrites}
-use Rattle.hippo_showing.specs.Showing.{entries_shown, shown}
+use Rattle.hippo_showing.specs.ByNames.{entries_shown}
+use Rattle.hippo_showing.specs.Showing.{shown}
 use Rattle.hippo_showing.specs.Progress.{ShowsAll, WritesPage, ShowsLoaded}
+use Rattle.hippo_showing.proofs.NameLemmas.{told_by_names}
+use Rattle.hippo_showing.proofs.PolicyLemmas.{rules_of_first}
 use Rattle.hippo_showing.proofs.WriteLemmas.{none_of, whole_front, CountsWrites-same}
 
 module _ (IsSo : History → Type 0) (page : History → Txt) (written : Option Txt) (faults : ℕ) where
@@ -59,7 +62,7 @@ module _ (IsSo : History → Type 0) (page : History → Txt) (written : Option 
   page_written written' faults' lines is (Some ending) writes = absurd writes
 
 module _ (state : State) (written written' : Option Txt) (faults faults' : ℕ) where
-  -- entries are shown by the names that a state holds, which are those of its history
+  -- entries are shown by the names that a state holds, as by those that each entry found
   pub loaded_entries : (excerpt : Excerpt) (result : Ending) (before after : KeeperState) (ticks ticks' : ℕ)
       → ShowsAll state.catalog.names excerpt result before after written written' faults faults' ticks ticks'
       → ShowsLoaded state (Entries excerpt) result before after written written' faults faults' ticks ticks'
@@ -75,15 +78,16 @@ module _ (state : State) (written written' : Option Txt) (faults faults' : ℕ) 
   }
     where
       named : (history : History) → StandsFor state history → entries_shown state.catalog.names excerpt None history ≡ shown (Entries excerpt) history
-      named history stands = ap (λ known. entries_shown known excerpt None history) stands.names
+      named history stands = ap (λ known. entries_shown known excerpt None history) stands.names ∙ told_by_names history stands.valid excerpt None
 
-  -- and so are the rules, by its rules as well; nothing is read for them
+  -- and so are the rules, by those that it holds; nothing is read for them
   module _ (page : Page) (keeper : KeeperState) (ready : IsReady true keeper) (ticks : ℕ) where
     abbrev text : History → Txt
-    text history = rules_shown state.catalog.names page.scope (take page.last history)
+    text history = rules_by_names state.catalog.names page.scope (take page.last history)
 
     named : (history : History) → StandsFor state history → text history ≡ shown (Rules page) history
-    named history stands = ap (λ known. rules_shown known page.scope (take page.last history)) stands.names
+    named history stands =
+        ap (λ known. rules_by_names known page.scope (take page.last history)) stands.names ∙ rules_of_first history stands.valid page.last page.scope
 
     abbrev Loaded : Ending → Type 0
     Loaded result = ShowsLoaded state (Rules page) result keeper keeper written written' faults faults' ticks ticks

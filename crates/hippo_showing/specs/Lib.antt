@@ -3,5 +3,6 @@ pub mod Endings
 pub mod Saying
 pub mod Ruling
 pub mod Showing
+pub mod ByNames
 pub mod Progress
 pub mod Outcomes

@@ -19,7 +19,8 @@ use Rattle.hippo_showing.specs.declared.endings.Ending.{Ending}
 use Rattle.hippo_showing.specs.declared.endings.Ending.TheVariants.{Shown, Refused, Damaged}
 use Rattle.hippo_showing.specs.Endings.{as_call, as_part, cuts, cut_of}
 use Rattle.hippo_showing.specs.Saying.{CountsWrites}
-use Rattle.hippo_showing.specs.Showing.{entry_shown, clock_after, entries_shown, clock_at_end, shown}
+use Rattle.hippo_showing.specs.ByNames.{entry_shown, clock_after, entries_shown, clock_at_end}
+use Rattle.hippo_showing.specs.Showing.{shown}
 
 -- these entries can be kept, and these are their stored forms
 pub record HasForms (store : Store) (entries : History) : Type 0 where

@@ -8,7 +8,7 @@ use Rattle.hippo_model.specs.declared.schema.Column.{Column}
 use Rattle.hippo_model.specs.declared.schema.Schema.{Schema}
 use Rattle.hippo_model.specs.Rules.{Rule, allowed, revoked, rule_at}
 use Rattle.hippo_model.specs.Terms.{History, Place}
-use Rattle.hippo_catalog.specs.Catalogs.{KnownNames}
+use Rattle.hippo_catalog.specs.Catalogs.{KnownNames, known_at}
 use Rattle.hippo_policy.specs.Rulings.{opt_in_at}
 use Rattle.hippo_telling.specs.Telling.{allow_text, rule_text}
 use Rattle.hippo_showing.specs.declared.asking.Scope.{Scope}
@@ -64,9 +64,13 @@ abbrev pub tables_shown : KnownNames → Scope → History → Name → Name →
 tables_shown known scope history purpose recipient =
     flat_map (λ named. table_shown scope history purpose recipient named.1) known.tables
 
--- the rules in force, by purposes, recipients and tables in the order of their creation
-abbrev pub rules_shown : KnownNames → Scope → History → Txt
-rules_shown known scope history =
+-- the rules in force, by these purposes, recipients and tables
+abbrev pub rules_by_names : KnownNames → Scope → History → Txt
+rules_by_names known scope history =
     flat_map
     (λ purpose. flat_map (λ recipient. tables_shown known scope history purpose recipient) known.recipients)
     known.purposes
+
+-- by all that a history creates, in the order of their creation
+abbrev pub rules_shown : Scope → History → Txt
+rules_shown scope history = rules_by_names (known_at history) scope history

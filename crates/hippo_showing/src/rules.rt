@@ -5,7 +5,7 @@ ghost use Rattle.hippo_model.specs.Terms.{History};
 ghost use Rattle.hippo_model.specs.Rules.{allowed, revoked};
 ghost use Rattle.hippo_policy.specs.Books.{StandsFor as BookStandsFor};
 ghost use Rattle.hippo_policy.specs.Rulings.{ruling_of, asks_opt_in, opt_in_at};
-ghost use Rattle.hippo_showing.specs.Ruling.{ruling_text, silence_text, column_rule, column_line, is_ruled, columns_shown, has_table, table_shown, tables_shown, rules_shown};
+ghost use Rattle.hippo_showing.specs.Ruling.{ruling_text, silence_text, column_rule, column_line, is_ruled, columns_shown, has_table, table_shown, tables_shown, rules_by_names};
 
 use crate::asking::{Page, Scope};
 use hippo_catalog::Catalog;
@@ -273,7 +273,7 @@ fn append_recipients(policy: &Policy<'_>, purpose: &Name, out: &mut Txt) -> Resu
 
 fn append_purposes(policy: &Policy<'_>, out: &mut Txt) -> Result<(), Memory>
     ensures { OnOk result ((history : History) → BookStandsFor policy.now.book.now history → out.new
-        ≡ out.old ++ rules_shown policy.now.catalog.now.names policy.now.scope.now (take policy.now.n history)) }
+        ≡ out.old ++ rules_by_names policy.now.catalog.now.names policy.now.scope.now (take policy.now.n history)) }
 {
     for purpose in policy.catalog.purposes() {
         append_recipients(policy, purpose, out)?;
@@ -289,7 +289,7 @@ pub(crate) fn append_rules(
     out: &mut Txt,
 ) -> Result<(), Memory>
     ensures { OnOk result ((history : History) → BookStandsFor book.now history → out.new
-        ≡ out.old ++ rules_shown catalog.now.names page.now.scope (take page.now.last history)) }
+        ≡ out.old ++ rules_by_names catalog.now.names page.now.scope (take page.now.last history)) }
 {
     let policy = Policy {
         catalog,

@@ -5,7 +5,7 @@ ghost use Rattle.hippo_io.specs.Told.{Appends, AppendsFront};
 ghost use Rattle.hippo_keeper.specs.Keeping.{RisesAbove, IsReady, IsAfterCall};
 ghost use Rattle.hippo_keeper.specs.Selecting.{stored_versions};
 ghost use Rattle.hippo_policy.specs.Books.{StandsFor as BookStandsFor};
-ghost use Rattle.hippo_showing.specs.Ruling.{rules_shown};
+ghost use Rattle.hippo_showing.specs.Ruling.{rules_by_names};
 ghost use Rattle.hippo_showing.specs.Progress.{ShowsAll, WritesPage, ShowsLoaded};
 ghost use Rattle.hippo_showing.specs.declared.asking.Call.{Call as AskedCall};
 ghost use Rattle.hippo_showing.specs.declared.endings.Ending.TheVariants.{Refused, WriteFault};
@@ -63,14 +63,9 @@ fn show_entries<K: Sink, P: Keeper, L: Ledger>(
 }
 
 // Writes the rules that are in force.
-fn write_rules<K: Sink>(
-    alloc: Global,
-    page: &Page,
-    state: &State,
-    sink: &mut K,
-) -> Option<Ending>
+fn write_rules<K: Sink>(alloc: Global, page: &Page, state: &State, sink: &mut K) -> Option<Ending>
     ensures writes { WritesPage (BookStandsFor state.now.book)
-        (λ history. rules_shown state.now.catalog.names page.now.scope (take page.now.last history)) result
+        (λ history. rules_by_names state.now.catalog.names page.now.scope (take page.now.last history)) result
         (K.written sink.old) (K.written sink.new) (K.faults sink.old) (K.faults sink.new) }
 {
     let mut lines = Txt::new(alloc);
@@ -158,8 +153,9 @@ fn show<K: Sink, P: Keeper, L: Ledger>(
 ///   from 1, of the first entry up to which they are not.
 /// - 7: memory was short; what is written is a front of what is asked for.
 ///
-/// The kept entries stay as they were found. They are read twice, each time in pieces: first to load the history, so
-/// that damage is told before anything else is written, and then to show them.
+/// The kept entries stay as they were found. They are read in pieces: first to load the history, so that damage is told
+/// before anything else is written, and once more where entries are asked for, to show them. The rules in force are made
+/// in memory from what was loaded, and then written.
 pub fn history_top<K: Sink, P: Keeper, L: Ledger>(
     alloc: Global,
     words: &[Txt],

@@ -16,8 +16,8 @@ loop-purpose-preserved c history stands =
     let index = c.loop-purpose.purpose-index in
     let item = c.purpose-item.result in
     let parts : drop index purposes ≡ item ∷ drop (index + 1) purposes =
-        subst (λ (items : List Name). drop index items ≡ item ∷ drop (index + 1) items) c.purposes-purpose-items.ensures
-        (drop_at_get_or c.purposes-purpose-items.result.now index item c.loop-purpose-test.true c.purpose-item.is) in
+    subst (λ (items : List Name). drop index items ≡ item ∷ drop (index + 1) items) c.purposes-purpose-items.ensures
+    (drop_at_get_or c.purposes-purpose-items.result.now index item c.loop-purpose-test.true c.purpose-item.is) in
     one_more text (c.args.out.now ++ flat_map text purposes) c.loop-purpose.out c.append_recipients.new.out item (drop index purposes) (drop (index + 1) purposes)
     parts (c.in_ok-append_recipients.ensures history stands) (c.loop-purpose.invariant history stands)
 
@@ -28,6 +28,6 @@ returns c history stands =
     let text : Name → Txt = λ purpose. flat_map (λ recipient. tables_shown policy.catalog.now.names policy.scope.now (take policy.n history) purpose recipient) policy.catalog.now.names.recipients in
     let index = c.loop-purpose.purpose-index in
     let none : drop index purposes ≡ [] =
-        subst (λ (items : List Name). drop index items ≡ []) c.purposes-purpose-items.ensures
-        (drop_all index c.purposes-purpose-items.result.now (omega (arith, c.loop-purpose-test.false))) in
+    subst (λ (items : List Name). drop index items ≡ []) c.purposes-purpose-items.ensures
+    (drop_all index c.purposes-purpose-items.result.now (omega (arith, c.loop-purpose-test.false))) in
     none_more text (c.args.out.now ++ flat_map text purposes) c.loop-purpose.out (drop index purposes) none (c.loop-purpose.invariant history stands)

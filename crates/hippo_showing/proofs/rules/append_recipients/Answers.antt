@@ -16,8 +16,8 @@ loop-recipient-preserved c history stands =
     let index = c.loop-recipient.recipient-index in
     let item = c.recipient-item.result in
     let parts : drop index recipients ≡ item ∷ drop (index + 1) recipients =
-        subst (λ (items : List Name). drop index items ≡ item ∷ drop (index + 1) items) c.recipients-recipient-items.ensures
-        (drop_at_get_or c.recipients-recipient-items.result.now index item c.loop-recipient-test.true c.recipient-item.is) in
+    subst (λ (items : List Name). drop index items ≡ item ∷ drop (index + 1) items) c.recipients-recipient-items.ensures
+    (drop_at_get_or c.recipients-recipient-items.result.now index item c.loop-recipient-test.true c.recipient-item.is) in
     one_more text (c.args.out.now ++ flat_map text recipients) c.loop-recipient.out c.append_tables.new.out item (drop index recipients) (drop (index + 1) recipients)
     parts (c.in_ok-append_tables.ensures history stands) (c.loop-recipient.invariant history stands)
 
@@ -28,6 +28,6 @@ returns c history stands =
     let text : Name → Txt = λ recipient. tables_shown policy.catalog.now.names policy.scope.now (take policy.n history) c.args.purpose.now recipient in
     let index = c.loop-recipient.recipient-index in
     let none : drop index recipients ≡ [] =
-        subst (λ (items : List Name). drop index items ≡ []) c.recipients-recipient-items.ensures
-        (drop_all index c.recipients-recipient-items.result.now (omega (arith, c.loop-recipient-test.false))) in
+    subst (λ (items : List Name). drop index items ≡ []) c.recipients-recipient-items.ensures
+    (drop_all index c.recipients-recipient-items.result.now (omega (arith, c.loop-recipient-test.false))) in
     none_more text (c.args.out.now ++ flat_map text recipients) c.loop-recipient.out (drop index recipients) none (c.loop-recipient.invariant history stands)
