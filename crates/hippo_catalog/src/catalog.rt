@@ -1,6 +1,6 @@
 //! The names of a history.
 ghost use Rattle.std.specs.Prelude.{◌≡◌, ◌∷◌, [], ◌++◌, true, IsOk, OnOk, OnErr};
-ghost use Rattle.std.specs.Prelude.{is_none, option_copied, length, bytes_eq};
+ghost use Rattle.std.specs.Prelude.{is_none, option_copied, option_map, slice_get, length, bytes_eq};
 ghost use Rattle.indexmap.specs.IndexMap.{get};
 ghost use Rattle.hippo_model.specs.declared.entry.Act.TheVariants.{Create, Purpose, Recipient, Item};
 ghost use Rattle.hippo_model.specs.declared.entry.Act.{Act as HistoryAct};
@@ -102,6 +102,30 @@ impl Catalog {
         ensures { result ≡ length self.now.names.tables }
     {
         self.names.tables.len()
+    }
+
+    /// The table that was created as the one with this place among all, counted from 0.
+    pub fn table_at(&self, place: usize) -> Option<&Schema>
+        ensures { option_copied result ≡ option_map (λ named. named.1) (slice_get self.now.names.tables place) }
+    {
+        match self.names.tables.get_index(place) {
+            Some((_, found)) => Some(found.schema()),
+            None => None,
+        }
+    }
+
+    /// The purposes, in the order of their creation.
+    pub fn purposes(&self) -> &[Name]
+        ensures { result.now ≡ self.now.names.purposes }
+    {
+        self.names.purposes.as_slice()
+    }
+
+    /// The recipients, in the order of their creation.
+    pub fn recipients(&self) -> &[Name]
+        ensures { result.now ≡ self.now.names.recipients }
+    {
+        self.names.recipients.as_slice()
     }
 
     fn add_table(&mut self, alloc: Global, schema: &Schema) -> Result<(), Memory>

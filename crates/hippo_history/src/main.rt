@@ -1,4 +1,5 @@
-//! The program: `hippo_history` shows on standard output what a SQLite store keeps, entry by entry, as the words ask for.
+//! The program: `hippo_history` shows on standard output what a SQLite store keeps, as the words ask for: its entries, one
+//! by one, or the rules in force.
 #![tactic(auto)]
 
 ghost use Rattle.std.specs.Prelude.{◌≡◌, ◌<◌, false};

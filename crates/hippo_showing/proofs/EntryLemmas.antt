@@ -19,7 +19,8 @@ use Rattle.hippo_showing.specs.declared.endings.Ending.{Ending}
 use Rattle.hippo_showing.specs.declared.endings.Ending.TheVariants.{WriteFault, Damaged, NoMemory}
 use Rattle.hippo_showing.specs.Endings.{cuts}
 use Rattle.hippo_showing.specs.Saying.{Says, Writes, CountsWrites}
-use Rattle.hippo_showing.specs.Showing.{is_asked, shown_as, entry_shown, clock_after, entries_shown, clock_at_end}
+use Rattle.hippo_showing.specs.ByNames.{shown_as, entry_shown, clock_after, entries_shown, clock_at_end}
+use Rattle.hippo_showing.specs.Showing.{is_asked}
 use Rattle.hippo_showing.specs.Progress.{HasForms, ShowsEntry, ShowsKept}
 use Rattle.hippo_showing.proofs.WriteLemmas.{none_written, none_of, whole_front, CountsWrites-same}
 

@@ -18,7 +18,7 @@ use Rattle.hippo_replay.proofs.TakingInLemmas.{take_at_entry}
 use Rattle.hippo_showing.specs.declared.asking.Excerpt.{Excerpt}
 use Rattle.hippo_showing.specs.declared.endings.Ending.{Ending}
 use Rattle.hippo_showing.specs.declared.endings.Ending.TheVariants.{NoMemory}
-use Rattle.hippo_showing.specs.Showing.{entry_shown, clock_after, entries_shown, clock_at_end}
+use Rattle.hippo_showing.specs.ByNames.{entry_shown, clock_after, entries_shown, clock_at_end}
 use Rattle.hippo_showing.specs.Progress.{HasForms, ShowsKept}
 use Rattle.hippo_showing.proofs.WriteLemmas.{front_of_more, whole_and_front, both_whole, none_written, none_of, CountsWrites-same}
 

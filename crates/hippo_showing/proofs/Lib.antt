@@ -4,3 +4,7 @@ mod KeptLemmas
 mod ReadingLemmas
 mod OutcomeLemmas
 mod StatusLemmas
+mod LoopLemmas
+mod NameLemmas
+mod PolicyLemmas
+mod PageLemmas

@@ -9,7 +9,6 @@ use Rattle.hippo_io.specs.Told.{Appends, AppendsFront}
 use Rattle.hippo_model.specs.Stores.{IsStoreOf}
 use Rattle.hippo_model.specs.Terms.{History}
 use Rattle.hippo_laws.proofs.OneStore.{one_history, all_can_be_kept}
-use Rattle.hippo_catalog.specs.Catalogs.{KnownNames, known_at}
 use Rattle.hippo_keeper.specs.declared.faults.KeeperFault.{KeeperFault as Fault}
 use Rattle.hippo_keeper.specs.Keeping.{Store, Survivors, RisesAbove, KeeperState, IsAfterCall, KeepsSame}
 use Rattle.hippo_keeper.specs.Selecting.{stored_versions}
@@ -21,13 +20,13 @@ use Rattle.hippo_replay.specs.Loading.{as_call as as_load_call, KeepsFound, IsLo
 use Rattle.hippo_keeper.proofs.CallLemmas.{IsAfterCall-then}
 use Rattle.hippo_replay.proofs.LoadingLemmas.{Loads-ready}
 use Rattle.hippo_keeper.proofs.Results.{ok_of, err_of}
-use Rattle.hippo_showing.specs.declared.asking.Excerpt.{Excerpt}
+use Rattle.hippo_showing.specs.declared.asking.View.{View}
 use Rattle.hippo_showing.specs.declared.endings.Ending.{Ending}
 use Rattle.hippo_showing.specs.declared.endings.Ending.TheVariants.{Shown, Refused, KeeperFault, WriteFault, Damaged, NoMemory}
 use Rattle.hippo_showing.specs.Endings.{as_call}
 use Rattle.hippo_showing.specs.Saying.{CountsWrites}
-use Rattle.hippo_showing.specs.Showing.{entries_shown, shown}
-use Rattle.hippo_showing.specs.Progress.{HasForms, ShowsAll}
+use Rattle.hippo_showing.specs.Showing.{shown}
+use Rattle.hippo_showing.specs.Progress.{HasForms, ShowsLoaded}
 use Rattle.hippo_showing.specs.Outcomes.{FromFound, KeepsDamaged, Ends, Stops}
 
 -- what was found and is kept still
@@ -52,10 +51,10 @@ as_it_is started closed result before after call = record {
   faults = call.faults;
 }
 
-module _ (name : Txt) (excerpt : Excerpt) (state : State) (before loaded after : KeeperState) (result : Ending)
+module _ (name : Txt) (view : View) (state : State) (before loaded after : KeeperState) (result : Ending)
     (written written' : Option Txt) (faults faults' start mid end : ℕ)
     (loads : Loads name (ok_of LoadFault state) before loaded start mid)
-    (shows : ShowsAll state.catalog.names excerpt result loaded after written written' faults faults' mid end) where
+    (shows : ShowsLoaded state view result loaded after written written' faults faults' mid end) where
   pub show_call : IsAfterCall after.started after.closed (as_call result) before after
   show_call =
       let ready = Loads-ready name (ok_of LoadFault state) before loaded start mid loads refl in
@@ -103,24 +102,16 @@ module _ (name : Txt) (excerpt : Excerpt) (state : State) (before loaded after :
       each = λ other is. subst holds (one_history meaning after.kept is_loaded.history other store is) it;
     }
 
-    names : (text : KnownNames → Txt) → text state.catalog.names ≡ text (known_at is_loaded.history)
-    names text = ap text is_loaded.stands.names
+    front : FromFound name (λ history. AppendsFront written written' (shown view history)) before after
+    front = from_found (λ history. AppendsFront written written' (shown view history)) (shows.front tells is_loaded.history is_loaded.stands forms)
 
-    front : FromFound name (λ history. AppendsFront written written' (shown excerpt history)) before after
-    front = from_found (λ history. AppendsFront written written' (shown excerpt history))
-        (subst (AppendsFront written written') (names (λ known. entries_shown known excerpt None is_loaded.history)) (shows.front told_after is_loaded.history forms))
-      where
-        told_after : after.tells
-        told_after = tells
-
-    whole : result ≡ Shown → FromFound name (λ history. Appends written written' (shown excerpt history)) before after
-    whole is = from_found (λ history. Appends written written' (shown excerpt history))
-        (subst (Appends written written') (names (λ known. entries_shown known excerpt None is_loaded.history)) (shows.whole is tells is_loaded.history forms))
+    whole : result ≡ Shown → FromFound name (λ history. Appends written written' (shown view history)) before after
+    whole is = from_found (λ history. Appends written written' (shown view history)) (shows.whole is tells is_loaded.history is_loaded.stands forms)
 
     undamaged : result ≡ Damaged → ⊥
     undamaged is = shows.damaged is tells is_loaded.history forms
 
-    by_ending : (ending : Ending) (unwritten : Type 0) → result ≡ ending → Ends ending unwritten excerpt name before after written written'
+    by_ending : (ending : Ending) (unwritten : Type 0) → result ≡ ending → Ends ending unwritten view name before after written written'
     by_ending Shown unwritten is = whole is
     by_ending Refused unwritten is = shows.status is
     by_ending KeeperFault unwritten is = inr front
@@ -128,23 +119,23 @@ module _ (name : Txt) (excerpt : Excerpt) (state : State) (before loaded after :
     by_ending Damaged unwritten is = absurd (undamaged is)
     by_ending NoMemory unwritten is = inr front
 
-    pub show_ends : (unwritten : Type 0) → Ends result unwritten excerpt name before after written written'
+    pub show_ends : (unwritten : Type 0) → Ends result unwritten view name before after written written'
     show_ends unwritten = by_ending result unwritten refl
 
-module _ (name : Txt) (excerpt : Excerpt) (before after : KeeperState) (written written' : Option Txt) (faults faults' start end : ℕ) where
+module _ (name : Txt) (view : View) (before after : KeeperState) (written written' : Option Txt) (faults faults' start end : ℕ) where
   -- what was not loaded
   pub stop_ends : (fault : LoadFault) (result : Ending) (unwritten : Type 0) → Stops fault result unwritten written written' faults faults'
-      → Loads name (err_of State fault) before after start end → after.tells → Ends result unwritten excerpt name before after written written'
+      → Loads name (err_of State fault) before after start end → after.tells → Ends result unwritten view name before after written written'
   stop_ends Keeper result unwritten stops loads tells =
-      subst (λ (r : Ending). Ends r unwritten excerpt name before after written written') (sym stops.0) (inl (stops.1, λ started. loads.found started tells))
+      subst (λ (r : Ending). Ends r unwritten view name before after written written') (sym stops.0) (inl (stops.1, λ started. loads.found started tells))
   stop_ends (DamagedAt place) result unwritten stops loads tells =
       let kept : KeepsDamaged name place before after = record { kept = loads.found (loads.started refl) tells; damaged = loads.damaged place refl tells } in
       elim stops [
-        | inl all ↦ subst (λ (r : Ending). Ends r unwritten excerpt name before after written written') (sym all.0) (record { place = place; kept = kept; said = all.1 })
-        | inr front ↦ subst (λ (r : Ending). Ends r unwritten excerpt name before after written written') (sym front.0) (inl (record { place = place; kept = kept; said = front.1 }))
+        | inl all ↦ subst (λ (r : Ending). Ends r unwritten view name before after written written') (sym all.0) (record { place = place; kept = kept; said = all.1 })
+        | inr front ↦ subst (λ (r : Ending). Ends r unwritten view name before after written written') (sym front.0) (inl (record { place = place; kept = kept; said = front.1 }))
       ]
   stop_ends Memory result unwritten stops loads tells =
-      subst (λ (r : Ending). Ends r unwritten excerpt name before after written written') (sym stops.0) (inl (stops.1, λ started. loads.found started tells))
+      subst (λ (r : Ending). Ends r unwritten view name before after written written') (sym stops.0) (inl (stops.1, λ started. loads.found started tells))
 
   other_than : {ending : Ending} (result : Ending) → result ≡ ending → ending ≢ WriteFault → Some result ≢ Some WriteFault
   other_than result is other e = other (sym is ∙ same_Some result WriteFault e)

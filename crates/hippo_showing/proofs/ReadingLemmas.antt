@@ -20,7 +20,7 @@ use Rattle.hippo_showing.specs.declared.endings.Ending.{Ending}
 use Rattle.hippo_showing.specs.declared.endings.Ending.TheVariants.{Shown, Refused, KeeperFault, WriteFault, Damaged, NoMemory}
 use Rattle.hippo_showing.specs.Endings.{as_call, as_part, ending_of, cuts, cut_of}
 use Rattle.hippo_showing.specs.Saying.{CountsWrites}
-use Rattle.hippo_showing.specs.Showing.{entries_shown}
+use Rattle.hippo_showing.specs.ByNames.{entries_shown}
 use Rattle.hippo_showing.specs.Progress.{HasForms, ShowsKept, IsReadUpTo, ShowsNext, IsShowing, ShowsAll}
 use Rattle.hippo_showing.proofs.KeptLemmas.{ShowsKept-none, ShowsKept-unread, ShowsKept-then, front_so, damaged_so, last-both, last_above}
 

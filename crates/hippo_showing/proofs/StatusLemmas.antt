@@ -5,12 +5,12 @@ use Rattle.hippo_values.specs.Texts.{Txt}
 use Rattle.hippo_io.specs.Faults.{HasRisen}
 use Rattle.hippo_keeper.specs.Keeping.{KeeperState, IsAfterCall}
 use Rattle.hippo_showing.specs.declared.asking.Call.{Call}
-use Rattle.hippo_showing.specs.declared.asking.Excerpt.{Excerpt}
+use Rattle.hippo_showing.specs.declared.asking.View.{View}
 use Rattle.hippo_showing.specs.declared.endings.Ending.{Ending}
 use Rattle.hippo_showing.specs.declared.endings.Ending.TheVariants.{Shown, Refused, KeeperFault, WriteFault, Damaged, NoMemory}
 use Rattle.hippo_showing.specs.Endings.{status_of, as_call}
 use Rattle.hippo_showing.specs.Saying.{CountsWrites}
-use Rattle.hippo_showing.specs.Outcomes.{IsIdle, SaysDamaged, BeginsDamaged, ShowsExcerpt, BeginsExcerpt, Ends}
+use Rattle.hippo_showing.specs.Outcomes.{IsIdle, SaysDamaged, BeginsDamaged, ShowsView, BeginsView, Ends}
 
 -- an ending's status is one of six
 pub status-listed : (ending : Ending) (status : ℕ) → status ≡ status_of ending → Any (λ listed. status ≡ listed) (0 ∷ 2 ∷ 3 ∷ 5 ∷ 6 ∷ 7 ∷ [])
@@ -22,15 +22,15 @@ status-listed Damaged status e = (4, 6, omega arith, refl, e)
 status-listed NoMemory status e = (5, 7, omega arith, refl, e)
 
 -- what showing comes to, by its status
-module _ (excerpt : Excerpt) (name : Txt) (before after : KeeperState) (written written' : Option Txt) (unwritten : Type 0) where
+module _ (view : View) (name : Txt) (before after : KeeperState) (written written' : Option Txt) (unwritten : Type 0) where
   abbrev pub ByStatus : ℕ → Type 0
-  ByStatus status = (status ≡ 0 → ShowsExcerpt excerpt name before after written written')
-      × (status ≡ 3 → (unwritten × IsIdle name before after) ⊎ BeginsExcerpt excerpt name before after written written')
-      × (status ≡ 5 → BeginsDamaged name before after written written' ⊎ BeginsExcerpt excerpt name before after written written')
+  ByStatus status = (status ≡ 0 → ShowsView view name before after written written')
+      × (status ≡ 3 → (unwritten × IsIdle name before after) ⊎ BeginsView view name before after written written')
+      × (status ≡ 5 → BeginsDamaged name before after written written' ⊎ BeginsView view name before after written written')
       × (status ≡ 6 → SaysDamaged name before after written written')
-      × (status ≡ 7 → (unwritten × IsIdle name before after) ⊎ BeginsExcerpt excerpt name before after written written')
+      × (status ≡ 7 → (unwritten × IsIdle name before after) ⊎ BeginsView view name before after written written')
 
-  pub by_status : (ending : Ending) → Ends ending unwritten excerpt name before after written written' → ByStatus (status_of ending)
+  pub by_status : (ending : Ending) → Ends ending unwritten view name before after written written' → ByStatus (status_of ending)
   by_status Shown ends = (λ e. ends, λ e. absurd (omega (arith, e)), λ e. absurd (omega (arith, e)), λ e. absurd (omega (arith, e)), λ e. absurd (omega (arith, e)))
   by_status Refused ends = absurd ends
   by_status KeeperFault ends = (λ e. absurd (omega (arith, e)), λ e. ends, λ e. absurd (omega (arith, e)), λ e. absurd (omega (arith, e)), λ e. absurd (omega (arith, e)))
@@ -39,8 +39,8 @@ module _ (excerpt : Excerpt) (name : Txt) (before after : KeeperState) (written 
   by_status NoMemory ends = (λ e. absurd (omega (arith, e)), λ e. absurd (omega (arith, e)), λ e. absurd (omega (arith, e)), λ e. absurd (omega (arith, e)), λ e. ends)
 
 -- what was found in the words is what they ask for
-pub as_asked : (P : Excerpt → Txt → Type 0) (found call : Call) (store : Txt) → Some found ≡ Some call → store ≡ found.store → P found.excerpt store → P call.excerpt call.store
-as_asked P found call store same is holds = subst (λ (c : Call). P c.excerpt c.store) (same_Some found call same) (subst (P found.excerpt) is holds)
+pub as_asked : (P : View → Txt → Type 0) (found call : Call) (store : Txt) → Some found ≡ Some call → store ≡ found.store → P found.view store → P call.view call.store
+as_asked P found call store same is holds = subst (λ (c : Call). P c.view c.store) (same_Some found call same) (subst (P found.view) is holds)
 
 -- faults by the status
 module _ (ending : Ending) (status : ℕ) (is : status ≡ status_of ending) where

@@ -9,12 +9,17 @@ use Rattle.clap.specs.declared.builder.action.ArgAction.TheVariants.{SetTrue}
 use Rattle.clap.specs.declared.builder.value_parser.ValueParser.TheVariants.{Unsigned}
 use Rattle.hippo_values.specs.Texts.{Txt}
 use Rattle.hippo_values.specs.Names.{name_of}
+use Rattle.hippo_showing.specs.declared.asking.Acts.{Acts}
+use Rattle.hippo_showing.specs.declared.asking.Acts.TheVariants.{All, Tables}
 use Rattle.hippo_showing.specs.declared.asking.Call.{Call}
 use Rattle.hippo_showing.specs.declared.asking.Excerpt.{Excerpt}
 use Rattle.hippo_showing.specs.declared.asking.Form.{Form}
 use Rattle.hippo_showing.specs.declared.asking.Form.TheVariants.{Listing, Script}
+use Rattle.hippo_showing.specs.declared.asking.Page.{Page}
 use Rattle.hippo_showing.specs.declared.asking.Scope.{Scope}
 use Rattle.hippo_showing.specs.declared.asking.Scope.TheVariants.{Whole, Table}
+use Rattle.hippo_showing.specs.declared.asking.View.{View}
+use Rattle.hippo_showing.specs.declared.asking.View.TheVariants.{Entries, Rules}
 
 -- an argument that is written behind its name, as a text or as the number of an entry; and one that is a name alone
 abbrev pub text_option : Txt → Rule
@@ -34,7 +39,7 @@ abbrev pub command_line : App
 command_line = record {
   top = record (new_shape (codes "hippo_history")) {
     rules = store_option ∷ number_option (codes "entry") ∷ number_option (codes "from") ∷ number_option (codes "to")
-        ∷ text_option (codes "table") ∷ flag (codes "script") ∷ [];
+        ∷ text_option (codes "table") ∷ flag (codes "tables") ∷ flag (codes "script") ∷ flag (codes "rules") ∷ [];
     no_binary_name = true;
     disable_help_flag = true;
   };
@@ -60,10 +65,20 @@ last_in rows = number_or (number_or 4000000 (first_of (codes "to") rows)) (first
 abbrev pub has_end : List Row → Bool
 has_end rows = is_some (first_of (codes "from") rows) || is_some (first_of (codes "to") rows)
 
-abbrev pub fits : List Row → Bool
-fits rows = not (is_some (first_of (codes "entry") rows) && has_end rows)
+abbrev pub entry_fits : List Row → Bool
+entry_fits rows = not (is_some (first_of (codes "entry") rows) && has_end rows)
 
--- the table whose entries are shown; a word that is no name is none
+-- the rules are those after one entry, or after all: they go with no end of a stretch, and no form of entries
+abbrev pub has_form : List Row → Bool
+has_form rows = is_on (codes "tables") rows || is_on (codes "script") rows
+
+abbrev pub rules_fit : List Row → Bool
+rules_fit rows = not (is_on (codes "rules") rows && (has_end rows || has_form rows))
+
+abbrev pub fits : List Row → Bool
+fits rows = entry_fits rows && rules_fit rows
+
+-- the table of which something is shown; a word that is no name is none
 abbrev pub scope_of : Option Txt → Option Scope
 scope_of None = Some Whole
 scope_of (Some word) = option_map Table (name_of word)
@@ -71,11 +86,27 @@ scope_of (Some word) = option_map Table (name_of word)
 abbrev pub form_in : List Row → Form
 form_in rows = if is_on (codes "script") rows then Script else Listing
 
+abbrev pub acts_in : List Row → Acts
+acts_in rows = if is_on (codes "tables") rows then Tables else All
+
 abbrev pub excerpt_in : List Row → Scope → Excerpt
-excerpt_in rows scope = record { first = first_in rows; last = last_in rows; scope = scope; form = form_in rows }
+excerpt_in rows scope =
+    record {
+      first = first_in rows;
+      last = last_in rows;
+      acts = acts_in rows;
+      scope = scope;
+      form = form_in rows;
+    }
+
+abbrev pub page_in : List Row → Scope → Page
+page_in rows scope = record { last = last_in rows; scope = scope }
+
+abbrev pub view_in : List Row → Scope → View
+view_in rows scope = if is_on (codes "rules") rows then Rules (page_in rows scope) else Entries (excerpt_in rows scope)
 
 abbrev pub call_with : List Row → Scope → Call
-call_with rows scope = record { store = unwrap_or (first_of (codes "store") rows) []; excerpt = excerpt_in rows scope }
+call_with rows scope = record { store = unwrap_or (first_of (codes "store") rows) []; view = view_in rows scope }
 
 -- what is asked for by words that the command takes
 abbrev pub asked_in : List Row → Option Call

@@ -1,4 +1,4 @@
--- What showing an excerpt comes to, over what a start may find.
+-- What showing comes to, over what a start may find.
 use Rattle.std.specs.Prelude.{◌≡◌, ◌⊎◌, ℕ, true, Option}
 use Rattle.hippo_values.specs.Texts.{Txt}
 use Rattle.hippo_io.specs.Told.{Appends, AppendsFront}
@@ -9,7 +9,7 @@ use Rattle.hippo_typing.specs.Meanings.{meaning}
 use Rattle.hippo_replay.specs.Loading.{KeepsFound}
 use Rattle.hippo_replay.specs.declared.faults.LoadFault.{LoadFault}
 use Rattle.hippo_replay.specs.declared.faults.LoadFault.TheVariants.{Keeper, Damaged as DamagedAt, Memory}
-use Rattle.hippo_showing.specs.declared.asking.Excerpt.{Excerpt}
+use Rattle.hippo_showing.specs.declared.asking.View.{View}
 use Rattle.hippo_showing.specs.declared.endings.Ending.{Ending}
 use Rattle.hippo_showing.specs.declared.endings.Ending.TheVariants.{Shown, Refused, KeeperFault, WriteFault, Damaged, NoMemory}
 use Rattle.hippo_showing.specs.Saying.{damaged_line, Says}
@@ -43,27 +43,27 @@ pub record BeginsDamaged (name : Txt) (before after : KeeperState) (written writ
   pub kept : KeepsDamaged name place before after
   pub said : AppendsFront written written' (damaged_line place)
 
--- just the excerpt of the history is written
-abbrev pub ShowsExcerpt : Excerpt → Txt → KeeperState → KeeperState → Option Txt → Option Txt → Type 0
-ShowsExcerpt excerpt name before after written written' =
-    FromFound name (λ history. Appends written written' (shown excerpt history)) before after
+-- just what is asked for of the history is written
+abbrev pub ShowsView : View → Txt → KeeperState → KeeperState → Option Txt → Option Txt → Type 0
+ShowsView view name before after written written' =
+    FromFound name (λ history. Appends written written' (shown view history)) before after
 
 -- a front of it is
-abbrev pub BeginsExcerpt : Excerpt → Txt → KeeperState → KeeperState → Option Txt → Option Txt → Type 0
-BeginsExcerpt excerpt name before after written written' =
-    FromFound name (λ history. AppendsFront written written' (shown excerpt history)) before after
+abbrev pub BeginsView : View → Txt → KeeperState → KeeperState → Option Txt → Option Txt → Type 0
+BeginsView view name before after written written' =
+    FromFound name (λ history. AppendsFront written written' (shown view history)) before after
 
 -- how showing ends; unwritten says that the sink is as before
-abbrev pub Ends : Ending → Type 0 → Excerpt → Txt → KeeperState → KeeperState → Option Txt → Option Txt → Type 0
-Ends Shown unwritten excerpt name before after written written' = ShowsExcerpt excerpt name before after written written'
-Ends Refused unwritten excerpt name before after written written' = ⊥
-Ends KeeperFault unwritten excerpt name before after written written' =
-    (unwritten × IsIdle name before after) ⊎ BeginsExcerpt excerpt name before after written written'
-Ends WriteFault unwritten excerpt name before after written written' =
-    BeginsDamaged name before after written written' ⊎ BeginsExcerpt excerpt name before after written written'
-Ends Damaged unwritten excerpt name before after written written' = SaysDamaged name before after written written'
-Ends NoMemory unwritten excerpt name before after written written' =
-    (unwritten × IsIdle name before after) ⊎ BeginsExcerpt excerpt name before after written written'
+abbrev pub Ends : Ending → Type 0 → View → Txt → KeeperState → KeeperState → Option Txt → Option Txt → Type 0
+Ends Shown unwritten view name before after written written' = ShowsView view name before after written written'
+Ends Refused unwritten view name before after written written' = ⊥
+Ends KeeperFault unwritten view name before after written written' =
+    (unwritten × IsIdle name before after) ⊎ BeginsView view name before after written written'
+Ends WriteFault unwritten view name before after written written' =
+    BeginsDamaged name before after written written' ⊎ BeginsView view name before after written written'
+Ends Damaged unwritten view name before after written written' = SaysDamaged name before after written written'
+Ends NoMemory unwritten view name before after written written' =
+    (unwritten × IsIdle name before after) ⊎ BeginsView view name before after written written'
 
 -- how the program ends where what is kept was not loaded
 abbrev pub Stops : LoadFault → Ending → Type 0 → Option Txt → Option Txt → ℕ → ℕ → Type 0

@@ -11,12 +11,16 @@ use Rattle.hippo_model.specs.Terms.{History}
 use Rattle.hippo_catalog.specs.Catalogs.{KnownNames}
 use Rattle.hippo_keeper.specs.Keeping.{Store, RisesAbove, last_number, KeeperState, IsAfterCall, KeepsSame}
 use Rattle.hippo_keeper.specs.Selecting.{stored_versions}
+use Rattle.hippo_replay.specs.Standing.{StandsFor}
+use Rattle.hippo_replay.specs.declared.state.State.{State}
 use Rattle.hippo_showing.specs.declared.asking.Excerpt.{Excerpt}
+use Rattle.hippo_showing.specs.declared.asking.View.{View}
 use Rattle.hippo_showing.specs.declared.endings.Ending.{Ending}
 use Rattle.hippo_showing.specs.declared.endings.Ending.TheVariants.{Shown, Refused, Damaged}
 use Rattle.hippo_showing.specs.Endings.{as_call, as_part, cuts, cut_of}
 use Rattle.hippo_showing.specs.Saying.{CountsWrites}
-use Rattle.hippo_showing.specs.Showing.{entry_shown, clock_after, entries_shown, clock_at_end}
+use Rattle.hippo_showing.specs.ByNames.{entry_shown, clock_after, entries_shown, clock_at_end}
+use Rattle.hippo_showing.specs.Showing.{shown}
 
 -- these entries can be kept, and these are their stored forms
 pub record HasForms (store : Store) (entries : History) : Type 0 where
@@ -93,4 +97,27 @@ pub record ShowsAll (known : KnownNames) (excerpt : Excerpt) (result : Ending) (
   pub front : after.tells → (entries : History) → HasForms before.kept entries
       → AppendsFront written written' (entries_shown known excerpt None entries)
   pub damaged : result ≡ Damaged → after.tells → (entries : History) → ¬ (HasForms before.kept entries)
+  pub steps : after.tells → ticks' ≤ ticks + stored_versions before.kept
+
+-- a text that depends on what a history is, of which this is known, is written, or a front of it, or nothing
+pub record WritesPage (IsSo : History → Type 0) (page : History → Txt) (result : Option Ending)
+    (written written' : Option Txt) (faults faults' : ℕ) : Type 0 where
+  pub ends : cuts result ≡ true
+  pub sound : result ≢ Some Damaged
+  pub writes : CountsWrites result faults faults'
+  pub whole : result ≡ None → (history : History) → IsSo history → Appends written written' (page history)
+  pub front : (history : History) → IsSo history → AppendsFront written written' (page history)
+
+-- what is asked for is shown of the history that a state stands for and that is kept, or a front of it
+pub record ShowsLoaded (state : State) (view : View) (result : Ending) (before after : KeeperState)
+    (written written' : Option Txt) (faults faults' ticks ticks' : ℕ) : Type 0 where
+  pub call : IsAfterCall true false (as_call result) before after
+  pub stays : after.tells → KeepsSame before after
+  pub status : result ≢ Refused
+  pub writes : CountsWrites (Some result) faults faults'
+  pub whole : result ≡ Shown → after.tells → (history : History) → StandsFor state history → HasForms before.kept history
+      → Appends written written' (shown view history)
+  pub front : after.tells → (history : History) → StandsFor state history → HasForms before.kept history
+      → AppendsFront written written' (shown view history)
+  pub damaged : result ≡ Damaged → after.tells → (history : History) → ¬ (HasForms before.kept history)
   pub steps : after.tells → ticks' ≤ ticks + stored_versions before.kept

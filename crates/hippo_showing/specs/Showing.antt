@@ -1,5 +1,5 @@
 -- What is shown of a history: the entries that are asked for, each as the statement that made it.
-use Rattle.std.specs.Prelude.{Bool, true, false, ◌&&◌, [], ◌∷◌, ◌++◌, nat_le, Option, Some, None, option_and_then, if◌then◌else◌, codes, bytes_eq}
+use Rattle.std.specs.Prelude.{Bool, true, false, ◌&&◌, [], ◌∷◌, ◌++◌, take, nat_le, Option, Some, None, if◌then◌else◌, codes, bytes_eq}
 use Rattle.std.specs.List.{list_any}
 use Rattle.std.specs.Option.{option_map_or}
 use Rattle.std.specs.Ordering.{int_eq}
@@ -11,15 +11,22 @@ use Rattle.hippo_model.specs.declared.entry.Act.{Act}
 use Rattle.hippo_model.specs.declared.entry.Act.TheVariants.{Create, Insert, Update, Delete, Allow, Revoke, Asked}
 use Rattle.hippo_model.specs.declared.entry.Entry.{Entry}
 use Rattle.hippo_model.specs.declared.schema.Schema.{Schema}
+use Rattle.hippo_model.specs.Histories.{before_entry}
 use Rattle.hippo_model.specs.Terms.{History}
-use Rattle.hippo_catalog.specs.Catalogs.{KnownNames, known_at, table_of}
+use Rattle.hippo_catalog.specs.Catalogs.{KnownNames, known_at}
 use Rattle.hippo_typing.specs.Meanings.{meaning_in}
-use Rattle.hippo_telling.specs.Telling.{told_act, table_named, entry_line}
+use Rattle.hippo_telling.specs.Telling.{told_act, schema_before, told_entry}
+use Rattle.hippo_model.specs.Validity.{creates_table}
+use Rattle.hippo_showing.specs.declared.asking.Acts.{Acts}
+use Rattle.hippo_showing.specs.declared.asking.Acts.TheVariants.{All, Tables}
 use Rattle.hippo_showing.specs.declared.asking.Excerpt.{Excerpt}
 use Rattle.hippo_showing.specs.declared.asking.Form.{Form}
 use Rattle.hippo_showing.specs.declared.asking.Form.TheVariants.{Listing, Script}
 use Rattle.hippo_showing.specs.declared.asking.Scope.{Scope}
 use Rattle.hippo_showing.specs.declared.asking.Scope.TheVariants.{Whole, Table}
+use Rattle.hippo_showing.specs.declared.asking.View.{View}
+use Rattle.hippo_showing.specs.declared.asking.View.TheVariants.{Entries, Rules}
+use Rattle.hippo_showing.specs.Ruling.{rules_shown}
 
 -- whether a text is a question that names this table in FROM
 abbrev pub asks : KnownNames → Name → Txt → Bool
@@ -40,14 +47,15 @@ abbrev pub is_within : KnownNames → Scope → Act → Bool
 is_within known Whole act = true
 is_within known (Table table) act = speaks_of known table act
 
+abbrev pub is_of : Acts → Act → Bool
+is_of All act = true
+is_of Tables act = creates_table act
+
 -- whether an entry is asked for
 abbrev pub is_asked : KnownNames → Excerpt → Entry → Bool
 is_asked known excerpt entry =
-    nat_le excerpt.first entry.seq && nat_le entry.seq excerpt.last && is_within known excerpt.scope entry.act
-
--- the schema of the table that an act names
-abbrev pub schema_named : KnownNames → Act → Option Schema
-schema_named known act = option_and_then (table_of known) (table_named act)
+    nat_le excerpt.first entry.seq && nat_le entry.seq excerpt.last && is_of excerpt.acts entry.act
+    && is_within known excerpt.scope entry.act
 
 -- a line of the console, and those of a session that asks one question
 abbrev pub console_lines : Txt → Txt
@@ -58,10 +66,10 @@ session_lines user purpose recipient text =
     codes "1 login " ++ (user ++ (codes " " ++ (purpose ++ (codes " " ++ (recipient
     ++ (codes "\n1 " ++ (text ++ codes "\n1 logout\n")))))))
 
--- the lines that make an act again
-abbrev pub act_lines : KnownNames → Act → Txt
-act_lines known (Asked user purpose recipient text) = session_lines user purpose recipient text
-act_lines known act = console_lines (told_act (schema_named known act) act)
+-- the lines that make an act again, where this is the schema of the table that it names
+abbrev pub act_lines : Option Schema → Act → Txt
+act_lines schema (Asked user purpose recipient text) = session_lines user purpose recipient text
+act_lines schema act = console_lines (told_act schema act)
 
 -- whether the clock stands at a moment
 abbrev pub stands_at : Option Moment → Moment → Bool
@@ -72,29 +80,31 @@ abbrev pub clock_line : Option Moment → Moment → Txt
 clock_line clock moment =
     if stands_at clock moment then [] else codes "at " ++ (moment_text moment ++ codes "\n")
 
--- an entry as it is shown, where the entry that was shown last had this moment
-abbrev pub shown_as : KnownNames → Form → Option Moment → Entry → Txt
-shown_as known Listing clock entry = entry_line (schema_named known entry.act) entry
-shown_as known Script clock entry = clock_line clock entry.moment ++ act_lines known entry.act
+-- an entry of a history as it is shown, where the entry that was shown last had this moment
+abbrev pub told_as : History → Form → Option Moment → Entry → Txt
+told_as history Listing clock entry = told_entry history entry
+told_as history Script clock entry =
+    clock_line clock entry.moment ++ act_lines (schema_before history entry) entry.act
 
-abbrev pub entry_shown : KnownNames → Excerpt → Option Moment → Entry → Txt
-entry_shown known excerpt clock entry =
-    if is_asked known excerpt entry then shown_as known excerpt.form clock entry else []
+-- where it is asked for, by the names that it found
+abbrev pub is_told : History → Excerpt → Entry → Bool
+is_told history excerpt entry = is_asked (known_at (before_entry entry history)) excerpt entry
 
-abbrev pub clock_after : KnownNames → Excerpt → Option Moment → Entry → Option Moment
-clock_after known excerpt clock entry = if is_asked known excerpt entry then Some entry.moment else clock
+abbrev pub entry_told : History → Excerpt → Option Moment → Entry → Txt
+entry_told history excerpt clock entry =
+    if is_told history excerpt entry then told_as history excerpt.form clock entry else []
 
--- entries one after the other
-abbrev pub entries_shown : KnownNames → Excerpt → Option Moment → History → Txt
-entries_shown known excerpt clock [] = []
-entries_shown known excerpt clock (entry ∷ later) =
-    entry_shown known excerpt clock entry ++ entries_shown known excerpt (clock_after known excerpt clock entry) later
+abbrev pub clock_then : History → Excerpt → Option Moment → Entry → Option Moment
+clock_then history excerpt clock entry = if is_told history excerpt entry then Some entry.moment else clock
 
-abbrev pub clock_at_end : KnownNames → Excerpt → Option Moment → History → Option Moment
-clock_at_end known excerpt clock [] = clock
-clock_at_end known excerpt clock (entry ∷ later) =
-    clock_at_end known excerpt (clock_after known excerpt clock entry) later
+-- entries of a history, one after the other
+abbrev pub entries_told : History → Excerpt → Option Moment → History → Txt
+entries_told history excerpt clock [] = []
+entries_told history excerpt clock (entry ∷ later) =
+    entry_told history excerpt clock entry
+    ++ entries_told history excerpt (clock_then history excerpt clock entry) later
 
--- the excerpt of a history
-abbrev pub shown : Excerpt → History → Txt
-shown excerpt history = entries_shown (known_at history) excerpt None history
+-- what is asked for of a history: an excerpt, or the rules in force after its first entries
+abbrev pub shown : View → History → Txt
+shown (Entries excerpt) history = entries_told history excerpt None history
+shown (Rules page) history = rules_shown page.scope (take page.last history)

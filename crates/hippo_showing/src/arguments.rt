@@ -57,13 +57,15 @@ fn with_numbers<'a>(alloc: Global, command: Command<'a>) -> Result<Command<'a>, 
     Ok(command.arg(number_option(alloc, "to"))?)
 }
 
-// Adds the table and the form.
-fn with_form<'a>(alloc: Global, command: Command<'a>) -> Result<Command<'a>, Memory>
-    ensures { IfOk result (λ longer. app_of longer ≡ with_rule (with_rule (app_of command.entry)
-        (text_option (codes "table"))) (flag (codes "script"))) }
+// Adds the table and the forms.
+fn with_forms<'a>(alloc: Global, command: Command<'a>) -> Result<Command<'a>, Memory>
+    ensures { IfOk result (λ longer. app_of longer ≡ with_rule (with_rule (with_rule (with_rule (app_of command.entry)
+        (text_option (codes "table"))) (flag (codes "tables"))) (flag (codes "script"))) (flag (codes "rules"))) }
 {
     let command = command.arg(text_option(alloc, "table"))?;
-    Ok(command.arg(flag(alloc, "script"))?)
+    let command = command.arg(flag(alloc, "tables"))?;
+    let command = command.arg(flag(alloc, "script"))?;
+    Ok(command.arg(flag(alloc, "rules"))?)
 }
 
 fn no_arguments<'a>(alloc: Global) -> Command<'a>
@@ -82,7 +84,7 @@ fn command_line<'a>(alloc: Global) -> Result<Command<'a>, Memory>
     ensures { IfOk result (λ command. app_of command ≡ command_line) }
 {
     let command = with_numbers(alloc, no_arguments(alloc))?;
-    with_form(alloc, command)
+    with_forms(alloc, command)
 }
 
 // What is found where the command answers an error: nothing, or memory was short.

@@ -10,12 +10,20 @@ pub enum Form {
     Script,
 }
 
-/// Which entries are shown, by what they speak of.
+/// What is shown, by the table that it speaks of.
 #[derive(Debug, Drop)]
 pub enum Scope {
     Whole,
-    /// Those that speak of one table.
+    /// What speaks of one table.
     Table(Name),
+}
+
+/// Which entries are shown, by what they do.
+#[derive(Clone, Copy, Debug, PartialEq, Eq)]
+pub enum Acts {
+    All,
+    /// Those that create a table.
+    Tables,
 }
 
 /// Some entries of a history, and how they are shown.
@@ -24,13 +32,30 @@ pub struct Excerpt {
     /// The numbers of the first and of the last entry.
     pub first: u64,
     pub last: u64,
+    pub acts: Acts,
     pub scope: Scope,
     pub form: Form,
+}
+
+/// As of which entry something is shown of a history, and of which tables.
+#[derive(Debug, Drop)]
+pub struct Page {
+    /// The number of the last entry that counts.
+    pub last: u64,
+    pub scope: Scope,
+}
+
+/// What is shown of a history.
+#[derive(Debug, Drop)]
+pub enum View {
+    Entries(Excerpt),
+    /// The rules in force.
+    Rules(Page),
 }
 
 /// The name of a store, and what is shown of its history.
 #[derive(Debug, Drop)]
 pub struct Call {
     pub store: Txt,
-    pub excerpt: Excerpt,
+    pub view: View,
 }

@@ -1,5 +1,6 @@
 //! How a call of the program ends.
-ghost use Rattle.std.specs.Prelude.{◌≡◌};
+ghost use Rattle.std.specs.Prelude.{◌≡◌, unwrap_or};
+ghost use Rattle.hippo_showing.specs.declared.endings.Ending.TheVariants.{Shown};
 ghost use Rattle.hippo_showing.specs.Endings.{status_of, ending_of};
 
 use hippo_keeper::KeeperFault;
@@ -28,6 +29,13 @@ impl Ending {
     {
         self as u8
     }
+}
+
+/// How the program ends where nothing cut it short, or what did.
+pub(crate) fn shown_or(cut: Option<Ending>) -> Ending
+    ensures { result ≡ unwrap_or cut Shown }
+{
+    cut.unwrap_or(Ending::Shown)
 }
 
 /// How the program ends where its keeper did not answer.

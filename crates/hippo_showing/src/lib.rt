@@ -1,4 +1,4 @@
-//! What a store keeps, entry by entry as a person reads it: the command line, and the top call.
+//! What a store keeps, as a person reads it: its entries, or the rules in force. The command line, and the top call.
 #![tactic(auto)]
 
 mod arguments;
@@ -7,11 +7,12 @@ mod endings;
 mod lines;
 mod printing;
 mod reading;
+mod rules;
 mod scope;
 mod showing;
 mod top;
 
-pub use asking::{Call, Excerpt, Form, Scope};
+pub use asking::{Acts, Call, Excerpt, Form, Page, Scope, View};
 pub use endings::Ending;
 pub use reading::asked_of;
 pub use top::history_top;

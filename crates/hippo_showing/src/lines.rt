@@ -2,7 +2,8 @@
 ghost use Rattle.std.specs.Prelude.{◌≡◌, ◌++◌, option_copied, OnOk, codes};
 ghost use Rattle.hippo_values.specs.Dates.{moment_text};
 ghost use Rattle.hippo_telling.specs.Telling.{told_act};
-ghost use Rattle.hippo_showing.specs.Showing.{schema_named, console_lines, session_lines, act_lines, stands_at, clock_line, shown_as};
+ghost use Rattle.hippo_showing.specs.ByNames.{schema_named, shown_as};
+ghost use Rattle.hippo_showing.specs.Showing.{console_lines, session_lines, act_lines, stands_at, clock_line};
 
 use crate::asking::Form;
 use hippo_catalog::Catalog;
@@ -99,7 +100,8 @@ fn append_session(
 
 // The lines that make an act again.
 fn append_act(alloc: Global, catalog: &Catalog, act: &Act, out: &mut Txt) -> Result<(), Memory>
-    ensures { OnOk result (out.new ≡ out.old ++ act_lines catalog.now.names act.now) }
+    ensures { OnOk result (out.new
+        ≡ out.old ++ act_lines (schema_named catalog.now.names act.now) act.now) }
 {
     match act {
         Act::Asked {
@@ -120,7 +122,8 @@ fn append_script(
     out: &mut Txt,
 ) -> Result<(), Memory>
     ensures { OnOk result (out.new
-        ≡ out.old ++ (clock_line clock.now entry.now.moment ++ act_lines catalog.now.names entry.now.act)) }
+        ≡ out.old ++ (clock_line clock.now entry.now.moment
+        ++ act_lines (schema_named catalog.now.names entry.now.act) entry.now.act)) }
 {
     append_clock(clock, &entry.moment, out)?;
     append_act(alloc, catalog, &entry.act, out)

@@ -1,10 +1,10 @@
 //! What the words of a call ask for.
-ghost use Rattle.std.specs.Prelude.{◌≡◌, codes, map, is_some, IfOk};
+ghost use Rattle.std.specs.Prelude.{◌≡◌, ◌||◌, codes, map, is_some, IfOk};
 ghost use Rattle.clap.specs.Words.{first_of, rows_of, found_of};
-ghost use Rattle.hippo_showing.specs.CommandLine.{first_in, last_in, has_end, fits, scope_of, form_in, excerpt_in, call_with, asked_in, asked_of};
+ghost use Rattle.hippo_showing.specs.CommandLine.{first_in, last_in, has_end, entry_fits, has_form, rules_fit, fits, scope_of, form_in, acts_in, excerpt_in, page_in, view_in, call_with, asked_in, asked_of};
 
 use crate::arguments::{found_in, is_on, number_or, text_of};
-use crate::asking::{Call, Excerpt, Form, Scope};
+use crate::asking::{Acts, Call, Excerpt, Form, Page, Scope, View};
 use clap::ArgMatches;
 use hippo_values::{Memory, Name, Txt};
 use std::alloc::Global;
@@ -21,10 +21,34 @@ fn has_end(matches: &ArgMatches<'_>) -> bool
     is_there(matches, "from") || is_there(matches, "to")
 }
 
+fn entry_fits(matches: &ArgMatches<'_>) -> bool
+    ensures { result ≡ entry_fits (rows_of (found_of matches.now)) }
+{
+    !(is_there(matches, "entry") && has_end(matches))
+}
+
+fn has_form(matches: &ArgMatches<'_>) -> bool
+    ensures { result ≡ has_form (rows_of (found_of matches.now)) }
+{
+    is_on(matches, "tables") || is_on(matches, "script")
+}
+
+fn is_of_entries(matches: &ArgMatches<'_>) -> bool
+    ensures { result ≡ (has_end (rows_of (found_of matches.now)) || has_form (rows_of (found_of matches.now))) }
+{
+    has_end(matches) || has_form(matches)
+}
+
+fn rules_fit(matches: &ArgMatches<'_>) -> bool
+    ensures { result ≡ rules_fit (rows_of (found_of matches.now)) }
+{
+    !(is_on(matches, "rules") && is_of_entries(matches))
+}
+
 fn fits(matches: &ArgMatches<'_>) -> bool
     ensures { result ≡ fits (rows_of (found_of matches.now)) }
 {
-    !(is_there(matches, "entry") && has_end(matches))
+    entry_fits(matches) && rules_fit(matches)
 }
 
 fn first_of(matches: &ArgMatches<'_>) -> Result<u64, Memory>
@@ -60,6 +84,16 @@ fn form_of(matches: &ArgMatches<'_>) -> Form
     }
 }
 
+fn acts_of(matches: &ArgMatches<'_>) -> Acts
+    ensures { result ≡ acts_in (rows_of (found_of matches.now)) }
+{
+    if is_on(matches, "tables") {
+        Acts::Tables
+    } else {
+        Acts::All
+    }
+}
+
 fn excerpt_of(matches: &ArgMatches<'_>, scope: Scope) -> Result<Excerpt, Memory>
     ensures { IfOk result (λ excerpt. excerpt ≡ excerpt_in (rows_of (found_of matches.now)) scope) }
 {
@@ -68,17 +102,35 @@ fn excerpt_of(matches: &ArgMatches<'_>, scope: Scope) -> Result<Excerpt, Memory>
     Ok(Excerpt {
         first,
         last,
+        acts: acts_of(matches),
         scope,
         form: form_of(matches),
     })
 }
 
+fn page_of(matches: &ArgMatches<'_>, scope: Scope) -> Result<Page, Memory>
+    ensures { IfOk result (λ page. page ≡ page_in (rows_of (found_of matches.now)) scope) }
+{
+    let last = last_of(matches)?;
+    Ok(Page { last, scope })
+}
+
+fn view_of(matches: &ArgMatches<'_>, scope: Scope) -> Result<View, Memory>
+    ensures { IfOk result (λ view. view ≡ view_in (rows_of (found_of matches.now)) scope) }
+{
+    if is_on(matches, "rules") {
+        Ok(View::Rules(page_of(matches, scope)?))
+    } else {
+        Ok(View::Entries(excerpt_of(matches, scope)?))
+    }
+}
+
 fn call_with(alloc: Global, matches: &ArgMatches<'_>, scope: Scope) -> Result<Call, Memory>
     ensures { IfOk result (λ call. call ≡ call_with (rows_of (found_of matches.now)) scope) }
 {
-    let excerpt = excerpt_of(matches, scope)?;
+    let view = view_of(matches, scope)?;
     let store = Txt::from_str(alloc, text_of(matches, "store").unwrap_or(""))?;
-    Ok(Call { store, excerpt })
+    Ok(Call { store, view })
 }
 
 fn asked_with(alloc: Global, matches: &ArgMatches<'_>) -> Result<Option<Call>, Memory>
@@ -115,13 +167,16 @@ fn asked_in(alloc: Global, words: &[&str]) -> Result<Option<Call>, Memory>
 
 /// What the words of a call ask for: options in any order, `--NAME VALUE` or `--NAME=VALUE`, and the store must be
 /// among them. Nothing where the command does not take them, as where a word is unknown or an option stands twice, where
-/// a number is out of its bounds or a table's name is none, or where an entry is named beside an end of a stretch. Or
-/// want of memory.
+/// a number is out of its bounds or a table's name is none, where an entry is named beside an end of a stretch, or where
+/// the rules are asked for beside such an end, the tables or a script. Or want of memory.
 ///
 /// ```text
 /// --store clinic.db --entry 18
 /// --store clinic.db --from 10 --to 20 --table patient
 /// --store clinic.db --script
+/// --store clinic.db --tables
+/// --store clinic.db --rules
+/// --store clinic.db --rules --entry 18 --table patient
 /// ```
 pub fn asked_of(alloc: Global, words: &[Txt]) -> Result<Option<Call>, Memory>
     ensures { IfOk result (λ call. call ≡ asked_of words.now) }

@@ -1,9 +1,10 @@
 //! Which entries are asked for.
 ghost use Rattle.std.specs.Prelude.{◌≡◌, ◌&&◌, nat_le, bytes_eq, IfOk};
 ghost use Rattle.std.specs.List.{list_any};
-ghost use Rattle.hippo_showing.specs.Showing.{asks, speaks_of, is_within, is_asked};
+ghost use Rattle.hippo_model.specs.Validity.{creates_table};
+ghost use Rattle.hippo_showing.specs.Showing.{asks, speaks_of, is_within, is_of, is_asked};
 
-use crate::asking::{Excerpt, Scope};
+use crate::asking::{Acts, Excerpt, Scope};
 use hippo_catalog::Catalog;
 use hippo_model::{Act, Entry, Query};
 use hippo_typing::read_meaning;
@@ -65,6 +66,32 @@ fn is_between(excerpt: &Excerpt, number: u64) -> bool
     excerpt.first <= number && number <= excerpt.last
 }
 
+fn creates_table(act: &Act) -> bool
+    ensures { result ≡ creates_table act.now }
+{
+    match act {
+        Act::Create(_) => true,
+        _ => false,
+    }
+}
+
+fn is_of(acts: Acts, act: &Act) -> bool
+    ensures { result ≡ is_of acts act.now }
+{
+    match acts {
+        Acts::All => true,
+        Acts::Tables => creates_table(act),
+    }
+}
+
+// Whether an entry is asked for, whatever table it speaks of.
+fn is_counted(excerpt: &Excerpt, entry: &Entry) -> bool
+    ensures { result ≡ (nat_le excerpt.now.first entry.now.seq && nat_le entry.now.seq excerpt.now.last
+        && is_of excerpt.now.acts entry.now.act) }
+{
+    is_between(excerpt, entry.seq) && is_of(excerpt.acts, &entry.act)
+}
+
 /// Whether an entry is asked for.
 pub(crate) fn is_asked(
     alloc: Global,
@@ -74,7 +101,7 @@ pub(crate) fn is_asked(
 ) -> Result<bool, Memory>
     ensures { IfOk result (λ asked. asked ≡ is_asked catalog.now.names excerpt.now entry.now) }
 {
-    if is_between(excerpt, entry.seq) {
+    if is_counted(excerpt, entry) {
         is_within(alloc, catalog, &excerpt.scope, &entry.act)
     } else {
         Ok(false)

@@ -2,7 +2,7 @@
 ghost use Rattle.std.specs.Prelude.{◌≡◌, None, true, [], ◌∷◌};
 ghost use Rattle.hippo_keeper.specs.Keeping.{RisesAbove, last_number, IsReady};
 ghost use Rattle.hippo_showing.specs.Saying.{Writes};
-ghost use Rattle.hippo_showing.specs.Showing.{shown_as};
+ghost use Rattle.hippo_showing.specs.ByNames.{shown_as};
 ghost use Rattle.hippo_showing.specs.Progress.{ShowsEntry, ShowsKept, ShowsNext, ShowsAll};
 
 use crate::asking::Excerpt;

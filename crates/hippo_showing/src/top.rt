@@ -1,26 +1,29 @@
 //! The top call: what the words ask for is shown of what a keeper keeps, and the call has its exit status.
-ghost use Rattle.std.specs.Prelude.{◌≡◌, ◌≢◌, ◌⊎◌, ◌+◌, ◌*◌, ◌≤◌, [], ◌∷◌, None, Some, true, false, Any};
+ghost use Rattle.std.specs.Prelude.{◌≡◌, ◌≢◌, ◌⊎◌, ◌+◌, ◌*◌, ◌≤◌, [], ◌∷◌, take, None, Some, true, false, Any};
 ghost use Rattle.hippo_io.specs.Faults.{HasRisen};
 ghost use Rattle.hippo_io.specs.Told.{Appends, AppendsFront};
 ghost use Rattle.hippo_keeper.specs.Keeping.{RisesAbove, IsReady, IsAfterCall};
 ghost use Rattle.hippo_keeper.specs.Selecting.{stored_versions};
-ghost use Rattle.hippo_showing.specs.Progress.{ShowsAll};
+ghost use Rattle.hippo_policy.specs.Books.{StandsFor as BookStandsFor};
+ghost use Rattle.hippo_showing.specs.Ruling.{rules_by_names};
+ghost use Rattle.hippo_showing.specs.Progress.{ShowsAll, WritesPage, ShowsLoaded};
 ghost use Rattle.hippo_showing.specs.declared.asking.Call.{Call as AskedCall};
 ghost use Rattle.hippo_showing.specs.declared.endings.Ending.TheVariants.{Refused, WriteFault};
 ghost use Rattle.hippo_showing.specs.CommandLine.{asked_of};
 ghost use Rattle.hippo_showing.specs.Endings.{as_call};
-ghost use Rattle.hippo_showing.specs.Outcomes.{IsIdle, SaysDamaged, BeginsDamaged, ShowsExcerpt, BeginsExcerpt, Ends, Stops};
+ghost use Rattle.hippo_showing.specs.Outcomes.{IsIdle, SaysDamaged, BeginsDamaged, ShowsView, BeginsView, Ends, Stops};
 ghost use Rattle.hippo_showing.specs.Saying.{usage, CountsWrites};
 
-use crate::asking::Excerpt;
-use crate::endings::Ending;
-use crate::printing::{refuse, say_damaged};
+use crate::asking::{Excerpt, Page, View};
+use crate::endings::{Ending, shown_or};
+use crate::printing::{refuse, say_damaged, write_lines};
 use crate::reading::asked_of;
+use crate::rules::append_rules;
 use crate::showing::{Guide, show_all};
 use hippo_io::Sink;
 use hippo_keeper::{Keeper, Steps};
 use hippo_replay::{LoadFault, State, load};
-use hippo_values::Txt;
+use hippo_values::{Memory, Txt};
 use std::alloc::Global;
 use std::sync::ledger::Ledger;
 
@@ -36,18 +39,18 @@ fn stop<K: Sink>(fault: LoadFault, sink: &mut K) -> Ending
     }
 }
 
-// Shows what is asked for of the history that a state stands for, by the names that it holds.
-fn show_loaded<K: Sink, P: Keeper, L: Ledger>(
+// Shows some entries of the history that a state stands for, by the names that it holds.
+fn show_entries<K: Sink, P: Keeper, L: Ledger>(
     alloc: Global,
     excerpt: &Excerpt,
-    state: State,
+    state: &State,
     sink: &mut K,
     keeper: &mut P,
     steps: &mut Steps<L>,
 ) -> Ending
     requires ready { IsReady true (P.state keeper.old) }
     requires order { (P.state keeper.old).tells → RisesAbove 0 (P.state keeper.old).kept }
-    ensures shows { ShowsAll state.catalog.names excerpt.now result
+    ensures shows { ShowsAll state.now.catalog.names excerpt.now result
         (P.state keeper.old) (P.state keeper.new) (K.written sink.old) (K.written sink.new)
         (K.faults sink.old) (K.faults sink.new) steps.old steps.new }
 {
@@ -56,7 +59,59 @@ fn show_loaded<K: Sink, P: Keeper, L: Ledger>(
         catalog: &state.catalog,
         excerpt,
     };
-    let ending = show_all(&guide, sink, keeper, steps);
+    show_all(&guide, sink, keeper, steps)
+}
+
+// Writes the rules that are in force.
+fn write_rules<K: Sink>(alloc: Global, page: &Page, state: &State, sink: &mut K) -> Option<Ending>
+    ensures writes { WritesPage (BookStandsFor state.now.book)
+        (λ history. rules_by_names state.now.catalog.names page.now.scope (take page.now.last history)) result
+        (K.written sink.old) (K.written sink.new) (K.faults sink.old) (K.faults sink.new) }
+{
+    let mut lines = Txt::new(alloc);
+    match append_rules(&state.catalog, &state.book, page, &mut lines) {
+        Ok(()) => write_lines(sink, lines.as_str()),
+        Err(Memory) => Some(Ending::NoMemory),
+    }
+}
+
+// Shows what is asked for of the history that a state stands for.
+fn show_view<K: Sink, P: Keeper, L: Ledger>(
+    alloc: Global,
+    view: &View,
+    state: &State,
+    sink: &mut K,
+    keeper: &mut P,
+    steps: &mut Steps<L>,
+) -> Ending
+    requires ready { IsReady true (P.state keeper.old) }
+    requires order { (P.state keeper.old).tells → RisesAbove 0 (P.state keeper.old).kept }
+    ensures shows { ShowsLoaded state.now view.now result
+        (P.state keeper.old) (P.state keeper.new) (K.written sink.old) (K.written sink.new)
+        (K.faults sink.old) (K.faults sink.new) steps.old steps.new }
+{
+    match view {
+        View::Entries(excerpt) => show_entries(alloc, excerpt, state, sink, keeper, steps),
+        View::Rules(page) => shown_or(write_rules(alloc, page, state, sink)),
+    }
+}
+
+// The same, and the state falls.
+fn show_loaded<K: Sink, P: Keeper, L: Ledger>(
+    alloc: Global,
+    view: &View,
+    state: State,
+    sink: &mut K,
+    keeper: &mut P,
+    steps: &mut Steps<L>,
+) -> Ending
+    requires ready { IsReady true (P.state keeper.old) }
+    requires order { (P.state keeper.old).tells → RisesAbove 0 (P.state keeper.old).kept }
+    ensures shows { ShowsLoaded state view.now result
+        (P.state keeper.old) (P.state keeper.new) (K.written sink.old) (K.written sink.new)
+        (K.faults sink.old) (K.faults sink.new) steps.old steps.new }
+{
+    let ending = show_view(alloc, view, &state, sink, keeper, steps);
     drop(state);
     ending
 }
@@ -65,7 +120,7 @@ fn show_loaded<K: Sink, P: Keeper, L: Ledger>(
 fn show<K: Sink, P: Keeper, L: Ledger>(
     alloc: Global,
     store: &str,
-    excerpt: &Excerpt,
+    view: &View,
     sink: &mut K,
     keeper: &mut P,
     steps: &mut Steps<L>,
@@ -74,7 +129,7 @@ fn show<K: Sink, P: Keeper, L: Ledger>(
     ensures status { result ≢ Refused }
     ensures call { IsAfterCall (P.state keeper.new).started (P.state keeper.new).closed (as_call result)
         (P.state keeper.old) (P.state keeper.new) }
-    ensures ends { (P.state keeper.new).tells → Ends result (sink.new ≡ sink.old) excerpt.now store.now
+    ensures ends { (P.state keeper.new).tells → Ends result (sink.new ≡ sink.old) view.now store.now
         (P.state keeper.old) (P.state keeper.new) (K.written sink.old) (K.written sink.new) }
     ensures idle { (P.state keeper.new).tells → IsIdle store.now (P.state keeper.old) (P.state keeper.new) }
     ensures writes { CountsWrites (Some result) (K.faults sink.old) (K.faults sink.new) }
@@ -82,7 +137,7 @@ fn show<K: Sink, P: Keeper, L: Ledger>(
         steps.new ≤ steps.old + 2 * stored_versions (P.state keeper.new).kept }
 {
     match load(keeper, alloc, store, steps) {
-        Ok(state) => show_loaded(alloc, excerpt, state, sink, keeper, steps),
+        Ok(state) => show_loaded(alloc, view, state, sink, keeper, steps),
         Err(fault) => stop(fault, sink),
     }
 }
@@ -98,8 +153,9 @@ fn show<K: Sink, P: Keeper, L: Ledger>(
 ///   from 1, of the first entry up to which they are not.
 /// - 7: memory was short; what is written is a front of what is asked for.
 ///
-/// The kept entries stay as they were found. They are read twice, each time in pieces: first to load the history, so
-/// that damage is told before anything else is written, and then to show them.
+/// The kept entries stay as they were found. They are read in pieces: first to load the history, so that damage is told
+/// before anything else is written, and once more where entries are asked for, to show them. The rules in force are made
+/// in memory from what was loaded, and then written.
 pub fn history_top<K: Sink, P: Keeper, L: Ledger>(
     alloc: Global,
     words: &[Txt],
@@ -120,21 +176,21 @@ pub fn history_top<K: Sink, P: Keeper, L: Ledger>(
 
     // What is shown, where the keeper tells, of a history that a start may find.
     ensures shown { (call : AskedCall) → asked_of words.now ≡ Some call → result ≡ 0 → (P.state keeper.new).tells →
-        ShowsExcerpt call.excerpt call.store
+        ShowsView call.view call.store
         (P.state keeper.old) (P.state keeper.new) (K.written sink.old) (K.written sink.new) }
     ensures keeper_cut { (call : AskedCall) → asked_of words.now ≡ Some call → result ≡ 3 → (P.state keeper.new).tells →
         ((sink.new ≡ sink.old) × IsIdle call.store (P.state keeper.old) (P.state keeper.new))
-        ⊎ BeginsExcerpt call.excerpt call.store
+        ⊎ BeginsView call.view call.store
         (P.state keeper.old) (P.state keeper.new) (K.written sink.old) (K.written sink.new) }
     ensures write_cut { (call : AskedCall) → asked_of words.now ≡ Some call → result ≡ 5 → (P.state keeper.new).tells →
         BeginsDamaged call.store (P.state keeper.old) (P.state keeper.new) (K.written sink.old) (K.written sink.new)
-        ⊎ BeginsExcerpt call.excerpt call.store
+        ⊎ BeginsView call.view call.store
         (P.state keeper.old) (P.state keeper.new) (K.written sink.old) (K.written sink.new) }
     ensures damaged { (call : AskedCall) → asked_of words.now ≡ Some call → result ≡ 6 → (P.state keeper.new).tells →
         SaysDamaged call.store (P.state keeper.old) (P.state keeper.new) (K.written sink.old) (K.written sink.new) }
     ensures memory_cut { (call : AskedCall) → asked_of words.now ≡ Some call → result ≡ 7 → (P.state keeper.new).tells →
         ((sink.new ≡ sink.old) × IsIdle call.store (P.state keeper.old) (P.state keeper.new))
-        ⊎ BeginsExcerpt call.excerpt call.store
+        ⊎ BeginsView call.view call.store
         (P.state keeper.old) (P.state keeper.new) (K.written sink.old) (K.written sink.new) }
 
     // What is kept stays as it was found, and each version in it is read twice at most.
@@ -158,5 +214,5 @@ pub fn history_top<K: Sink, P: Keeper, L: Ledger>(
         return refuse(sink).status();
     };
     let store = call.store.as_str();
-    show(alloc, store, &call.excerpt, sink, keeper, steps).status()
+    show(alloc, store, &call.view, sink, keeper, steps).status()
 }

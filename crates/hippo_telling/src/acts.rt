@@ -89,7 +89,7 @@ fn append_act<const ROOM: usize>(
                 table,
                 places,
             };
-            append_allow(columns, &rule, item, *days, out)
+            append_allow(columns, &rule, item.as_ref(), *days, out)
         }
         Act::Revoke {
             purpose,

@@ -12,3 +12,4 @@ mod tables;
 
 pub use acts::{table_named, tell_act};
 pub use entries::entry_line;
+pub use rules::{Rule, append_allow, append_rule};

@@ -1,5 +1,5 @@
 //! Users, rules, choices and questions.
-ghost use Rattle.std.specs.Prelude.{◌≡◌, ◌++◌, codes, OnOk, OnErr};
+ghost use Rattle.std.specs.Prelude.{◌≡◌, ◌++◌, codes, option_copied, OnOk, OnErr};
 ghost use Rattle.hippo_values.specs.Printing.{KeepsFront};
 ghost use Rattle.hippo_telling.specs.Telling.{item_kind_text, item_text, grant_text, rule_text, with_text, retention_text, allow_text, agreed_text, choice_text, asked_text};
 
@@ -67,7 +67,7 @@ pub struct Rule<'a> {
     pub places: &'a [usize],
 }
 
-/// Adds a word, and what a rule names.
+/// Adds a word, and what a rule names. What it adds where memory is short is a front of it.
 pub fn append_rule<const ROOM: usize>(
     word: &str,
     columns: &[Column],
@@ -86,10 +86,10 @@ pub fn append_rule<const ROOM: usize>(
 
 // Adds the item of a rule, where it has one.
 fn append_with<const ROOM: usize>(
-    item: &Option<Name>,
+    item: Option<&Name>,
     out: &mut RoomyTxt<ROOM>,
 ) -> Result<(), Memory>
-    ensures ok { OnOk result (out.new ≡ out.old ++ with_text item.now) }
+    ensures ok { OnOk result (out.new ≡ out.old ++ with_text (option_copied item.entry)) }
     ensures err { OnErr result (KeepsFront out.old out.new) }
 {
     match item {
@@ -116,16 +116,16 @@ fn append_retention<const ROOM: usize>(
     }
 }
 
-/// Adds an ALLOW.
+/// Adds an ALLOW. What it adds where memory is short is a front of it.
 pub fn append_allow<const ROOM: usize>(
     columns: &[Column],
     rule: &Rule<'_>,
-    item: &Option<Name>,
+    item: Option<&Name>,
     days: Option<u32>,
     out: &mut RoomyTxt<ROOM>,
 ) -> Result<(), Memory>
     ensures ok { OnOk result (out.new ≡ out.old ++ allow_text columns.now rule.now.purpose.now
-        rule.now.recipient.now rule.now.table.now rule.now.places.now item.now days) }
+        rule.now.recipient.now rule.now.table.now rule.now.places.now (option_copied item.entry) days) }
     ensures err { OnErr result (KeepsFront out.old out.new) }
 {
     append_rule("ALLOW ", columns, rule, out)?;

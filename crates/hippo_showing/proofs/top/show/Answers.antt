@@ -13,37 +13,37 @@ show_loaded-requires g c = record {
 }
 
 pub returns-in-Ok-clause-call : goal.returns-in-Ok-clause-call
-returns-in-Ok-clause-call g c = show_call c.args.store.now c.args.excerpt.now c.in-Ok.state (g.P.Keeper.state c.args.keeper.now) (g.P.Keeper.state c.load.new.keeper) (g.P.Keeper.state c.show_loaded.new.keeper) c.show_loaded.result
+returns-in-Ok-clause-call g c = show_call c.args.store.now c.args.view.now c.in-Ok.state (g.P.Keeper.state c.args.keeper.now) (g.P.Keeper.state c.load.new.keeper) (g.P.Keeper.state c.show_loaded.new.keeper) c.show_loaded.result
     (g.K.Sink.written c.args.sink.now) (g.K.Sink.written c.show_loaded.new.sink) (g.K.Sink.faults c.args.sink.now) (g.K.Sink.faults c.show_loaded.new.sink) c.args.steps.now c.load.new.steps c.show_loaded.new.steps c.in-Ok.ensures.loads c.show_loaded.ensures.shows
 
 pub returns-in-Ok-clause-ends : goal.returns-in-Ok-clause-ends
-returns-in-Ok-clause-ends g c = λ tells. show_ends c.args.store.now c.args.excerpt.now c.in-Ok.state (g.P.Keeper.state c.args.keeper.now) (g.P.Keeper.state c.load.new.keeper) (g.P.Keeper.state c.show_loaded.new.keeper) c.show_loaded.result
+returns-in-Ok-clause-ends g c = λ tells. show_ends c.args.store.now c.args.view.now c.in-Ok.state (g.P.Keeper.state c.args.keeper.now) (g.P.Keeper.state c.load.new.keeper) (g.P.Keeper.state c.show_loaded.new.keeper) c.show_loaded.result
     (g.K.Sink.written c.args.sink.now) (g.K.Sink.written c.show_loaded.new.sink) (g.K.Sink.faults c.args.sink.now) (g.K.Sink.faults c.show_loaded.new.sink) c.args.steps.now c.load.new.steps c.show_loaded.new.steps c.in-Ok.ensures.loads c.show_loaded.ensures.shows tells _
 
 pub returns-in-Ok-clause-idle : goal.returns-in-Ok-clause-idle
-returns-in-Ok-clause-idle g c = λ tells started. show_kept c.args.store.now c.args.excerpt.now c.in-Ok.state (g.P.Keeper.state c.args.keeper.now) (g.P.Keeper.state c.load.new.keeper) (g.P.Keeper.state c.show_loaded.new.keeper) c.show_loaded.result
+returns-in-Ok-clause-idle g c = λ tells started. show_kept c.args.store.now c.args.view.now c.in-Ok.state (g.P.Keeper.state c.args.keeper.now) (g.P.Keeper.state c.load.new.keeper) (g.P.Keeper.state c.show_loaded.new.keeper) c.show_loaded.result
     (g.K.Sink.written c.args.sink.now) (g.K.Sink.written c.show_loaded.new.sink) (g.K.Sink.faults c.args.sink.now) (g.K.Sink.faults c.show_loaded.new.sink) c.args.steps.now c.load.new.steps c.show_loaded.new.steps c.in-Ok.ensures.loads c.show_loaded.ensures.shows tells
 
 pub returns-in-Ok-clause-steps : goal.returns-in-Ok-clause-steps
-returns-in-Ok-clause-steps g c = λ tells. show_steps c.args.store.now c.args.excerpt.now c.in-Ok.state (g.P.Keeper.state c.args.keeper.now) (g.P.Keeper.state c.load.new.keeper) (g.P.Keeper.state c.show_loaded.new.keeper) c.show_loaded.result
+returns-in-Ok-clause-steps g c = λ tells. show_steps c.args.store.now c.args.view.now c.in-Ok.state (g.P.Keeper.state c.args.keeper.now) (g.P.Keeper.state c.load.new.keeper) (g.P.Keeper.state c.show_loaded.new.keeper) c.show_loaded.result
     (g.K.Sink.written c.args.sink.now) (g.K.Sink.written c.show_loaded.new.sink) (g.K.Sink.faults c.args.sink.now) (g.K.Sink.faults c.show_loaded.new.sink) c.args.steps.now c.load.new.steps c.show_loaded.new.steps c.in-Ok.ensures.loads c.show_loaded.ensures.shows tells
 
 pub returns-in-Err-clause-status : goal.returns-in-Err-clause-status
-returns-in-Err-clause-status g c = stop_status c.args.store.now c.args.excerpt.now (g.P.Keeper.state c.args.keeper.now) (g.P.Keeper.state c.load.new.keeper) (g.K.Sink.written c.args.sink.now) (g.K.Sink.written c.stop.new.sink)
+returns-in-Err-clause-status g c = stop_status c.args.store.now c.args.view.now (g.P.Keeper.state c.args.keeper.now) (g.P.Keeper.state c.load.new.keeper) (g.K.Sink.written c.args.sink.now) (g.K.Sink.written c.stop.new.sink)
     (g.K.Sink.faults c.args.sink.now) (g.K.Sink.faults c.stop.new.sink) c.args.steps.now c.load.new.steps c.in-Err.fault c.stop.result _ c.stop.ensures.stops
 
 pub returns-in-Err-clause-call : goal.returns-in-Err-clause-call
-returns-in-Err-clause-call g c = stop_call c.args.store.now c.args.excerpt.now (g.P.Keeper.state c.args.keeper.now) (g.P.Keeper.state c.load.new.keeper) (g.K.Sink.written c.args.sink.now) (g.K.Sink.written c.stop.new.sink)
+returns-in-Err-clause-call g c = stop_call c.args.store.now c.args.view.now (g.P.Keeper.state c.args.keeper.now) (g.P.Keeper.state c.load.new.keeper) (g.K.Sink.written c.args.sink.now) (g.K.Sink.written c.stop.new.sink)
     (g.K.Sink.faults c.args.sink.now) (g.K.Sink.faults c.stop.new.sink) c.args.steps.now c.load.new.steps c.in-Err.fault c.stop.result _ c.stop.ensures.stops c.in-Err.ensures.loads
 
 pub returns-in-Err-clause-ends : goal.returns-in-Err-clause-ends
-returns-in-Err-clause-ends g c = λ tells. stop_ends c.args.store.now c.args.excerpt.now (g.P.Keeper.state c.args.keeper.now) (g.P.Keeper.state c.load.new.keeper) (g.K.Sink.written c.args.sink.now) (g.K.Sink.written c.stop.new.sink)
+returns-in-Err-clause-ends g c = λ tells. stop_ends c.args.store.now c.args.view.now (g.P.Keeper.state c.args.keeper.now) (g.P.Keeper.state c.load.new.keeper) (g.K.Sink.written c.args.sink.now) (g.K.Sink.written c.stop.new.sink)
     (g.K.Sink.faults c.args.sink.now) (g.K.Sink.faults c.stop.new.sink) c.args.steps.now c.load.new.steps c.in-Err.fault c.stop.result _ c.stop.ensures.stops c.in-Err.ensures.loads tells
 
 pub returns-in-Err-clause-writes : goal.returns-in-Err-clause-writes
-returns-in-Err-clause-writes g c = stop_writes c.args.store.now c.args.excerpt.now (g.P.Keeper.state c.args.keeper.now) (g.P.Keeper.state c.load.new.keeper) (g.K.Sink.written c.args.sink.now) (g.K.Sink.written c.stop.new.sink)
+returns-in-Err-clause-writes g c = stop_writes c.args.store.now c.args.view.now (g.P.Keeper.state c.args.keeper.now) (g.P.Keeper.state c.load.new.keeper) (g.K.Sink.written c.args.sink.now) (g.K.Sink.written c.stop.new.sink)
     (g.K.Sink.faults c.args.sink.now) (g.K.Sink.faults c.stop.new.sink) c.args.steps.now c.load.new.steps c.in-Err.fault c.stop.result _ c.stop.ensures.stops
 
 pub returns-in-Err-clause-steps : goal.returns-in-Err-clause-steps
-returns-in-Err-clause-steps g c = λ tells. stop_steps c.args.store.now c.args.excerpt.now (g.P.Keeper.state c.args.keeper.now) (g.P.Keeper.state c.load.new.keeper) (g.K.Sink.written c.args.sink.now) (g.K.Sink.written c.stop.new.sink)
+returns-in-Err-clause-steps g c = λ tells. stop_steps c.args.store.now c.args.view.now (g.P.Keeper.state c.args.keeper.now) (g.P.Keeper.state c.load.new.keeper) (g.K.Sink.written c.args.sink.now) (g.K.Sink.written c.stop.new.sink)
     (g.K.Sink.faults c.args.sink.now) (g.K.Sink.faults c.stop.new.sink) c.args.steps.now c.load.new.steps c.in-Err.fault c.in-Err.ensures.loads tells

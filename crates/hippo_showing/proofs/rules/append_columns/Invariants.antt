@@ -1,0 +1,13 @@
+-- The text so far and then the columns that are left are all.
+use Rattle.std.proofs.Common.{◌≡◌, ◌++◌, ◌-◌, flat_map, take, length}
+use Rattle.std.specs.List.{range_with_len}
+use Rattle.hippo_model.specs.Terms.{History}
+use Rattle.hippo_policy.specs.Books.{StandsFor}
+use Rattle.hippo_showing.specs.Ruling.{column_line, columns_shown}
+use Rattle.hippo_showing.proofs.rules.append_columns.Given as goal
+
+abbrev pub invariant-loop-place : goal.invariant-loop-place
+invariant-loop-place l =
+    (history : History) → StandsFor l.policy.book.now history
+    → l.out ++ flat_map (column_line (take l.policy.n history) l.group.purpose.now l.group.recipient.now l.group.schema.now) (range_with_len l.place (length l.group.schema.now.columns - l.place))
+    ≡ l.initial.out ++ columns_shown (take l.policy.n history) l.group.purpose.now l.group.recipient.now l.group.schema.now

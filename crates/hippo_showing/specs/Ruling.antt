@@ -1,0 +1,76 @@
+-- What is in force after a history: for each purpose and recipient, and each table of which a rule names some column for
+-- them, every column with its rule.
+use Rattle.std.specs.Prelude.{ℕ, Bool, true, false, ◌&&◌, List, [], ◌∷◌, ◌++◌, flat_map, length, Option, Some, None, is_some, if◌then◌else◌, codes, decimal, bytes_eq}
+use Rattle.std.specs.List.{list_any, range_with_len}
+use Rattle.hippo_values.specs.Texts.{Txt}
+use Rattle.hippo_values.specs.declared.names.Name.{Name}
+use Rattle.hippo_model.specs.declared.schema.Column.{Column}
+use Rattle.hippo_model.specs.declared.schema.Schema.{Schema}
+use Rattle.hippo_model.specs.Rules.{Rule, allowed, revoked, rule_at}
+use Rattle.hippo_model.specs.Terms.{History, Place}
+use Rattle.hippo_catalog.specs.Catalogs.{KnownNames, known_at}
+use Rattle.hippo_policy.specs.Rulings.{opt_in_at}
+use Rattle.hippo_telling.specs.Telling.{allow_text, rule_text}
+use Rattle.hippo_showing.specs.declared.asking.Scope.{Scope}
+use Rattle.hippo_showing.specs.declared.asking.Scope.TheVariants.{Whole, Table}
+
+-- a rule by the number of its entry, as the statement that says it of these columns; 0 where there is none
+abbrev pub ruling_text : List Column → Name → Name → Name → List Place → Option Rule → Txt
+ruling_text columns purpose recipient table places None =
+    codes "0 nothing allows " ++ rule_text columns purpose recipient table places
+ruling_text columns purpose recipient table places (Some (revoked number)) =
+    decimal number ++ (codes " REVOKE " ++ rule_text columns purpose recipient table places)
+ruling_text columns purpose recipient table places (Some (allowed number item days)) =
+    decimal number ++ (codes " " ++ allow_text columns purpose recipient table places item days)
+
+-- how a patient's silence on a rule's item is read, where it has one
+abbrev pub silence_text : Option Bool → Txt
+silence_text None = []
+silence_text (Some true) = codes " (OPT IN)"
+silence_text (Some false) = codes " (OPT OUT)"
+
+-- the rule of a column
+abbrev pub column_rule : History → Name → Name → Schema → Place → Option Rule
+column_rule history purpose recipient schema place = rule_at history purpose recipient schema.name place
+
+abbrev pub column_line : History → Name → Name → Schema → Place → Txt
+column_line history purpose recipient schema place =
+    ruling_text schema.columns purpose recipient schema.name (place ∷ [])
+    (column_rule history purpose recipient schema place)
+    ++ (silence_text (opt_in_at history (column_rule history purpose recipient schema place)) ++ codes "\n")
+
+-- whether some column of a table has a rule
+abbrev pub is_ruled : History → Name → Name → Schema → Bool
+is_ruled history purpose recipient schema =
+    list_any (λ place. is_some (column_rule history purpose recipient schema place))
+    (range_with_len 0 (length schema.columns))
+
+-- then every column is shown
+abbrev pub columns_shown : History → Name → Name → Schema → Txt
+columns_shown history purpose recipient schema =
+    flat_map (column_line history purpose recipient schema) (range_with_len 0 (length schema.columns))
+
+-- whether a table is asked for
+abbrev pub has_table : Scope → Name → Bool
+has_table Whole table = true
+has_table (Table name) table = bytes_eq name table
+
+abbrev pub table_shown : Scope → History → Name → Name → Schema → Txt
+table_shown scope history purpose recipient schema =
+    if has_table scope schema.name && is_ruled history purpose recipient schema
+    then columns_shown history purpose recipient schema else []
+
+abbrev pub tables_shown : KnownNames → Scope → History → Name → Name → Txt
+tables_shown known scope history purpose recipient =
+    flat_map (λ named. table_shown scope history purpose recipient named.1) known.tables
+
+-- the rules in force, by these purposes, recipients and tables
+abbrev pub rules_by_names : KnownNames → Scope → History → Txt
+rules_by_names known scope history =
+    flat_map
+    (λ purpose. flat_map (λ recipient. tables_shown known scope history purpose recipient) known.recipients)
+    known.purposes
+
+-- by all that a history creates, in the order of their creation
+abbrev pub rules_shown : Scope → History → Txt
+rules_shown scope history = rules_by_names (known_at history) scope history
