@@ -10,10 +10,10 @@ ghost use Rattle.hippo_typing.specs.Meanings.{meaning};
 ghost use Rattle.hippo_replay.specs.Standing.{StandsFor, IsNext, takes_no_memory, PartsAdd, Remembers};
 
 use hippo_catalog::Catalog;
-use hippo_model::Entry;
+use hippo_model::{Entry, Query};
 use hippo_policy::PolicyBook;
 use hippo_tables::Tables;
-use hippo_values::{Memory, Moment, Name};
+use hippo_values::{Memory, Moment};
 use std::alloc::Global;
 
 /// What a valid history says: its names, rules and rows, and how far it goes.
@@ -79,14 +79,15 @@ impl State {
         }
     }
 
-    /// Keeps, from now on, an order of a table's rows by a column, where the table is there and has more than 256 rows;
-    /// the state stays what it is.
-    pub fn order_by(&mut self, alloc: Global, table: &Name, column: usize)
+    /// Has the tables of a query keep, from now on, orders of their rows by the columns that it compares with `=`, so
+    /// that it finds rows by halves; the state stays what it is.
+    pub fn order_for(&mut self, alloc: Global, query: &Query)
         ensures stands { (history : History) → StandsFor self.old history → StandsFor self.new history }
+        ensures tables { TablesAreAsBefore self.old.tables self.new.tables }
         ensures remembers { (history : History) (entry : HistoryEntry) → Remembers self.old history entry
             → Remembers self.new history entry }
     {
-        self.tables.order_by(alloc, table, column);
+        self.tables.order_for(alloc, query);
     }
 
     // Catalog, book and tables take in an entry, all of them or none.

@@ -2,6 +2,7 @@
 #![tactic(auto)]
 
 mod finish;
+mod ordering;
 mod rows;
 mod table;
 mod tables;
