@@ -266,10 +266,10 @@ module _ (choices : Choices) (query : Masked) (sets : List KeyedRows) where
   covers-all order stages slots tables long whole table within = inr (subst (λ (l : List Place). Contains l table) (sym tables) (whole table (omega (arith, long))))
 
   -- one stage more
-  pub stages-more : (lists : Bool) (order : List Place) (i : ℕ) (stages more : List Stage) (stage : Stage) → AreWalkable choices query sets lists (take i order) stages → IsWalkable choices query sets stage → (lists ≡ true → stage.by_key ≡ false)
+  pub stages-more : (lists : Bool) (order : List Place) (i : ℕ) (stages more : List Stage) (stage : Stage) → AreWalkable choices query sets lists (take i order) stages → IsWalkable choices query sets stage → (lists ≡ true → stage.is_sought ≡ false)
       → stage.table ≡ get_or order i 0 → i < length order → more ≡ stages ++ stage ∷ [] → AreWalkable choices query sets lists (take (i + 1) order) more
   stages-more lists order i stages more stage so_far walkable listed at within pushed =
-      let P : Stage → Type 0 = λ s. IsWalkable choices query sets s × (lists ≡ true → s.by_key ≡ false) in
+      let P : Stage → Type 0 = λ s. IsWalkable choices query sets s × (lists ≡ true → s.is_sought ≡ false) in
       record {
         each = subst (λ l. All P l) (sym pushed) (All-push P stages stage so_far.each (walkable, listed));
         tables =

@@ -77,13 +77,16 @@ module _ (choices : Choices) (sets : List KeyedRows) (slots : List (Option Place
   told-left left right column value is shown places fits all =
       let rows = chosen sets places in
       let equal = equal_parts left right places all in
-      sym (column-value choices rows left column is (ap is_null equal.0 ∙ equal.1)) ∙ equal.0 ∙ shown places fits equal.1
+      let known = shown places fits equal.1 in
+      (sym (column-value choices rows left column is (ap is_null equal.0 ∙ equal.1)) ∙ equal.0 ∙ known, sym (ap is_null known) ∙ equal.1)
 
   pub told-right : (left right : Expr) (column : Ref) (value : Value) → column_of right ≡ Some column → IsShownAs choices sets slots left value → IsToldBy choices sets slots (conditions.Compare Eq left right ∷ []) column value
   told-right left right column value is shown places fits all =
       let rows = chosen sets places in
       let equal = equal_parts left right places all in
-      sym (column-value choices rows right column is equal.1) ∙ sym equal.0 ∙ shown places fits (ap is_null equal.0 ∙ equal.1)
+      let some = ap is_null equal.0 ∙ equal.1 in
+      let known = shown places fits some in
+      (sym (column-value choices rows right column is equal.1) ∙ sym equal.0 ∙ known, sym (ap is_null known) ∙ some)
 
   -- the row of a combination that counts has the key that is told
   pub key-of-told : (query : Masked) (table : Place) (set : KeyedRows) (columns : List Place) (key : Key) → slice_get sets table ≡ Some set → columns ≡ set.key → IsKeyTold choices sets slots (outer_parts query.cond) table columns key

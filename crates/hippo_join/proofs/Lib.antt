@@ -8,6 +8,7 @@ pub mod PruneLemmas
 pub mod KeyLemmas
 pub mod RangeLemmas
 pub mod ReachLemmas
+pub mod SeekingLemmas
 pub mod FindingLemmas
 pub mod ExistenceLemmas
 pub mod AnswerLemmas

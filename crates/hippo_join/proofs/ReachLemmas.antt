@@ -1,5 +1,5 @@
 -- Lists of places that have each place that counts.
-use Rattle.std.proofs.Common.{◌≡◌, ℕ, zero, suc, ◌+◌, ◌<◌, ◌≤◌, Bool, true, false, List, [], ◌∷◌, ◌++◌, length, refl, sym, ap, subst, ◌∙◌, Option, Some, None, inl, inr, ◌⊎◌, arith}
+use Rattle.std.proofs.Common.{◌≡◌, ℕ, zero, suc, ◌+◌, ◌<◌, ◌≤◌, Bool, true, false, List, [], ◌∷◌, ◌++◌, length, get_or, refl, sym, ap, subst, ◌∙◌, Option, Some, None, inl, inr, ◌⊎◌, arith}
 use Rattle.std.specs.Prelude.{slice_get, slice_set, replicate, if◌then◌else◌}
 use Rattle.std.specs.List.{Contains, list_all}
 use Rattle.hippo_model.specs.declared.query.CondOf.{CondOf}
@@ -31,13 +31,10 @@ use Rattle.hippo_join.proofs.SlotLemmas.{Fits-open, Fits-set}
 below_or_at : (k n : ℕ) → k < n + 1 → (k < n) ⊎ (k ≡ n)
 below_or_at k n lower = grind arith
 
-pub contains-more : (xs ys : List ℕ) (low n : ℕ) → ys ≡ xs ++ n ∷ [] → ((k : ℕ) → low ≤ k → k < n → Contains xs k) → (k : ℕ) → low ≤ k → k < n + 1 → Contains ys k
-contains-more xs ys low n pushed below k least lower =
-    subst (λ (l : List ℕ). Contains l k) (sym pushed)
-    (elim (below_or_at k n lower) as (λ _. Contains (xs ++ n ∷ []) k) [
-      | inl before ↦ Contains-append_left xs (n ∷ []) k (below k least before)
-      | inr here ↦ subst (λ (j : ℕ). Contains (xs ++ n ∷ []) j) (sym here) (Contains-push xs n)
-    ])
+get_or_default : (xs : List ℕ) (k d e : ℕ) → k < length xs → get_or xs k e ≡ get_or xs k d
+get_or_default [] k d e within = absurd (omega arith)
+get_or_default (x ∷ xs) zero d e within = refl
+get_or_default (x ∷ xs) (suc k) d e within = get_or_default xs k d e (omega arith)
 
 kept : (test : Bool) (xs : List Place) (n p : Place) → Contains xs p → Contains (if test then xs ++ n ∷ [] else xs) p
 kept true xs n p has = Contains-append_left xs (n ∷ []) p has
@@ -49,19 +46,28 @@ taken false xs n passed = absurd (false≢true passed)
 
 -- one place more was tested
 module _ (Counts : List Place → Type 0) (table : Place) where
-  pub tested-more : (slots : List (Option Place)) (test : Bool) (xs ys : List Place) (n : Place) → ys ≡ (if test then xs ++ n ∷ [] else xs)
+  pub tested-more : (slots : List (Option Place)) (test : Bool) (xs ys some : List Place) (n : Place) (i : ℕ) → n ≡ get_or some i 0 → ys ≡ (if test then xs ++ n ∷ [] else xs)
       → ((places : List Place) → Counts places → slice_get places table ≡ Some n → Fits slots places)
       → ((places : List Place) → Fits slots places → Counts places → test ≡ true)
-      → ((places : List Place) → Counts places → (place : Place) → slice_get places table ≡ Some place → place < n → Contains xs place)
-      → (places : List Place) → Counts places → (place : Place) → slice_get places table ≡ Some place → place < n + 1 → Contains ys place
-  tested-more slots test xs ys n pushed fit may so_far places counts place at lower =
+      → ((places : List Place) → Counts places → (place : Place) → slice_get places table ≡ Some place → (k : ℕ) → k < i → get_or some k 0 ≡ place → Contains xs place)
+      → (places : List Place) → Counts places → (place : Place) → slice_get places table ≡ Some place → (k : ℕ) → k < i + 1 → get_or some k 0 ≡ place → Contains ys place
+  tested-more slots test xs ys some n i here pushed fit may so_far places counts place at k lower there =
       subst (λ (l : List Place). Contains l place) (sym pushed)
-      (elim (below_or_at place n lower) as (λ _. Contains (if test then xs ++ n ∷ [] else xs) place) [
-        | inl before ↦ kept test xs n place (so_far places counts place at before)
-        | inr here ↦
-            let at_n : slice_get places table ≡ Some n = at ∙ ap Some here in
-            subst (λ (j : Place). Contains (if test then xs ++ n ∷ [] else xs) j) (sym here) (taken test xs n (may places (fit places counts at_n) counts))
+      (elim (below_or_at k i lower) as (λ _. Contains (if test then xs ++ n ∷ [] else xs) place) [
+        | inl before ↦ kept test xs n place (so_far places counts place at k before there)
+        | inr last ↦
+            let same : n ≡ place = here ∙ ap (λ j. get_or some j 0) (sym last) ∙ there in
+            subst (λ (j : Place). Contains (if test then xs ++ n ∷ [] else xs) j) same (taken test xs n (may places (fit places counts (at ∙ ap Some (sym same))) counts))
       ])
+
+  -- all of some places were tested
+  pub all-tested : (some ys : List Place) (i : ℕ) → length some ≤ i
+      → ((places : List Place) → Counts places → (place : Place) → slice_get places table ≡ Some place → Contains some place)
+      → ((places : List Place) → Counts places → (place : Place) → slice_get places table ≡ Some place → (k : ℕ) → k < i → get_or some k 0 ≡ place → Contains ys place)
+      → (places : List Place) → Counts places → (place : Place) → slice_get places table ≡ Some place → Contains ys place
+  all-tested some ys i past reaches so_far places counts place at =
+      let has = reaches places counts place at in
+      so_far places counts place at has.0 (omega (arith, has.1)) (get_or_default some has.0 place 0 has.1 ∙ has.2)
 
 module _ (choices : Choices) (query : Masked) (sets : List KeyedRows) where
   pub tie-counts : (table : Place) (tie : Tie) (parts : List (CondOf Expr)) → parts ≡ outer_parts query.cond → IsTieOf parts table tie → (places : List Place) → stands choices query sets places ≡ true → AreEqual (chosen sets places) (record { table = table; column = tie.column }) tie.other

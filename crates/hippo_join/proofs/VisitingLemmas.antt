@@ -334,7 +334,7 @@ module _ (choices : Choices) (query : Masked) (sets : List KeyedRows) (stages : 
   stage-at are table stage at =
       let within : table < length stages = slice_get_within stages table stage at in
       let here : table < length sets = omega (arith, within, as-many are) in
-      let P : Stage → Type 0 = λ s. IsWalkable choices query sets s × (false ≡ true → s.by_key ≡ false) in
+      let P : Stage → Type 0 = λ s. IsWalkable choices query sets s × (false ≡ true → s.is_sought ≡ false) in
       let number : slice_get (range_with_len 0 (length sets)) table ≡ Some stage.table = ap (λ (l : List ℕ). slice_get l table) (sym are.tables) ∙ mapped_at (λ (s : Stage). s.table) stages table stage at in
       let one : P stage = subst P (get_or_from_slice_get stages table stage stage at) (are.each table stage within) in
       let from_zero : 0 + table ≡ table = omega arith in

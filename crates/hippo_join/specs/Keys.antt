@@ -21,11 +21,11 @@ IsShownAs choices sets slots expr value =
     (places : List Place) → Fits slots places → is_null (masked_value choices (chosen sets places) expr) ≡ false
     → masked_value choices (chosen sets places) expr ≡ value
 
--- with the rows that are chosen, a column has this value wherever some parts hold
+-- with the rows that are chosen, a column has this value, which is not null, wherever some parts hold
 abbrev pub IsToldBy : Choices → List KeyedRows → List (Option Place) → List (CondOf Expr) → Ref → Value → Type 0
 IsToldBy choices sets slots parts column value =
     (places : List Place) → Fits slots places → list_all (holds choices (chosen sets places)) parts ≡ true
-    → raw_value (chosen sets places) column ≡ value
+    → (raw_value (chosen sets places) column ≡ value) × (is_null value ≡ false)
 
 -- with the rows that are chosen, some columns of a table have these values wherever some parts hold
 abbrev pub IsKeyTold :

@@ -10,3 +10,4 @@ pub mod Walking
 pub mod Existence
 pub mod Visiting
 pub mod Plans
+pub mod Seeking

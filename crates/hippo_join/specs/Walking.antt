@@ -7,7 +7,7 @@ use Rattle.hippo_model.specs.RowSets.{KeyedRows}
 use Rattle.hippo_model.specs.Masking.{Choices}
 use Rattle.hippo_join.specs.declared.stages.Stage.{Stage}
 use Rattle.hippo_join.specs.declared.following.Following.{Following}
-use Rattle.hippo_join.specs.declared.following.Following.TheVariants.{Listed, Sought}
+use Rattle.hippo_join.specs.declared.following.Following.TheVariants.{Listed, Sought, Found}
 use Rattle.hippo_join.specs.Stages.{IsStage}
 use Rattle.hippo_join.specs.Finding.{Covers}
 
@@ -15,16 +15,17 @@ use Rattle.hippo_join.specs.Finding.{Covers}
 abbrev pub followed : Following → List Place
 followed (Listed places) = places.now
 followed (Sought span) = range_with_len span.start (span.end - span.start)
+followed (Found places) = places.items
 
 -- a stage has all places of its table that count, unless it looks them up
 abbrev pub IsWalkable : Choices → Masked → List KeyedRows → Stage → Type 0
-IsWalkable choices query sets stage = stage.by_key ≡ false → IsStage choices query sets stage
+IsWalkable choices query sets stage = stage.is_sought ≡ false → IsStage choices query sets stage
 
 -- the stages of tables in an order, of which none looks its places up where all are to be listed
 pub record AreWalkable
     (choices : Choices) (query : Masked) (sets : List KeyedRows)
     (lists : Bool) (order : List Place) (stages : List Stage) : Type 0 where
-  pub each : All (λ stage. IsWalkable choices query sets stage × (lists ≡ true → stage.by_key ≡ false)) stages
+  pub each : All (λ stage. IsWalkable choices query sets stage × (lists ≡ true → stage.is_sought ≡ false)) stages
   pub tables : map (λ stage. stage.table) stages ≡ order
 
 -- the stages of a walk, with the rows that are chosen before

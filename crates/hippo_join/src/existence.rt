@@ -130,7 +130,8 @@ impl<'a, C: ChoiceView> Side<'a, C> {
         if !is_open(slots, stage.table) {
             return self.has_from(alloc, rest, seen, slots);
         }
-        let following = self.following(alloc, stage, slots)?;
+        let places = self.following(alloc, stage, slots)?;
+        let following = &places;
         for index in 0..following.len() {
             if self.has_with(alloc, stage, rest, following.place(index), seen, slots)? {
                 return Ok(true);

@@ -170,7 +170,8 @@ impl<'a, C: ChoiceView> Side<'a, C> {
         if !is_open(slots, stage.table) {
             return self.find(alloc, rest, slots, found);
         }
-        let following = self.following(alloc, stage, slots)?;
+        let places = self.following(alloc, stage, slots)?;
+        let following = &places;
         for index in 0..following.len() {
             self.find_with(alloc, stage, rest, following.place(index), slots, found)?;
         }

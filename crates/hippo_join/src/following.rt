@@ -10,11 +10,13 @@ use hippo_model::ChoiceView;
 use hippo_values::Memory;
 use std::alloc::Global;
 
-// Places of a stage: some of those that it lists, or those where a look-up by key may find its row.
-#[derive(Clone, Copy)]
+// Places of a stage: some of those that it lists, those where a look-up by key may find its rows, or those that an order
+// of another column finds.
+#[derive(Drop)]
 pub(crate) enum Following<'s> {
     Listed(&'s [usize]),
     Sought(Span),
+    Found(Vec<usize>),
 }
 
 // The place at an index of a list, and 0 past its end.
@@ -40,7 +42,8 @@ impl<'s> Following<'s> {
     {
         match self {
             Following::Listed(places) => places.len(),
-            Following::Sought(span) => span.end.saturating_sub(span.start),
+            Following::Sought(span) => span.len(),
+            Following::Found(places) => places.len(),
         }
     }
 
@@ -51,13 +54,25 @@ impl<'s> Following<'s> {
         match self {
             Following::Listed(places) => place_at(places, index),
             Following::Sought(span) => place_in(span.start, span.end, index),
+            Following::Found(places) => place_at(places, index),
         }
     }
 }
 
+// The places, one after the other.
+pub(crate) fn listed(alloc: Global, following: &Following<'_>) -> Result<Vec<usize>, Memory>
+    ensures { IfOk result (λ places. places.items ≡ followed following.now) }
+{
+    let mut places = Vec::with_capacity(alloc, following.len())?;
+    for index in 0..following.len() {
+        places.push(following.place(index))?;
+    }
+    Ok(places)
+}
+
 impl<'a, C: ChoiceView> Side<'a, C> {
-    // The places of a stage that may follow the rows that are chosen. A look-up by key takes no memory but for the key,
-    // and time that grows with the logarithm of the table.
+    // The places of a stage that may follow the rows that are chosen. A look-up takes time that grows with the logarithm
+    // of the table and with what it finds; by key it takes no memory but for the key.
     pub(crate) fn following<'s>(
         &self,
         alloc: Global,
@@ -70,8 +85,8 @@ impl<'a, C: ChoiceView> Side<'a, C> {
             (C.choices self.now.choices.now) self.now.query.now self.now.sets.now
             slots.now stage.now.table (followed following)) }
     {
-        if stage.by_key {
-            Ok(Following::Sought(self.span(alloc, stage.table, slots)?))
+        if stage.is_sought {
+            self.candidates(alloc, stage.table, slots)
         } else {
             Ok(Following::Listed(self.places_of(stage, slots)))
         }

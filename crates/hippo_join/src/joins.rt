@@ -133,10 +133,11 @@ impl<'a, C: ChoiceView> Side<'a, C> {
 
 /// The answer of a query with the policy written into it, by joins of its tables in a plan's order: the same as that of
 /// `evaluate`, whatever the plan. Wants a plan of the query, and the rows of each of its tables. TooManyRows exactly
-/// where the answer has more than 100,000 rows. Where the query's outermost AND says the key of a table's row, by
-/// literals or by columns of tables before it, that row is looked up; where it has another equality of columns of two
-/// tables, only rows whose values are equal are looked at. So the time is in proportion to the tables whose rows are
-/// not looked up and to what matches; memory is in proportion to these tables and the answer.
+/// where the answer has more than 100,000 rows. Where the query's outermost AND says the key of a table's row, or the
+/// value of a column by which the table has an order, by literals or by columns of tables before it, such rows are
+/// looked up; where it has another equality of columns of two tables, only rows whose values are equal are looked at. So
+/// the time is in proportion to the tables whose rows are not looked up and to what matches; memory is in proportion to
+/// these tables and the answer.
 pub fn run<C: ChoiceView>(
     alloc: Global,
     plan: &Plan,

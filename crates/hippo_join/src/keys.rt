@@ -1,5 +1,5 @@
 //! Rows that are found by their key, where equalities say each of its values.
-ghost use Rattle.std.specs.Prelude.{◌≡◌, ◌∷◌, [], ◌<◌, ◌≤◌, true, List, Some, IfOk, IfSome, length, take};
+ghost use Rattle.std.specs.Prelude.{◌≡◌, ◌∷◌, [], ◌-◌, ◌<◌, ◌≤◌, true, List, Some, IfOk, IfSome, length, take};
 ghost use Rattle.std.specs.List.{list_all};
 ghost use Rattle.hippo_values.specs.declared.truths.CompareOp.TheVariants.{Eq};
 ghost use Rattle.hippo_model.specs.declared.query.CondOf.TheVariants.{Compare};
@@ -24,6 +24,14 @@ use std::alloc::Global;
 pub(crate) struct Span {
     pub start: usize,
     pub end: usize,
+}
+
+impl Span {
+    pub(crate) fn len(&self) -> usize
+        ensures { result ≡ self.now.end - self.now.start }
+    {
+        self.end.saturating_sub(self.start)
+    }
 }
 
 // Whether an expression shows a column, where it shows anything.

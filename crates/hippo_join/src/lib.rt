@@ -1,6 +1,7 @@
 //! Planned joins, and whether some combination of rows counts.
 #![tactic(auto)]
 
+mod columns;
 mod existence;
 mod finding;
 mod following;
@@ -12,11 +13,13 @@ mod lookups;
 mod orders;
 mod ranges;
 mod reaching;
+mod seeking;
 mod sides;
 mod stages;
 mod ties;
 mod visiting;
 
+pub use columns::sought_columns;
 pub use gathering::gather_joined;
 pub use joins::{blank_row, run};
 pub use lookups::value_at;

@@ -25,7 +25,7 @@ pub fn value_at<'a>(set: &'a RowSet, column: usize, place: usize) -> Option<&'a 
     }
 }
 
-fn is_null(value: &Value) -> bool
+pub(crate) fn is_null(value: &Value) -> bool
     ensures { result ≡ is_null value.now }
 {
     matches!(value, Value::Null)

@@ -6,11 +6,10 @@ ghost use Rattle.hippo_model.specs.Terms.{Place};
 ghost use Rattle.hippo_join.specs.Places.{chosen, Fits, stands};
 ghost use Rattle.hippo_join.specs.Lookups.{IsByColumn};
 ghost use Rattle.hippo_join.specs.Ties.{AreEqual};
-ghost use Rattle.hippo_join.specs.Keys.{IsWithin};
-ghost use Rattle.hippo_join.specs.Walking.{IsWalkable, AreWalkable};
+ghost use Rattle.hippo_join.specs.Walking.{followed, IsWalkable, AreWalkable};
 ghost use Rattle.hippo_join.specs.Stages.{Reaches, ReachesFrom, IsStage, AreStages};
 
-use crate::keys::Span;
+use crate::following::{Following, listed};
 use crate::known::{knows, knows_expr, slot_at};
 use crate::lookups::{known_value, sort_by_column, with_value};
 use crate::sides::Side;
@@ -25,17 +24,6 @@ pub fn open_slots(alloc: Global, tables: usize) -> Result<Vec<Option<usize>>, Me
     ensures { IfOk result (λ slots. slots.items ≡ replicate tables None) }
 {
     Ok(vec![in alloc; None; tables]?)
-}
-
-fn numbers_in(alloc: Global, span: Span) -> Result<Vec<usize>, Memory>
-    ensures { IfOk result (λ numbers. (number : ℕ) → span.start ≤ number → number < span.end
-        → Contains numbers.items number) }
-{
-    let mut numbers = Vec::with_capacity(alloc, span.end.saturating_sub(span.start))?;
-    for number in span.start..span.end {
-        numbers.push(number)?;
-    }
-    Ok(numbers)
 }
 
 /// Adds a place at the end where a test holds.
@@ -54,6 +42,15 @@ fn sorted_by_column(set: &RowSet, column: usize, mut places: Vec<usize>) -> Vec<
 {
     sort_by_column(set, column, &mut places);
     places
+}
+
+// About how many combinations there are behind a stage, of so many before it.
+fn after_stage(before: usize, stage: &Stage) -> usize {
+    if stage.is_sought {
+        before
+    } else {
+        before.saturating_mul(stage.places.len())
+    }
 }
 
 // Whether a guard may not hold: it does where its column is kept as it is.
@@ -79,25 +76,26 @@ impl<'a, C: ChoiceView> Side<'a, C> {
         Ok(known)
     }
 
-    // The places of a table's rows in a span, without those of which the guards and the parts on this table alone say
-    // that they do not count.
+    // Places of a table's rows without those of which the guards and the parts on this table alone say that they do not
+    // count.
     fn tested_places(
         &self,
         alloc: Global,
         table: usize,
-        span: Span,
+        candidates: &Following<'_>,
         tests: &[usize],
     ) -> Result<Vec<usize>, Memory>
         requires table { table < length self.now.sets.now }
-        requires span { IsWithin (C.choices self.now.choices.now) self.now.query.now self.now.sets.now
-            (replicate (length self.now.sets.now) None) table span }
+        requires candidates { Reaches (C.choices self.now.choices.now) self.now.query.now self.now.sets.now
+            table (followed candidates.now) }
         ensures { IfOk result (λ places. Reaches (C.choices self.now.choices.now) self.now.query.now self.now.sets.now
             table places.items) }
     {
         let mut slots = open_slots(alloc, self.sets.len())?;
         let mut rows = Combo::new(alloc);
         let mut places = Vec::new(alloc);
-        for place in span.start..span.end {
+        for index in 0..candidates.len() {
+            let place = candidates.place(index);
             slots[table] = Some(place);
             let may_count = self.may_count_alone(&mut rows, tests, &slots)?;
             push_if(may_count, &mut places, place)?;
@@ -105,30 +103,21 @@ impl<'a, C: ChoiceView> Side<'a, C> {
         Ok(places)
     }
 
-    fn all_places(&self, alloc: Global, table: usize, span: Span) -> Result<Vec<usize>, Memory>
-        requires { IsWithin (C.choices self.now.choices.now) self.now.query.now self.now.sets.now
-            (replicate (length self.now.sets.now) None) table span }
-        ensures { IfOk result (λ places. Reaches (C.choices self.now.choices.now) self.now.query.now self.now.sets.now
-            table places.items) }
-    {
-        numbers_in(alloc, span)
-    }
-
     // The places of a table's rows that can count. Where literals say the row's key, or its first values, or bounds of the
-    // next one, these rows are found by halves.
+    // next one, or the value of a column by which the table has an order, these rows are found by halves.
     fn reached_places(&self, alloc: Global, table: usize) -> Result<Vec<usize>, Memory>
         requires { table < length self.now.sets.now }
         ensures { IfOk result (λ places. Reaches (C.choices self.now.choices.now) self.now.query.now self.now.sets.now
             table places.items) }
     {
         let mut slots = open_slots(alloc, self.sets.len())?;
-        let span = self.span(alloc, table, &slots)?;
         slots[table] = Some(0);
         let tests = self.known_parts(alloc, &slots)?;
+        let candidates = self.open_candidates(alloc, table)?;
         if tests.is_empty() && !self.knows_guard(&slots) {
-            self.all_places(alloc, table, span)
+            listed(alloc, &candidates)
         } else {
-            self.tested_places(alloc, table, span, &tests)
+            self.tested_places(alloc, table, &candidates, &tests)
         }
     }
 
@@ -159,7 +148,16 @@ impl<'a, C: ChoiceView> Side<'a, C> {
             table,
             column: *column,
         };
-        self.told_value(column, slots).is_some() && self.told_value(column, &[]).is_none()
+        self.is_joined(column, slots)
+    }
+
+    // Whether a table's rows are looked up by the rows that are chosen, of which there are about so many combinations.
+    fn is_sought(&self, table: usize, slots: &[Option<usize>], before: usize) -> bool
+        requires { table < length self.now.sets.now }
+    {
+        self.tells_key(table, slots)
+            || self.tells_front(table, slots)
+            || self.finds_few(table, slots, before)
     }
 
     // A table's stage behind those whose rows are chosen, with its places.
@@ -173,7 +171,7 @@ impl<'a, C: ChoiceView> Side<'a, C> {
         requires { table < length self.now.sets.now }
         ensures stage { IfOk result (λ stage. IsStage (C.choices self.now.choices.now) self.now.query.now
             self.now.sets.now stage) }
-        ensures listed { IfOk result (λ stage. stage.by_key ≡ false) }
+        ensures listed { IfOk result (λ stage. stage.is_sought ≡ false) }
         ensures table { IfOk result (λ stage. stage.table ≡ table) }
     {
         let places = self.reached_places(alloc, table)?;
@@ -181,7 +179,7 @@ impl<'a, C: ChoiceView> Side<'a, C> {
             return Ok(Stage {
                 table,
                 tie: None,
-                by_key: false,
+                is_sought: false,
                 places,
                 tests,
             });
@@ -190,35 +188,36 @@ impl<'a, C: ChoiceView> Side<'a, C> {
         Ok(Stage {
             table,
             tie: Some(tie),
-            by_key: false,
+            is_sought: false,
             places,
             tests,
         })
     }
 
     // A table's stage behind those whose rows are chosen: with its places, if all stages are to list theirs or if its
-    // key is not said.
+    // rows cannot be looked up.
     fn stage(
         &self,
         alloc: Global,
         table: usize,
         slots: &[Option<usize>],
+        before: usize,
         lists: bool,
     ) -> Result<Stage, Memory>
         requires sets { table < length self.now.sets.now }
         requires slots { table < length slots.now }
         ensures walkable { IfOk result (λ stage. IsWalkable
             (C.choices self.now.choices.now) self.now.query.now self.now.sets.now stage) }
-        ensures listed { IfOk result (λ stage. lists ≡ true → stage.by_key ≡ false) }
+        ensures listed { IfOk result (λ stage. lists ≡ true → stage.is_sought ≡ false) }
         ensures table { IfOk result (λ stage. stage.table ≡ table) }
     {
-        let by_key = !lists && (self.tells_key(table, slots) || self.tells_front(table, slots));
-        let tests = self.tests_at(alloc, table, slots, by_key)?;
-        if by_key {
+        let is_sought = !lists && self.is_sought(table, slots, before);
+        let tests = self.tests_at(alloc, table, slots, is_sought)?;
+        if is_sought {
             Ok(Stage {
                 table,
                 tie: None,
-                by_key,
+                is_sought,
                 places: Vec::new(alloc),
                 tests,
             })
@@ -261,7 +260,7 @@ impl<'a, C: ChoiceView> Side<'a, C> {
         }
     }
 
-    // The parts of the condition that are tested where a table's row is chosen, by its key or not: none where it is the
+    // The parts of the condition that are tested where a table's row is chosen, looked up or not: none where it is the
     // last, since the whole condition is tested then. Where places are listed, the parts on the table alone are tested
     // before.
     fn tests_at(
@@ -269,7 +268,7 @@ impl<'a, C: ChoiceView> Side<'a, C> {
         alloc: Global,
         table: usize,
         slots: &[Option<usize>],
-        by_key: bool,
+        is_sought: bool,
     ) -> Result<Vec<usize>, Memory>
         requires { table < length slots.now }
     {
@@ -280,7 +279,7 @@ impl<'a, C: ChoiceView> Side<'a, C> {
             return Ok(tests);
         }
         let mut alone = open_slots(alloc, slots.len())?;
-        alone[table] = if by_key { None } else { Some(0) };
+        alone[table] = if is_sought { None } else { Some(0) };
         for (place, part) in outer_parts(&self.query.cond).iter().enumerate() {
             if knows(part, &after) && !knows(part, slots) && !knows(part, &alone) {
                 tests.push(place)?;
@@ -289,7 +288,7 @@ impl<'a, C: ChoiceView> Side<'a, C> {
         Ok(tests)
     }
 
-    // The stages of a join, in an order of tables: all with their places, or only those whose keys are not said.
+    // The stages of a join, in an order of tables: all with their places, or only those whose rows are not looked up.
     pub(crate) fn stages_in(
         &self,
         alloc: Global,
@@ -302,8 +301,11 @@ impl<'a, C: ChoiceView> Side<'a, C> {
     {
         let mut slots = open_slots(alloc, self.sets.len())?;
         let mut stages = Vec::new(alloc);
+        let mut before = 1;
         for table in order {
-            stages.push(self.stage(alloc, *table, &slots, lists)?)?;
+            let stage = self.stage(alloc, *table, &slots, before, lists)?;
+            before = after_stage(before, &stage);
+            stages.push(stage)?;
             slots[*table] = Some(0);
         }
         Ok(stages)

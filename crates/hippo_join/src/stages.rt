@@ -6,8 +6,9 @@ use crate::ties::Tie;
 pub struct Stage {
     pub table: usize,
     pub tie: Option<Tie>,
-    /// Whether equalities say the row's key, by the rows that are chosen before: then it is looked up.
-    pub by_key: bool,
+    /// Whether its rows are looked up by the rows that are chosen before, and not listed: where these say the first value
+    /// of the key, or that of a column by which the table has an order, or where the whole key is said.
+    pub is_sought: bool,
     /// Places in the table, in the order of the tie's column.
     pub places: Vec<usize>,
     /// The parts of the condition that are tested here.

@@ -8,7 +8,7 @@ ghost use Rattle.hippo_eval.specs.Walks.{rows_of, KeptAfter};
 ghost use Rattle.hippo_join.specs.Walking.{followed};
 ghost use Rattle.hippo_join.specs.Visiting.{counting, counting_from, counting_with, CanVisit};
 
-use crate::following::Following;
+use crate::following::{Following, listed};
 use crate::joins::blank_row;
 use crate::orders::tables_below;
 use crate::reaching::open_slots;
@@ -19,20 +19,10 @@ use hippo_model::{ChoiceView, Combo, Masked, Sets};
 use hippo_values::Memory;
 use std::alloc::Global;
 
-fn listed(alloc: Global, following: Following<'_>) -> Result<Vec<usize>, Memory>
-    ensures { IfOk result (λ places. places.items ≡ followed following.entry) }
-{
-    let mut places = Vec::with_capacity(alloc, following.len())?;
-    for index in 0..following.len() {
-        places.push(following.place(index))?;
-    }
-    Ok(places)
-}
-
 // The places that follow, each once, in ascending order.
-fn ascending(alloc: Global, following: Following<'_>) -> Result<Vec<usize>, Memory>
+fn ascending(alloc: Global, following: &Following<'_>) -> Result<Vec<usize>, Memory>
     ensures order { IfOk result (λ places. IsStrictlyIncreasing places.items) }
-    ensures all { IfOk result (λ places. (place : Place) → Contains (followed following.entry) place
+    ensures all { IfOk result (λ places. (place : Place) → Contains (followed following.now) place
         → Contains places.items place) }
 {
     let mut places = listed(alloc, following)?;
@@ -148,7 +138,7 @@ impl<'a, C: ChoiceView> Side<'a, C> {
             return self.visit_whole(alloc, combo, visitor, state);
         };
         let following = self.following(alloc, stage, slots)?;
-        let places = ascending(alloc, following)?;
+        let places = ascending(alloc, &following)?;
         for place in &places {
             let onward = self.visit_with(
                 alloc, stages, stage, *place, slots, combo, visitor, state,
@@ -182,10 +172,10 @@ impl<'a, C: ChoiceView> Side<'a, C> {
 
 /// Visits each combination of one row of each table that counts for a query with the policy written into it, in the
 /// order of the product, the first table slowest, until the visitor has enough. The tables are joined in the order of
-/// FROM: where the query's outermost AND says the key of a table's row, by literals or by columns of tables before it,
-/// that row is looked up; where it has another equality of columns of two tables, only rows whose values are equal are
-/// looked at. Takes memory in proportion to the tables whose rows are not looked up, beside what the visitor takes, and
-/// none for what counts.
+/// FROM: where the query's outermost AND says the key of a table's row, or the value of a column by which the table has
+/// an order, by literals or by columns of tables before it, such rows are looked up; where it has another equality of
+/// columns of two tables, only rows whose values are equal are looked at. Takes memory in proportion to the tables whose
+/// rows are not looked up, beside what the visitor takes, and none for what counts.
 pub fn walk_joined<C: ChoiceView, V: Visitor>(
     alloc: Global,
     query: &Masked,

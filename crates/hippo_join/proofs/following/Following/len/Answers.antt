@@ -8,4 +8,4 @@ use Rattle.hippo_join.proofs.following.Following.len.Goals as goal
 pub returns-in-Sought : goal.returns-in-Sought
 returns-in-Sought c =
     let span = c.in-Sought.span in
-    c.saturating_sub.ensures ∙ sym (length-range_with_len span.start (span.end - span.start)) ∙ sym (ap (λ (f : Following). length (followed f)) c.in-Sought.is)
+    c.len.ensures ∙ sym (length-range_with_len span.start (span.end - span.start)) ∙ sym (ap (λ (f : Following). length (followed f)) c.in-Sought.is)

@@ -37,7 +37,7 @@ find-loop-index-preserved g t c =
     let query = c.args.self.now.query.now in
     let sets = c.args.self.now.sets.now in
     let table = c.in-Some.stage.now.table in
-    let some = followed c.in_ok-following.following in
+    let some = followed c.in_ok-places.places in
     let place = get_or some c.loop-index.index 0 in
     let Finds : List (Option Place) → Place → Type 0 = λ slots at. (places : List Place) → Fits (slice_set slots table (Some at)) places → stands choices query sets places ≡ true → has_places places c.find_with.new.found.keys ≡ true in
     record {
@@ -52,8 +52,8 @@ pub find-returns-clause-found : goal.find-returns-clause-found
 find-returns-clause-found g t c =
     let within = open-within c.args.slots.now c.in-Some.stage.now.table (sym c.is_open.ensures ∙ c.if-not-is_open.false) in
     let long = c.requires.long in
-    all-tried (g.C.ChoiceView.choices c.args.self.now.choices.now) c.args.self.now.query.now c.args.self.now.sets.now c.args.slots.now c.in-Some.stage.now.table (followed c.in_ok-following.following) c.loop-index.index c.loop-index.found.keys
-    (omega (arith, within, long)) (omega (arith, c.len-index-end.ensures)) c.in_ok-following.ensures c.loop-index.invariant.so_far
+    all-tried (g.C.ChoiceView.choices c.args.self.now.choices.now) c.args.self.now.query.now c.args.self.now.sets.now c.args.slots.now c.in-Some.stage.now.table (followed c.in_ok-places.places) c.loop-index.index c.loop-index.found.keys
+    (omega (arith, within, long)) (omega (arith, c.len-index-end.ensures)) c.in_ok-places.ensures c.loop-index.invariant.so_far
 
 pub find_with-returns-clause-slots : goal.find_with-returns-clause-slots
 find_with-returns-clause-slots g t c =

@@ -37,7 +37,7 @@ has_from-loop-index-preserved g t c =
     let query = c.args.self.now.query.now in
     let sets = c.args.self.now.sets.now in
     let table = c.in-Some.stage.now.table in
-    let some = followed c.in_ok-following.following in
+    let some = followed c.in_ok-places.places in
     let place = get_or some c.loop-index.index 0 in
     let Has : List (Option Place) → Place → Type 0 = λ slots at. HasOne choices query c.args.seen.now sets (slice_set slots table (Some at)) in
     let none = told-not (Has c.loop-index.slots c.place.result) c.in_ok-has_with.field-0 c.in_ok-has_with.ensures.one c.if-branch.false in
@@ -52,8 +52,8 @@ pub has_from-returns-clause-one : goal.has_from-returns-clause-one
 has_from-returns-clause-one g t c =
     let within = open-within c.args.slots.now c.in-Some.stage.now.table (sym c.is_open.ensures ∙ c.if-not-is_open.false) in
     let long = c.requires.long in
-    none-tried (g.C.ChoiceView.choices c.args.self.now.choices.now) c.args.self.now.query.now c.args.seen.now c.args.self.now.sets.now c.args.slots.now c.in-Some.stage.now.table (followed c.in_ok-following.following) c.loop-index.index
-    (omega (arith, within, long)) (omega (arith, c.len-index-end.ensures)) c.in_ok-following.ensures c.loop-index.invariant.so_far
+    none-tried (g.C.ChoiceView.choices c.args.self.now.choices.now) c.args.self.now.query.now c.args.seen.now c.args.self.now.sets.now c.args.slots.now c.in-Some.stage.now.table (followed c.in_ok-places.places) c.loop-index.index
+    (omega (arith, within, long)) (omega (arith, c.len-index-end.ensures)) c.in_ok-places.ensures c.loop-index.invariant.so_far
 
 pub has_with-returns-clause-slots : goal.has_with-returns-clause-slots
 has_with-returns-clause-slots g t c =
@@ -69,7 +69,7 @@ has_from-returns-then-branch-clause-one g t c =
     let query = c.args.self.now.query.now in
     let sets = c.args.self.now.sets.now in
     let table = c.in-Some.stage.now.table in
-    let some = followed c.in_ok-following.following in
+    let some = followed c.in_ok-places.places in
     let place = get_or some c.loop-index.index 0 in
     let Has : List (Option Place) → Place → Type 0 = λ slots at. HasOne choices query c.args.seen.now sets (slice_set slots table (Some at)) in
     let one = told-so (Has c.loop-index.slots c.place.result) c.in_ok-has_with.field-0 c.in_ok-has_with.ensures.one c.if-branch.true in

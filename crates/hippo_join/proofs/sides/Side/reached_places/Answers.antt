@@ -1,13 +1,13 @@
--- No row is chosen before.
-use Rattle.std.proofs.Common.{List, Option, None, replicate, subst, ap, ◌∙◌}
+-- Where there is nothing to test, all candidates are taken.
+use Rattle.std.proofs.Common.{◌≡◌, List, sym, subst}
 use Rattle.hippo_model.specs.Terms.{Place}
-use Rattle.hippo_join.specs.Keys.{IsWithin}
+use Rattle.hippo_join.specs.Stages.{Reaches}
+use Rattle.hippo_join.specs.Walking.{followed}
+use Rattle.hippo_join.proofs.ReachLemmas.{ok-then}
 use Rattle.hippo_join.proofs.sides.Side.reached_places.Goals as goal
 
-pub all_places-requires : goal.all_places-requires
-all_places-requires g c =
-    subst (λ (slots : List (Option Place)). IsWithin (g.C.ChoiceView.choices c.args.self.now.choices.now) c.args.self.now.query.now c.args.self.now.sets.now slots c.args.table c.in_ok-span.span) (c.deref.ensures.value ∙ c.in_ok-slots.ensures ∙ ap (λ n. replicate n None) c.len.ensures) c.in_ok-span.ensures
-
-pub tested_places-requires-clause-span : goal.tested_places-requires-clause-span
-tested_places-requires-clause-span g c =
-    subst (λ (slots : List (Option Place)). IsWithin (g.C.ChoiceView.choices c.args.self.now.choices.now) c.args.self.now.query.now c.args.self.now.sets.now slots c.args.table c.in_ok-span.span) (c.deref.ensures.value ∙ c.in_ok-slots.ensures ∙ ap (λ n. replicate n None) c.len.ensures) c.in_ok-span.ensures
+pub returns-then-not-knows_guard : goal.returns-then-not-knows_guard
+returns-then-not-knows_guard g c =
+    let Reached : List Place → Type 0 = Reaches (g.C.ChoiceView.choices c.args.self.now.choices.now) c.args.self.now.query.now c.args.self.now.sets.now c.args.table in
+    ok-then (λ places. places.items ≡ followed c.in_ok-candidates.candidates) (λ places. Reached places.items) c.listed.result c.listed.ensures
+    (λ places are. subst Reached (sym are) c.in_ok-candidates.ensures)
