@@ -34,6 +34,7 @@ use Rattle.hippo_report.specs.declared.refusal.Refusal.{Refusal}
 use Rattle.hippo_report.specs.declared.refusal.Refusal.TheVariants as refusals
 use Rattle.hippo_report.specs.Flags.{flag_line}
 use Rattle.hippo_report.specs.Refusals.{refusal_line}
+use Rattle.hippo_world.specs.declared.worlds.World.{World as HeldWorld}
 use Rattle.hippo_world.specs.Worlds.{World}
 use Rattle.hippo_world.specs.Holding.{world_of, JobsFit, taken_of, WatchesFit}
 use Rattle.hippo_engine.specs.declared.engine.Engine.{Engine}
@@ -160,7 +161,7 @@ pub Carries-audited : (text : Txt) (written : RawAudit) (audit : Audit) (session
 Carries-audited text written audit session result old new before after steps steps' console at_work means audit_is same_state same_world tells =
     subst (λ (s : ℕ). Carries (state s (stmt.Audit written) text) result old new before after steps steps') (sym console)
     (subst (λ (r : Result (Unit {0}) EngineFault). Carries (state 0 (stmt.Audit written) text) r old new before after steps steps') (sym tells.ended_so)
-    (Carries-looked (state 0 (stmt.Audit written) text) (ended tells.found) old new before after steps steps' refl at_work same_state
+    (Carries-looked (state 0 (stmt.Audit written) text) (ended tells.found) old new before after steps steps' refl at_work same_state (ap (λ (held : HeldWorld). held.clock) same_world)
     (IsAfterCall-as true false (reads.as_call tells.found) (as_call (ended tells.found)) before after (ended_same tells.found) tells.finds.call)
     tells.finds.stays
     (λ told history holds.

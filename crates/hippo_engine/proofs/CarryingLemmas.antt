@@ -1,5 +1,6 @@
 -- From what single calls do to what carrying out a command does.
 use Rattle.std.proofs.Common.{◌≡◌, ◌∙◌, ℕ, refl, sym, ap, subst, inl, inr, List, [], ◌∷◌, ◌++◌, map, Option, Some, None, Result, Ok, Err, true, append-nil}
+use Rattle.std.specs.Prelude.{int_le}
 use Rattle.std.proofs.lemmas.Bool.{false≢true}
 use Rattle.std.proofs.lemmas.List.{map-append}
 use Rattle.hippo_model.specs.declared.entry.Entry.{Entry}
@@ -7,7 +8,7 @@ use Rattle.hippo_model.specs.StoredForms.{stored}
 use Rattle.hippo_model.specs.Terms.{History}
 use Rattle.hippo_keeper.specs.Keeping.{KeeperState, KeepsSame}
 use Rattle.hippo_replay.specs.Recording.{HasKept}
-use Rattle.hippo_replay.specs.Standing.{StandsFor, IsSound}
+use Rattle.hippo_replay.specs.Standing.{StandsFor, IsSound, IsTimely}
 use Rattle.hippo_replay.specs.declared.state.State.{State}
 use Rattle.hippo_keeper.proofs.CallLemmas.{KeepsSame-here, IsAfterCall-none}
 use Rattle.hippo_keeper.proofs.Results.{well}
@@ -27,6 +28,7 @@ use Rattle.hippo_engine.specs.declared.faults.EngineFault.TheVariants.{Keeper, W
 use Rattle.hippo_engine.specs.Effects.{Effect, only_reply, IsEffect, may_do_nothing}
 use Rattle.hippo_engine.specs.Ledgers.{Tallies, none_taken, at_once, job_begun, job_stepped, job_dropped}
 use Rattle.hippo_engine.specs.Carrying.{Holds, AtWork, IsBacked, is_carried, shown, IsOfLine, IsQuiet, AddsNothing, BreaksOff, Carries}
+use Rattle.hippo_engine.proofs.ClockLemmas.{int_le-refl, clock_rises}
 use Rattle.hippo_engine.proofs.ShortLemmas.{short}
 
 -- the state of an engine that is at work is backed by its keeper
@@ -38,6 +40,11 @@ IsBacked-of engine keeper at_work = record {
       let holds = at_work.told tells in
       record { history = holds.0; forms = holds.1.forms; stands = holds.1.stands };
 }
+
+-- the clock stands at the last entry's moment where a run begins
+pub IsTimely-begun : (engine : Engine) (limit : ℕ) (format : Format) → world_of engine.world ≡ opening engine.state.last limit format → IsTimely engine.state engine.world.clock
+IsTimely-begun engine limit format opens =
+    ap (λ (w : World). int_le engine.state.last w.clock) opens ∙ int_le-refl engine.state.last
 
 -- an engine with the state of a history that is kept holds it where a run begins
 pub Holds-opening : (history : History) (held : State) (engine : Engine) (keeper : KeeperState) (clock : Moment) (limit : ℕ) (format : Format) → engine.state ≡ held
@@ -78,12 +85,25 @@ Holds-more history entry old new before after holds stands jobs watches kept = r
   watches = watches;
 }
 
+-- the clock is not before the last entry, where state and clock are the same
+pub IsTimely-same : (old new : Engine) → new.state ≡ old.state → new.world.clock ≡ old.world.clock → IsTimely old.state old.world.clock → IsTimely new.state new.world.clock
+IsTimely-same old new state_is clock_is timely =
+    let same : int_le new.state.last new.world.clock ≡ int_le old.state.last old.world.clock = λ i. int_le (state_is i).last (clock_is i) in
+    same ∙ timely
+
+-- nor where a command had its effect, and the state is the same
+pub IsTimely-risen : (command : Command) (old new : Engine) (keeper : KeeperState) → AtWork old keeper → AddsNothing command old new → IsTimely new.state new.world.clock
+IsTimely-risen command old new keeper at_work quiet =
+    subst (λ (held : State). IsTimely held new.world.clock) (sym quiet.same)
+    (clock_rises at_work.sound.history (world_of old.world) command (shown new) old.state.last (quiet.effect at_work.sound.history at_work.sound.stands) at_work.timely)
+
 -- a command that adds nothing leaves the keeper alone
 pub Carries-nothing : (command : Command) (old new : Engine) (keeper : KeeperState) (steps : ℕ) → AtWork old keeper → AddsNothing command old new
     → Carries {A = Unit {0}} command (Ok tt) old new keeper keeper steps steps
 Carries-nothing command old new keeper steps at_work quiet = record {
   call = IsAfterCall-none (Ok tt) keeper refl at_work.ready;
   sound = λ fine. subst IsSound (sym quiet.same) at_work.sound;
+  timely = λ fine. IsTimely-risen command old new keeper at_work quiet;
   idle = λ none. refl;
   carried = λ fine tells history holds. record {
     effect = shown new;
@@ -136,6 +156,7 @@ Carries-memory : {A : Type 0} (command : Command) (result : Result A EngineFault
 Carries-memory command result old new before after steps steps' takes refused = record {
   call = refused.call;
   sound = refused.sound;
+  timely = refused.timely;
   idle = λ none. refused.idle refl;
   carried = λ fine tells history holds.
       let done = refused.carried fine tells history holds in
@@ -163,6 +184,7 @@ Carries-written command (Err (Damaged number)) old new before after steps steps'
 Carries-written command (Err Write) old new before after steps steps' done carries = record {
   call = carries.call;
   sound = carries.sound;
+  timely = carries.timely;
   idle = carries.idle;
   carried = carries.carried;
   failed = carries.failed;

@@ -1,6 +1,6 @@
 -- From the checks of a statement that changes something, and from recording its entry, to what carrying it out does.
 use Rattle.std.proofs.Common.{◌≡◌, ◌⊎◌, ◌∙◌, inl, inr, refl, sym, ap, subst, ℕ, Option, Some, Result, Ok, Err, true, false}
-use Rattle.std.specs.Prelude.{codes, OnOk, MatchResult}
+use Rattle.std.specs.Prelude.{codes, OnOk, MatchResult, int_le, [], ◌∷◌, ◌++◌}
 use Rattle.std.proofs.lemmas.Bool.{false≢true}
 use Rattle.hippo_values.specs.Texts.{Txt}
 use Rattle.hippo_model.specs.declared.entry.Entry.{Entry}
@@ -10,8 +10,9 @@ use Rattle.hippo_catalog.specs.ChangesWanted.{changes_something}
 use Rattle.hippo_keeper.specs.declared.faults.KeeperFault.{KeeperFault}
 use Rattle.hippo_keeper.specs.declared.faults.KeeperFault.TheVariants.{Failed, Memory}
 use Rattle.hippo_keeper.specs.Keeping.{KeeperState}
-use Rattle.hippo_replay.specs.Standing.{StandsFor, IsSound}
+use Rattle.hippo_replay.specs.Standing.{StandsFor, IsSound, IsTimely}
 use Rattle.hippo_replay.specs.Recording.{Records}
+use Rattle.hippo_replay.proofs.StateLemmas.{latest_moment-append}
 use Rattle.hippo_keeper.proofs.CallLemmas.{IsAfterCall-as}
 use Rattle.hippo_keeper.proofs.Results.{err_of, well}
 use Rattle.hippo_report.specs.declared.refusal.Refusal.{Refusal}
@@ -26,7 +27,7 @@ use Rattle.hippo_commands.specs.Commands.{Command, state, who_commands}
 use Rattle.hippo_engine.specs.declared.engine.Engine.{Engine}
 use Rattle.hippo_engine.specs.declared.faults.EngineFault.{EngineFault}
 use Rattle.hippo_engine.specs.declared.faults.EngineFault.TheVariants.{Keeper}
-use Rattle.hippo_engine.specs.Carrying.{IsQuiet, Carries}
+use Rattle.hippo_engine.specs.Carrying.{AtWork, IsQuiet, Carries}
 use Rattle.hippo_judging.specs.Changes.{IsChange, FindsChange}
 use Rattle.hippo_engine.specs.Changing.{Changes, IsRefused, changed}
 use Rattle.hippo_judging.specs.Checks.{Refuses, Checked}
@@ -37,6 +38,7 @@ use Rattle.hippo_judging.specs.Judging.{judged, judged_change}
 use Rattle.hippo_judging.proofs.ChangeLemmas.{judged_as_change}
 use Rattle.hippo_engine.specs.Ledgers.{none_taken}
 use Rattle.hippo_engine.proofs.CarryingLemmas.{Holds-same, Holds-more}
+use Rattle.hippo_engine.proofs.ClockLemmas.{int_le-refl}
 use Rattle.hippo_engine.proofs.ShortLemmas.{short, refused}
 
 -- what is told of a refusal: its line, or that of want of memory
@@ -111,6 +113,7 @@ found_change session statement text entry engine changes console found = record 
       adds_change history (world_of engine.world) (state session statement text) entry
       (subst (λ (judgement : Checked Deed). IsChange history (world_of engine.world) judgement entry)
       (sym (judged_as_change history (world_of engine.world) session statement text changes)) (found history stands));
+  next = λ history stands. (found history stands).next;
 }
 
 -- what the checks of a change found
@@ -125,7 +128,24 @@ change_found session statement text engine changes (Ok entry) finds console =
 change_found session statement text engine changes (Err refusal) finds console =
     refused_change session statement text refusal engine changes finds
 
-module _ (command : Command) (entry : Entry) (old new : Engine) (before after : KeeperState) (steps : ℕ) (changes : Changes command entry old) where
+module _ (command : Command) (entry : Entry) (old new : Engine) (before after : KeeperState) (steps : ℕ) (changes : Changes command entry old) (at_work : AtWork old before) where
+  -- an entry that was added has the clock's moment
+  timely_more : ((history : History) → StandsFor old.state history → StandsFor new.state (history ++ entry ∷ [])) → new.world ≡ old.world → IsTimely new.state new.world.clock
+  timely_more added world_is =
+      let history = at_work.sound.history in
+      let stands = at_work.sound.stands in
+      let last : new.state.last ≡ old.world.clock =
+      (added history stands).last ∙ (latest_moment-append history entry ∙ ap (λ (e : Entry). e.moment) (changes.next history stands)) in
+      let same : int_le new.state.last new.world.clock ≡ int_le old.world.clock old.world.clock = λ i. int_le (last i) (world_is i).clock in
+      same ∙ int_le-refl old.world.clock
+
+  -- the last entry is that of before, where none was added
+  timely_same : ((history : History) → StandsFor old.state history → StandsFor new.state history) → new.world ≡ old.world → IsTimely new.state new.world.clock
+  timely_same stays world_is =
+      let last : new.state.last ≡ old.state.last = (stays at_work.sound.history at_work.sound.stands).last ∙ sym at_work.sound.stands.last in
+      let same : int_le new.state.last new.world.clock ≡ int_le old.state.last old.world.clock = λ i. int_le (last i) (world_is i).clock in
+      same ∙ at_work.timely
+
   -- a change that was recorded
   pub recorded : Records entry (well KeeperFault) old.state new.state before after → IsSound new.state
       → new.world ≡ old.world → new.reply ≡ number_line 0 (codes "ok") entry.seq
@@ -133,6 +153,7 @@ module _ (command : Command) (entry : Entry) (old new : Engine) (before after : 
   recorded records sound world_is reply_is = record {
     call = records.keeps.call;
     sound = λ fine. sound;
+    timely = λ fine. timely_more records.ok world_is;
     idle = λ none. refl;
     carried = λ fine tells history holds. record {
       effect = changed (world_of old.world) entry;
@@ -157,6 +178,7 @@ module _ (command : Command) (entry : Entry) (old new : Engine) (before after : 
   unrecorded records sound world_is reply_is = record {
     call = IsAfterCall-as true false (err_of (Unit {0}) Memory) (well KeeperFault) before after refl records.keeps.call;
     sound = λ fine. sound;
+    timely = λ fine. timely_same (records.memory refl) world_is;
     idle = λ none. refl;
     carried = λ fine tells history holds. record {
       effect = only_reply (world_of old.world) (refusal_line (Some 0) refusals.Memory);
@@ -181,6 +203,7 @@ module _ (command : Command) (entry : Entry) (old new : Engine) (before after : 
   broken_change records = record {
     call = records.keeps.call;
     sound = λ fine. absurd (false≢true (sym fine));
+    timely = λ fine. absurd (false≢true (sym fine));
     idle = λ none. refl;
     carried = λ fine. absurd (false≢true fine);
     failed = λ fails tells history holds. inl (record {

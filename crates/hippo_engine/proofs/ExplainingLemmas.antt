@@ -27,6 +27,7 @@ use Rattle.hippo_replay.specs.Standing.{StandsFor}
 use Rattle.hippo_report.specs.declared.refusal.Refusal.{Refusal}
 use Rattle.hippo_report.specs.declared.refusal.Refusal.TheVariants as refusals
 use Rattle.hippo_report.specs.Refusals.{refusal_line}
+use Rattle.hippo_world.specs.declared.worlds.World.{World as HeldWorld}
 use Rattle.hippo_world.specs.Worlds.{World}
 use Rattle.hippo_world.specs.Holding.{world_of, JobsFit, taken_of, WatchesFit}
 use Rattle.hippo_commands.specs.Commands.{Command, state}
@@ -244,7 +245,7 @@ pub Carries-explained : (text : Txt) (number : ℤ) (session : ℕ) (result : Re
 Carries-explained text number session result old new before after steps steps' console at_work same_state same_world tells =
     subst (λ (s : ℕ). Carries (state s (stmt.Explain number) text) result old new before after steps steps') (sym console)
     (subst (λ (r : Result (Unit {0}) EngineFault). Carries (state 0 (stmt.Explain number) text) r old new before after steps steps') (sym tells.ended_so)
-    (Carries-looked (state 0 (stmt.Explain number) text) (ended tells.found) old new before after steps steps' refl at_work same_state
+    (Carries-looked (state 0 (stmt.Explain number) text) (ended tells.found) old new before after steps steps' refl at_work same_state (ap (λ (held : HeldWorld). held.clock) same_world)
     (IsAfterCall-as true false (explaining.as_call tells.found) (as_call (ended tells.found)) before after (ended_same tells.found) tells.explains.call)
     tells.explains.stays
     (λ told history holds.

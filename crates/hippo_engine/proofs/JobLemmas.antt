@@ -309,7 +309,7 @@ module _ (number count : ℕ) (past : Past) (looked : Result (Unit {0}) ReadFaul
       → Carries steps_it result old new before after steps steps'
   Carries-stepped result ends at_work is_past =
       subst (λ (r : Result (Unit {0}) EngineFault). Carries steps_it r old new before after steps steps') (sym ends)
-      (Carries-looked steps_it (ended looked) old new before after steps steps' refl at_work held.same
+      (Carries-looked steps_it (ended looked) old new before after steps steps' refl at_work held.same (ap (λ (w : HeldWorld). w.clock) held.world)
       (IsAfterCall-as true false (reads.as_call looked) (as_call (ended looked)) before after (ended_same looked) held.stepped.looks.moves.is_after)
       held.stepped.looks.moves.stays
       (λ told history holds.

@@ -3,12 +3,14 @@ mod RunExamples
 mod LedgerExamples
 pub mod EffectTheorem
 pub mod ShortLemmas
+pub mod ClockLemmas
 pub mod LedgerLemmas
 pub mod CarryingLemmas
 mod LineLemmas
 mod ChangeLemmas
 mod LoadLemmas
 mod QuestionLemmas
+mod AskedLemmas
 mod LookingLemmas
 mod ExplainingLemmas
 mod AuditingLemmas

@@ -1,5 +1,6 @@
 -- What holds of the command of each line.
-use Rattle.std.proofs.Common.{ℕ, arith, codes, Option, Some, None, Result, Ok, Err}
+use Rattle.std.proofs.Common.{◌≡◌, refl, ℕ, arith, codes, Option, Some, None, Result, Ok, Err}
+use Rattle.std.specs.Prelude.{IsUtf8}
 use Rattle.hippo_values.specs.Texts.{Txt}
 use Rattle.hippo_values.specs.declared.moments.Moment.{Moment}
 use Rattle.hippo_io.specs.Lines.{LineText, text_line, too_long_line, not_utf8_line}
@@ -8,30 +9,32 @@ use Rattle.hippo_report.specs.declared.refusal.Refusal.{Refusal}
 use Rattle.hippo_lines.specs.Forms.{Form, says_nothing, sets_clock, asks, states, line_form}
 use Rattle.hippo_commands.specs.Commands.{Command, clock_command, state_command, statement_in, command_by, command_of, commanded}
 use Rattle.hippo_commands.specs.Moments.{moment_in}
-use Rattle.hippo_engine.specs.Carrying.{IsOfLine}
+use Rattle.hippo_following.proofs.CommandTheorem.{commands_are_written}
+use Rattle.hippo_engine.specs.Carrying.{IsText, IsOfLine}
 use Rattle.hippo_judging.proofs.LengthLemmas.{plain_fits}
 
 clock : (moment : Option Moment) → IsOfLine (clock_command moment)
 clock (Some moment) = tt
 clock None = plain_fits None (codes "18 BadMoment") tt (omega arith)
 
-statement : (session : ℕ) (text : Txt) (found : Result Stmt Refusal) → IsOfLine (state_command session text found)
-statement session text (Ok made) = tt
-statement session text (Err refusal) = tt
+module _ (line : Txt) (utf8 : IsUtf8 line) where
+  statement : (session : ℕ) (text : Txt) (found : Result Stmt Refusal) → command_of (text_line line) ≡ state_command session text found → IsOfLine (state_command session text found)
+  statement session text (Ok made) is = (line, commands_are_written line session made text utf8 is)
+  statement session text (Err refusal) is = tt
 
-by_form : (form : Option Form) → IsOfLine (command_by form)
-by_form None = plain_fits None (codes "10 BadLine") tt (omega arith)
-by_form (Some says_nothing) = tt
-by_form (Some (sets_clock moment)) = clock (moment_in moment)
-by_form (Some (asks session request)) = tt
-by_form (Some (states session text)) = statement session text (statement_in text)
+  by_form : (form : Option Form) → command_of (text_line line) ≡ command_by form → IsOfLine (command_by form)
+  by_form None is = plain_fits None (codes "10 BadLine") tt (omega arith)
+  by_form (Some says_nothing) is = tt
+  by_form (Some (sets_clock moment)) is = clock (moment_in moment)
+  by_form (Some (asks session request)) is = tt
+  by_form (Some (states session text)) is = statement session text (statement_in text) is
 
--- a refusal of nobody's line is short
-IsOfLine-line : (line : LineText) → IsOfLine (command_of line)
-IsOfLine-line (text_line text) = by_form (line_form text)
-IsOfLine-line too_long_line = plain_fits None (codes "11 LineTooLong") tt (omega arith)
-IsOfLine-line not_utf8_line = plain_fits None (codes "10 BadLine") tt (omega arith)
+-- a refusal of nobody's line is short, and a statement stands in its line
+IsOfLine-line : (line : LineText) → IsText (Some line) → IsOfLine (command_of line)
+IsOfLine-line (text_line text) utf8 = by_form text utf8 (line_form text) refl
+IsOfLine-line too_long_line utf8 = plain_fits None (codes "11 LineTooLong") tt (omega arith)
+IsOfLine-line not_utf8_line utf8 = plain_fits None (codes "10 BadLine") tt (omega arith)
 
-pub IsOfLine-commanded : (line : Option LineText) → IsOfLine (commanded line)
-IsOfLine-commanded None = tt
-IsOfLine-commanded (Some line) = IsOfLine-line line
+pub IsOfLine-commanded : (line : Option LineText) → IsText line → IsOfLine (commanded line)
+IsOfLine-commanded None utf8 = tt
+IsOfLine-commanded (Some line) utf8 = IsOfLine-line line utf8

@@ -26,6 +26,7 @@ found_load session table text entry engine console found = record {
   who = ap Some console;
   memory = refl;
   adds = λ history stands. adds_change history (world_of engine.world) (ask session (loads table text)) entry (found history stands);
+  next = λ history stands. (found history stands).next;
 }
 
 -- one that is refused

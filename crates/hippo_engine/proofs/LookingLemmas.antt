@@ -17,7 +17,7 @@ use Rattle.hippo_judging.specs.Judging.{judged}
 use Rattle.hippo_engine.specs.Effects.{effect_of, IsEffect}
 use Rattle.hippo_engine.specs.Ledgers.{reads_kept, Tallies}
 use Rattle.hippo_engine.specs.Carrying.{Holds, AtWork, as_call, is_carried, shown, Carries}
-use Rattle.hippo_engine.proofs.CarryingLemmas.{Holds-same}
+use Rattle.hippo_engine.proofs.CarryingLemmas.{Holds-same, IsTimely-same}
 
 -- what a command did that read what is kept of a history
 pub record HasLooked (history : History) (command : Command) (result : Result (Unit {0}) EngineFault) (old new : Engine) (steps steps' : ℕ) : Type 0 where
@@ -30,12 +30,13 @@ pub record HasLooked (history : History) (command : Command) (result : Result (U
   pub undamaged : (number : ℕ) → result ≢ Err (Damaged number)
 
 pub Carries-looked : (command : Command) (result : Result (Unit {0}) EngineFault) (old new : Engine) (before after : KeeperState) (steps steps' : ℕ) → reads_kept command ≡ true → AtWork old before
-    → new.state ≡ old.state → IsAfterCall true false (as_call result) before after → (after.tells → KeepsSame before after)
+    → new.state ≡ old.state → new.world.clock ≡ old.world.clock → IsAfterCall true false (as_call result) before after → (after.tells → KeepsSame before after)
     → (after.tells → (history : History) → Holds history old before → HasLooked history command result old new steps steps')
     → Carries command result old new before after steps steps'
-Carries-looked command result old new before after steps steps' reads at_work same call stays told = record {
+Carries-looked command result old new before after steps steps' reads at_work same clock call stays told = record {
   call = call;
   sound = λ fine. subst IsSound (sym same) at_work.sound;
+  timely = λ fine. IsTimely-same old new same clock at_work.timely;
   idle = λ none. absurd (false≢true (sym none ∙ reads));
   carried = λ fine tells history holds.
       let looked = told tells history holds in

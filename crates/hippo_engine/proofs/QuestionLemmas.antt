@@ -1,6 +1,6 @@
 -- From keeping and answering a question to what carrying out its command does.
 use Rattle.std.proofs.Common.{◌≡◌, ◌⊎◌, ◌∙◌, ◌+◌, inl, inr, refl, sym, ap, subst, ℕ, Bool, true, false, List, [], ◌∷◌, ◌++◌, Option, Some, None, Result, Ok, Err, length, append-nil, IfOk}
-use Rattle.std.specs.Prelude.{◌==◌, ok_or}
+use Rattle.std.specs.Prelude.{◌==◌, int_le, nat_lt, ok_or}
 use Rattle.std.proofs.lemmas.Bool.{false≢true}
 use Rattle.hippo_values.specs.Texts.{Txt}
 use Rattle.hippo_model.specs.declared.entry.Entry.{Entry}
@@ -15,8 +15,9 @@ use Rattle.hippo_keeper.specs.Keeping.{KeeperState}
 use Rattle.hippo_eval.specs.declared.answers.EvalFault.{EvalFault}
 use Rattle.hippo_eval.specs.Answering.{IsAnswered}
 use Rattle.hippo_replay.specs.declared.state.State.{State}
-use Rattle.hippo_replay.specs.Standing.{StandsFor, IsSound}
+use Rattle.hippo_replay.specs.Standing.{StandsFor, IsSound, IsTimely}
 use Rattle.hippo_replay.specs.Recording.{Keeps}
+use Rattle.hippo_replay.proofs.StateLemmas.{latest_moment-append}
 use Rattle.hippo_keeper.proofs.CallLemmas.{IsAfterCall-as}
 use Rattle.hippo_keeper.proofs.Results.{ok_of, err_of, well}
 use Rattle.hippo_world.specs.declared.sessions.Session.{Session}
@@ -38,7 +39,8 @@ use Rattle.hippo_judging.specs.Judging.{deed_for, judged}
 use Rattle.hippo_engine.specs.Effects.{Effect, only_reply, row_limit, question_rows, within_limit, asked, done, effect_of, IsShortAnswer, IsShort, IsEffect, may_do_nothing}
 use Rattle.hippo_engine.specs.Ledgers.{none_taken}
 use Rattle.hippo_engine.specs.Carrying.{Carries}
-use Rattle.hippo_engine.proofs.CarryingLemmas.{Holds-same, Holds-more}
+use Rattle.hippo_engine.proofs.CarryingLemmas.{Holds-same, Holds-more, IsTimely-same}
+use Rattle.hippo_engine.proofs.ClockLemmas.{int_le-refl, either_clock}
 use Rattle.hippo_judging.specs.Asking.{question_of, deed_asked}
 use Rattle.hippo_engine.specs.Questions.{entry_of, KeptAnswer, Asks, answer_said, world_left, HandsOut, Replies}
 use Rattle.hippo_engine.specs.Watching.{alarms_now}
@@ -89,7 +91,7 @@ record SaysSo (new : Engine) (said : List ShownRow → Txt) (left : List ShownRo
   world : world_of new.world ≡ left rows
 
 module _ (command : Command) (deed : Deed) (question : Question) (said : List ShownRow → Txt) (left : List ShownRow → World) (old new : Engine) (before after : KeeperState) (steps : ℕ)
-    (takes : may_do_nothing command ≡ true) (sound : IsSound old.state) (same_audits : KeepsAudits old.world new.world)
+    (takes : may_do_nothing command ≡ true) (sound : IsSound old.state) (timely : IsTimely old.state old.world.clock) (same_audits : KeepsAudits old.world new.world)
     (judged_is : (history : History) → StandsFor old.state history → judged history (world_of old.world) command ≡ Ok deed)
     (asks : IsQuestion (world_of old.world) deed question said left) where
   abbrev entry : Entry
@@ -117,13 +119,17 @@ module _ (command : Command) (deed : Deed) (question : Question) (said : List Sh
       inr ((takes_some command takes).0, subst (λ (judgement : Checked Deed). IsShort history (world_of old.world) line judgement shown) (sym (judged_is history stands)) so)
 
   -- it was kept and answered
-  Carries-kept : (answer : Result (List ShownRow) EvalFault) → Asks entry (world_of old.world) question (ok_of KeeperFault answer) old.state new.state before after
+  Carries-kept : (answer : Result (List ShownRow) EvalFault) → new.world.clock ≡ old.world.clock → Asks entry (world_of old.world) question (ok_of KeeperFault answer) old.state new.state before after
       → ((history : History) → StandsFor old.state history → WatchesFit history old.world → (rows : List ShownRow) → IsAnswered row_limit rows answer
       → SaysSo new said left (alarms_now history (world_of old.world) question) rows ⊎ SaysShort command old new)
       → Carries {A = Unit {0}} command (Ok tt) old new before after steps steps
-  Carries-kept answer kept says = record {
+  Carries-kept answer clock kept says = record {
     call = IsAfterCall-as true false (ok_of KeeperFault answer) (well KeeperFault) before after refl kept.keeps.call;
     sound = λ fine. record { history = sound.history ++ entry ∷ []; stands = kept.added sound.history sound.stands };
+    timely = λ fine.
+        let last : new.state.last ≡ old.world.clock = (kept.added sound.history sound.stands).last ∙ latest_moment-append sound.history entry in
+        let same : int_le new.state.last new.world.clock ≡ int_le old.world.clock old.world.clock = λ i. int_le (last i) (clock i) in
+        same ∙ int_le-refl old.world.clock;
     idle = λ none. refl;
     carried = λ fine tells history holds. record {
       effect = shown;
@@ -148,6 +154,7 @@ module _ (command : Command) (deed : Deed) (question : Question) (said : List Sh
   Carries-short kept none = record {
     call = IsAfterCall-as true false (err_of (Result (List ShownRow) EvalFault) KeeperMemory) (well KeeperFault) before after refl kept.keeps.call;
     sound = λ fine. subst IsSound (sym kept.same) sound;
+    timely = λ fine. IsTimely-same old new kept.same (ap (λ (w : World). w.clock) none.same) timely;
     idle = λ none. refl;
     carried = λ fine tells history holds. record {
       effect = only_reply (world_of old.world) (refusal_line (who_commands command) Memory);
@@ -170,6 +177,7 @@ module _ (command : Command) (deed : Deed) (question : Question) (said : List Sh
   Carries-failed kept = record {
     call = IsAfterCall-as true false (err_of (Result (List ShownRow) EvalFault) Failed) (err_of (Unit {0}) Failed) before after refl kept.keeps.call;
     sound = λ fine. absurd (false≢true (sym fine));
+    timely = λ fine. absurd (false≢true (sym fine));
     idle = λ none. refl;
     carried = λ fine. absurd (false≢true fine);
     failed = λ fails tells history holds. inl (record {
@@ -191,7 +199,7 @@ found_session false (Some one) session is = ap (λ (c : Checked Session). found 
     found (Ok one) = Some one
     found (Err refusal) = None
 
-module _ (session : ℕ) (statement : Stmt) (text : Txt) (asked_for : Asking) (old new : Engine) (before after : KeeperState) (steps : ℕ) (sound : IsSound old.state) (same_audits : KeepsAudits old.world new.world) where
+module _ (session : ℕ) (statement : Stmt) (text : Txt) (asked_for : Asking) (old new : Engine) (before after : KeeperState) (steps : ℕ) (sound : IsSound old.state) (timely : IsTimely old.state old.world.clock) (same_audits : KeepsAudits old.world new.world) where
   -- a question that is not refused
   abbrev asks_it : Command
   asks_it = state session statement text
@@ -219,6 +227,18 @@ module _ (session : ℕ) (statement : Stmt) (text : Txt) (asked_for : Asking) (o
   says there rows (Ok said) more is (inr none) = inr (record { said = none.said; same = none.same })
   says there rows (Err fault) more is none = inr (record { said = none.said; same = none.same })
 
+  -- an answer leaves the clock
+  delivery_clock : (delivery : Delivery) (rows : List ShownRow) → (world_left (world_of old.world) session asked_for.asker.now delivery rows).clock ≡ old.world.clock
+  delivery_clock delivered.Rows rows = refl
+  delivery_clock delivered.Records rows = refl
+  delivery_clock (delivered.Cursor cursor) rows = either_clock (nat_lt row_limit (length rows)) (world_of old.world) _ refl
+
+  clock_left : session_at (world_of old.world) session ≡ Some asked_for.asker.now → (rows : List ShownRow) (alarms : Result Txt NoMemory)
+      → HandsOut session asked_for.delivery rows alarms new.reply (world_of old.world) (world_of new.world) → new.world.clock ≡ old.world.clock
+  clock_left there rows (Ok said) (inl out) = ap (λ (w : World). w.clock) (out.left asked_for.asker.now there) ∙ delivery_clock asked_for.delivery rows
+  clock_left there rows (Ok said) (inr none) = ap (λ (w : World). w.clock) none.same
+  clock_left there rows (Err fault) none = ap (λ (w : World). w.clock) none.same
+
   -- what the watches say, of each history that the state stands for
   abbrev AreAlarms : Result Txt NoMemory → Type 0
   AreAlarms alarms =
@@ -239,12 +259,13 @@ module _ (session : ℕ) (statement : Stmt) (text : Txt) (asked_for : Asking) (o
   Carries-question there judged_is (Ok answer) asks alarms are result replies =
       let at = found_session (session == 0) (session_at (world_of old.world) session) asked_for.asker.now there in
       subst (λ (r : Result (Unit {0}) EngineFault). Carries asks_it r old new before after steps steps) (sym replies.0)
-      (Carries-kept asks_it (deed_asked session asked_for) question is_said is_left old new before after steps refl sound same_audits judged_is (is_question asked_for.delivery) answer asks
+      (Carries-kept asks_it (deed_asked session asked_for) question is_said is_left old new before after steps refl sound timely same_audits judged_is (is_question asked_for.delivery) answer
+      (clock_left at (question_rows sound.history (world_of old.world) question) alarms (replies.1 (question_rows sound.history (world_of old.world) question) (asks.rows sound.history sound.stands))) asks
       (λ history stands fit rows answered. says at rows alarms (alarms_now history (world_of old.world) question) (of_history alarms are history stands fit) (replies.1 rows answered)))
   Carries-question there judged_is (Err KeeperMemory) asks alarms are result replies =
       subst (λ (r : Result (Unit {0}) EngineFault). Carries asks_it r old new before after steps steps) (sym replies.0.0)
-      (Carries-short asks_it (deed_asked session asked_for) question is_said is_left old new before after steps refl sound same_audits judged_is (is_question asked_for.delivery) asks
+      (Carries-short asks_it (deed_asked session asked_for) question is_said is_left old new before after steps refl sound timely same_audits judged_is (is_question asked_for.delivery) asks
       (record { said = replies.0.1; same = replies.1 }))
   Carries-question there judged_is (Err Failed) asks alarms are result replies =
       subst (λ (r : Result (Unit {0}) EngineFault). Carries asks_it r old new before after steps steps) (sym replies.0)
-      (Carries-failed asks_it (deed_asked session asked_for) question is_said is_left old new before after steps refl sound same_audits judged_is (is_question asked_for.delivery) asks)
+      (Carries-failed asks_it (deed_asked session asked_for) question is_said is_left old new before after steps refl sound timely same_audits judged_is (is_question asked_for.delivery) asks)

@@ -1,5 +1,5 @@
 -- A line that takes memory may be answered by want of it.
-use Rattle.std.proofs.Common.{◌≡◌, inl, inr, refl, ap, sym, true, false, Option, Ok, Err, List, Some, None}
+use Rattle.std.proofs.Common.{◌≡◌, Bool, inl, inr, refl, ap, sym, true, false, Option, Ok, Err, List, Some, None}
 use Rattle.std.proofs.lemmas.Bool.{false≢true}
 use Rattle.std.specs.Prelude.{ℕ, int_lt, ok_or}
 use Rattle.hippo_model.specs.declared.audit.Audit.{Audit}
@@ -40,24 +40,31 @@ use Rattle.hippo_judging.specs.Judging.{judged, judged_login, judged_fetch, judg
 use Rattle.hippo_engine.specs.Effects.{only_reply, carried_out, effect_of, IsShort, IsEffect, may_do_nothing}
 use Rattle.hippo_engine.specs.Ledgers.{steps_job}
 
--- a judgement is no step of a job
-abbrev Stepless : Checked Deed → Type 0
-Stepless (Ok (deeds.step_job number job count)) = ⊥
-Stepless judgement = Unit {0}
+-- a command is no step of a job, and does not set the clock
+abbrev pub is_plain : Command → Bool
+is_plain (commands.set_clock moment) = false
+is_plain (ask session (steps job count)) = false
+is_plain command = true
 
-check : {A : Type 0} (found : Checked A) (next : A → Checked Deed) → ((one : A) → Stepless (next one)) → Stepless (found >>= next)
+-- nor does what is done for it
+abbrev pub IsPlain : Checked Deed → Type 0
+IsPlain (Ok (deeds.step_job number job count)) = ⊥
+IsPlain (Ok (deeds.set_clock moment)) = ⊥
+IsPlain judgement = Unit {0}
+
+check : {A : Type 0} (found : Checked A) (next : A → Checked Deed) → ((one : A) → IsPlain (next one)) → IsPlain (found >>= next)
 check (Ok one) next all = all one
 check (Err refusal) next all = tt
 
-made : (history : History) (world : World) (wanted : Wanted) → Stepless (judged_wanted history world wanted)
+made : (history : History) (world : World) (wanted : Wanted) → IsPlain (judged_wanted history world wanted)
 made history world wanted =
     check {A = Act} (act_made (finished history wanted)) (λ act. has_room history world >>= λ room. Ok (deeds.change act))
     (λ act. check {A = Unit {0}} (has_room history world) (λ room. Ok (deeds.change act)) (λ room. tt))
 
-named : (history : History) (world : World) (wanted : Option Wanted) → Stepless (ok_or wanted BadSyntax >>= λ one. judged_wanted history world one)
+named : (history : History) (world : World) (wanted : Option Wanted) → IsPlain (ok_or wanted BadSyntax >>= λ one. judged_wanted history world one)
 named history world wanted = check {A = Wanted} (ok_or wanted BadSyntax) (λ one. judged_wanted history world one) (λ one. made history world one)
 
-change : (history : History) (world : World) (number : ℕ) (statement : Stmt) → Stepless (judged_change history world number statement)
+change : (history : History) (world : World) (number : ℕ) (statement : Stmt) → IsPlain (judged_change history world number statement)
 change history world number statement =
     let refusals : List NameFault = change_refused (known_at history) statement in
     let wanted : Option Wanted = wanted_by (known_at history) statement in
@@ -65,25 +72,25 @@ change history world number statement =
     (λ console. meant refusals wanted >>= λ found. ok_or found BadSyntax >>= λ one. judged_wanted history world one)
     (λ console. check {A = Option Wanted} (meant refusals wanted) (λ found. ok_or found BadSyntax >>= λ one. judged_wanted history world one) (λ found. named history world found))
 
-load : (history : History) (world : World) (number : ℕ) (table : Name) (text : Txt) → Stepless (judged_load history world number table text)
+load : (history : History) (world : World) (number : ℕ) (table : Name) (text : Txt) → IsPlain (judged_load history world number table text)
 load history world number table text =
     check {A = Unit {0}} (by_console number) (λ console. insert_of (known_at history) table text >>= λ insert. judged_change history world number insert)
     (λ console. check {A = Stmt} (insert_of (known_at history) table text) (λ insert. judged_change history world number insert)
     (λ insert. change history world number insert))
 
-delivery_step : (session : Session) (question : Question) (delivery : Delivery) → Stepless (Ok (deed_for session question delivery))
+delivery_step : (session : Session) (question : Question) (delivery : Delivery) → IsPlain (Ok (deed_for session question delivery))
 delivery_step session question delivered.Rows = tt
 delivery_step session question delivered.Records = tt
 delivery_step session question (delivered.Cursor cursor) = tt
 
 delivery : (history : History) (world : World) (handing : Handing) (session : Session) (question : Question)
-    → Stepless (delivery_for handing session >>= λ delivery. has_room history world >>= λ room. Ok (deed_for session question delivery))
+    → IsPlain (delivery_for handing session >>= λ delivery. has_room history world >>= λ room. Ok (deed_for session question delivery))
 delivery history world handing session question =
     check {A = Delivery} (delivery_for handing session) (λ delivery. has_room history world >>= λ room. Ok (deed_for session question delivery))
     (λ delivery. check {A = Unit {0}} (has_room history world) (λ room. Ok (deed_for session question delivery)) (λ room. delivery_step session question delivery))
 
 question : (history : History) (world : World) (handing : Handing) (number : ℕ) (written : RawSelect) (text : Txt)
-    → Stepless (judged_question handing history world number written text)
+    → IsPlain (judged_question handing history world number written text)
 question history world handing number written text =
     check {A = Question} (question_in history world number written text)
     (λ question. open_session world number >>= λ session. delivery_for handing session >>= λ delivery. has_room history world >>= λ room. Ok (deed_for session question delivery))
@@ -91,65 +98,64 @@ question history world handing number written text =
     (λ session. delivery_for handing session >>= λ delivery. has_room history world >>= λ room. Ok (deed_for session question delivery))
     (λ session. delivery history world handing session question))
 
-login : (history : History) (world : World) (number : ℕ) (user : Name) (pair : Pair) → Stepless (judged_login history world number user pair)
+login : (history : History) (world : World) (number : ℕ) (user : Name) (pair : Pair) → IsPlain (judged_login history world number user pair)
 login history world number user pair =
     check {A = Unit {0}} (may_log_in history world number user pair) (λ allowed. Ok (deeds.log_in number user pair)) (λ allowed. tt)
 
-fetch : (world : World) (number at count : ℕ) → Stepless (judged_fetch world number at count)
+fetch : (world : World) (number at count : ℕ) → IsPlain (judged_fetch world number at count)
 fetch world number at count =
     check {A = Session} (open_session world number) (λ session. ok_or (at_number session.cursors at) (NoCursor at) >>= λ cursor. Ok (deeds.hand_out number session at cursor count))
     (λ session. check {A = HeldCursor} (ok_or (at_number session.cursors at) (NoCursor at)) (λ cursor. Ok (deeds.hand_out number session at cursor count)) (λ cursor. tt))
 
-close : (world : World) (number at : ℕ) → Stepless (judged_close world number at)
+close : (world : World) (number at : ℕ) → IsPlain (judged_close world number at)
 close world number at =
     check {A = Session} (open_session world number) (λ session. ok_or (at_number session.cursors at) (NoCursor at) >>= λ cursor. Ok (deeds.close_cursor number session at))
     (λ session. check {A = HeldCursor} (ok_or (at_number session.cursors at) (NoCursor at)) (λ cursor. Ok (deeds.close_cursor number session at)) (λ cursor. tt))
 
-begun : (history : History) (world : World) (number : ℕ) (written : RawAudit) → Stepless (judged_begin history world number written)
+begun : (history : History) (world : World) (number : ℕ) (written : RawAudit) → IsPlain (judged_begin history world number written)
 begun history world number written =
     check {A = Audit} (audit_in history number written) (λ audit. ok_or (free_number world.jobs) JobLimit >>= λ free. Ok (deeds.begin_audit free audit))
     (λ audit. check {A = ℕ} (ok_or (free_number world.jobs) JobLimit) (λ free. Ok (deeds.begin_audit free audit)) (λ free. tt))
 
-dropped : (world : World) (number at : ℕ) → Stepless (judged_drop world number at)
+dropped : (world : World) (number at : ℕ) → IsPlain (judged_drop world number at)
 dropped world number at =
     check {A = Unit {0}} (by_console number) (λ console. ok_or (at_number world.jobs at) (NoJob at) >>= λ job. Ok (deeds.drop_job at))
     (λ console. check {A = OpenAudit} (ok_or (at_number world.jobs at) (NoJob at)) (λ job. Ok (deeds.drop_job at)) (λ job. tt))
 
--- no other command that is carried out is a step of a job
-stepless : (history : History) (world : World) (command : Command) → steps_job command ≡ false → Stepless (judged history world command)
-stepless history world nothing other = tt
-stepless history world (wrong who refusal) other = tt
-stepless history world (commands.set_clock moment) other =
-    check {A = Unit {0}} (refused_if (int_lt moment world.clock) (MomentBack world.clock)) (λ later. Ok (deeds.set_clock moment)) (λ later. tt)
-stepless history world (ask number (logs_in user purpose recipient)) other =
+-- what is done for any other command
+pub plain : (history : History) (world : World) (command : Command) → is_plain command ≡ true → IsPlain (judged history world command)
+plain history world nothing other = tt
+plain history world (wrong who refusal) other = tt
+plain history world (commands.set_clock moment) other = absurd (false≢true other)
+plain history world (ask number (logs_in user purpose recipient)) other =
     login history world number user (record { purpose = purpose; recipient = recipient })
-stepless history world (ask number logs_out) other = check {A = Session} (open_session world number) (λ session. Ok (deeds.log_out number)) (λ session. tt)
-stepless history world (ask number (fetches cursor count)) other = fetch world number cursor count
-stepless history world (ask number (closes cursor)) other = close world number cursor
-stepless history world (ask number (steps job count)) other = absurd (false≢true (sym other))
-stepless history world (ask number (drops job)) other = dropped world number job
-stepless history world (ask number (unwatches watch)) other =
+plain history world (ask number logs_out) other = check {A = Session} (open_session world number) (λ session. Ok (deeds.log_out number)) (λ session. tt)
+plain history world (ask number (fetches cursor count)) other = fetch world number cursor count
+plain history world (ask number (closes cursor)) other = close world number cursor
+plain history world (ask number (steps job count)) other = absurd (false≢true other)
+plain history world (ask number (drops job)) other = dropped world number job
+plain history world (ask number (unwatches watch)) other =
     check {A = Unit {0}} (by_console number) (λ console. ok_or (at_number world.watches watch) (NoWatch watch) >>= λ audit. Ok (deeds.end_watch watch))
     (λ console. check {A = Audit} (ok_or (at_number world.watches watch) (NoWatch watch)) (λ audit. Ok (deeds.end_watch watch)) (λ audit. tt))
-stepless history world (ask number (loads table text)) other = load history world number table text
-stepless history world (state number (stmt.Select written start end) text) other =
+plain history world (ask number (loads table text)) other = load history world number table text
+plain history world (state number (stmt.Select written start end) text) other =
     question history world Rows number written (text_between text start end)
-stepless history world (state number (stmt.Ask written start end) text) other =
+plain history world (state number (stmt.Ask written start end) text) other =
     question history world Cursor number written (text_between text start end)
-stepless history world (state number (stmt.Extract written start end) text) other =
+plain history world (state number (stmt.Extract written start end) text) other =
     question history world Records number written (text_between text start end)
-stepless history world (state number (stmt.Explain question) text) other =
+plain history world (state number (stmt.Explain question) text) other =
     check {A = Unit {0}} (by_console number) (λ console. ok_or (question_at history question) (NoSuchQuery question) >>= λ entry. Ok (deeds.explain entry))
     (λ console. check {A = Entry} (ok_or (question_at history question) (NoSuchQuery question)) (λ entry. Ok (deeds.explain entry)) (λ entry. tt))
-stepless history world (state number (stmt.Audit written) text) other =
+plain history world (state number (stmt.Audit written) text) other =
     check {A = Audit} (audit_in history number written) (λ audit. Ok (deeds.audit audit)) (λ audit. tt)
-stepless history world (state number (stmt.BeginAudit audit) text) other = begun history world number audit
-stepless history world (state number (stmt.Watch written) text) other =
+plain history world (state number (stmt.BeginAudit audit) text) other = begun history world number audit
+plain history world (state number (stmt.Watch written) text) other =
     check {A = Audit} (audit_in history number written) (λ audit. ok_or (free_number world.watches) WatchLimit >>= λ free. Ok (deeds.watch free audit))
     (λ audit. check {A = ℕ} (ok_or (free_number world.watches) WatchLimit) (λ free. Ok (deeds.watch free audit)) (λ free. tt))
-stepless history world (state number statement text) other = change history world number statement
+plain history world (state number statement text) other = change history world number statement
 
-short_of : (history : History) (world : World) (reply : Txt) (judgement : Checked Deed) → Stepless judgement → IsShort history world reply judgement (only_reply world reply)
+short_of : (history : History) (world : World) (reply : Txt) (judgement : Checked Deed) → IsPlain judgement → IsShort history world reply judgement (only_reply world reply)
 short_of history world reply (Ok (deeds.answer question)) none = record { said = refl; kept = inl refl; same = refl }
 short_of history world reply (Ok (deeds.open_cursor session number question)) none = record { said = refl; kept = inl refl; same = refl }
 short_of history world reply (Ok (deeds.extract question)) none = record { said = refl; kept = inl refl; same = refl }
@@ -171,12 +177,17 @@ takes_some (wrong who refusal) takes = (takes, refl)
 takes_some (commands.set_clock moment) takes = (takes, refl)
 takes_some (state session statement text) takes = (takes, refl)
 
+takes_plain : (command : Command) → may_do_nothing command ≡ true → is_plain command ≡ true
+takes_plain (commands.set_clock moment) takes = absurd (false≢true takes)
+takes_plain (ask session (steps job count)) takes = absurd (false≢true takes)
+takes_plain command takes = refl
+
 -- a command that takes memory, and is no step, may be answered by want of it, and nothing changes
 pub short : (history : History) (world : World) (command : Command) → may_do_nothing command ≡ true
     → IsEffect history world command (only_reply world (refusal_line (who_commands command) Memory))
 short history world command takes =
     let both = takes_some command takes in
-    inr (both.0, short_of history world (refusal_line (who_commands command) Memory) (judged history world command) (stepless history world command both.1))
+    inr (both.0, short_of history world (refusal_line (who_commands command) Memory) (judged history world command) (plain history world command (takes_plain command takes)))
 
 -- a command that is refused is answered by its refusal, and nothing changes
 pub refused : (history : History) (world : World) (command : Command) (refusal : Refusal) → judged history world command ≡ Err refusal

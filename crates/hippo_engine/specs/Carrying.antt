@@ -1,5 +1,6 @@
 -- What carrying out a command does to an engine and its keeper, over the history that is kept.
-use Rattle.std.specs.Prelude.{◌≡◌, ◌≢◌, ◌≤◌, ◌⊎◌, ℕ, ℤ, Bool, false, true, [], ◌∷◌, ◌++◌, length, map, None, Result, Ok, Err}
+use Rattle.std.specs.Prelude.{◌≡◌, ◌≢◌, ◌≤◌, ◌⊎◌, ℕ, ℤ, Bool, false, true, [], ◌∷◌, ◌++◌, length, map, IsUtf8, Option, Some, None, Result, Ok, Err}
+use Rattle.hippo_io.specs.Lines.{LineText, text_line}
 use Rattle.hippo_model.specs.declared.entry.Entry.{Entry}
 use Rattle.hippo_model.specs.StoredForms.{stored}
 use Rattle.hippo_model.specs.Terms.{History}
@@ -11,7 +12,7 @@ use Rattle.hippo_keeper.specs.Answering.{has_failed}
 use Rattle.hippo_keeper.specs.Keeping.{KeeperState, IsReady, IsAfterCall, MayHaveOneMore, KeepsSame}
 use Rattle.hippo_typing.specs.Meanings.{meaning}
 use Rattle.hippo_replay.specs.declared.state.State.{State}
-use Rattle.hippo_replay.specs.Standing.{StandsFor, IsSound}
+use Rattle.hippo_replay.specs.Standing.{StandsFor, IsSound, IsTimely}
 use Rattle.hippo_replay.specs.Recording.{HasKept}
 use Rattle.hippo_replay.specs.TakingIn.{HasLoaded}
 use Rattle.hippo_report.specs.declared.refusal.Refusal.{Refusal}
@@ -19,6 +20,9 @@ use Rattle.hippo_report.specs.declared.refusal.Refusal.TheVariants.{NoSuchQuery}
 use Rattle.hippo_report.specs.Refusals.{refusal_line}
 use Rattle.hippo_world.specs.Holding.{world_of, KeepsAudits, JobsFit, WatchesFit, taken_of}
 use Rattle.hippo_commands.specs.Commands.{Command, wrong}
+use Rattle.hippo_commands.specs.Commands as commands
+use Rattle.hippo_following.specs.CommandLaws.{IsOfLine as StandsIn}
+use Rattle.hippo_values.specs.Texts.{Txt}
 use Rattle.hippo_engine.specs.declared.engine.Engine.{Engine}
 use Rattle.hippo_engine.specs.declared.faults.EngineFault.{EngineFault}
 use Rattle.hippo_engine.specs.declared.faults.EngineFault.TheVariants.{Keeper, Write, Damaged}
@@ -34,10 +38,12 @@ pub record Holds (history : History) (engine : Engine) (keeper : KeeperState) : 
   pub jobs : JobsFit history engine.world
   pub watches : WatchesFit history engine.world
 
--- what carrying out asks of an engine and its keeper: there is a history for which the state stands, the keeper is
--- started and neither spent nor closed, and where it tells what it keeps, both hold a history
+-- what carrying out asks of an engine and its keeper: there is a history for which the state stands, the clock is not
+-- before its last entry, the keeper is started and neither spent nor closed, and where it tells what it keeps, both hold
+-- a history
 pub record AtWork (engine : Engine) (keeper : KeeperState) : Type 0 where
   pub sound : IsSound engine.state
+  pub timely : IsTimely engine.state engine.world.clock
   pub ready : IsReady true keeper
   pub told : keeper.tells → (history : History) × Holds history engine keeper
 
@@ -61,9 +67,15 @@ is_carried (Err Keeper) = false
 is_carried (Err Write) = true
 is_carried (Err (Damaged number)) = false
 
--- what holds of each command that a line gives: a refusal of nobody's line is short
+-- the text of a line is UTF-8, where it has one
+abbrev pub IsText : Option LineText → Type 0
+IsText (Some (text_line text)) = IsUtf8 text
+IsText line = Unit {0}
+
+-- what holds of each command that a line gives: a refusal of nobody's line is short, and a statement stands in the line
 abbrev pub IsOfLine : Command → Type 0
 IsOfLine (wrong None refusal) = length (refusal_line None refusal) ≤ reply_room
+IsOfLine (commands.state session statement text) = (line : Txt) × StandsIn line statement text
 IsOfLine command = Unit {0}
 
 -- what an engine shows after a command that added nothing
@@ -126,11 +138,13 @@ BreaksOff history command old before after =
     BreaksOffAdding history command old before after ⊎ BreaksOffReading history command old before after
 
 -- a command is carried out, or the keeper fails, or hands over what it did not keep; where it tells what it keeps, the
--- command has its effect over that, or the keeper breaks off, and nothing is damaged
+-- command has its effect over that, or the keeper breaks off, and nothing is damaged. The clock is not before the last
+-- entry
 pub record Carries {A : Type 0} (command : Command) (result : Result A EngineFault) (old new : Engine)
     (before after : KeeperState) (steps steps' : ℕ) : Type 0 where
   pub call : IsAfterCall true false (as_call result) before after
   pub sound : has_failed (as_call result) ≡ false → IsSound new.state
+  pub timely : has_failed (as_call result) ≡ false → IsTimely new.state new.world.clock
   pub idle : reads_kept command ≡ false → steps' ≡ steps
   pub carried : is_carried result ≡ true → after.tells → (history : History) → Holds history old before
       → HasEffect history command old new before after steps steps'

@@ -10,6 +10,7 @@ use Rattle.hippo_world.specs.Holding.{world_of}
 use Rattle.hippo_commands.specs.Commands.{Command, who_commands}
 use Rattle.hippo_engine.specs.declared.engine.Engine.{Engine}
 use Rattle.hippo_judging.specs.Checks.{Refuses}
+use Rattle.hippo_judging.specs.Deeds.{next_entry}
 use Rattle.hippo_engine.specs.Effects.{Effect, effect_of, may_do_nothing}
 use Rattle.hippo_judging.specs.Judging.{judged}
 
@@ -17,12 +18,14 @@ use Rattle.hippo_judging.specs.Judging.{judged}
 abbrev pub changed : World → Entry → Effect
 changed world entry = record { reply = number_line 0 (codes "ok") entry.seq; added = entry ∷ []; world = world }
 
--- a command of the console adds an entry by the rules, whatever history the state stands for
+-- a command of the console adds an entry by the rules, which is the next one, whatever history the state stands for
 pub record Changes (command : Command) (entry : Entry) (engine : Engine) : Type 0 where
   pub who : who_commands command ≡ Some 0
   pub memory : may_do_nothing command ≡ true
   pub adds : (history : History) → StandsFor engine.state history
       → effect_of history (world_of engine.world) command ≡ changed (world_of engine.world) entry
+  pub next : (history : History) → StandsFor engine.state history
+      → entry ≡ next_entry history (world_of engine.world) entry.act
 
 -- a session's or the console's command is refused, whatever history the state stands for
 pub record IsRefused (command : Command) (session : ℕ) (refusal : Refusal) (engine : Engine) : Type 0 where

@@ -2,7 +2,9 @@
 ghost use Rattle.std.specs.Prelude.{◌≡◌, ◌≢◌, ℕ, ◌^◌, ◌<◌, true, MatchResult, IfOk, Err};
 ghost use Rattle.hippo_values.specs.Texts.{Txt as Text};
 ghost use Rattle.hippo_catalog.specs.ChangesWanted.{changes_something};
+ghost use Rattle.hippo_replay.specs.Standing.{MayFollow};
 ghost use Rattle.hippo_commands.specs.Commands.{Command, state};
+ghost use Rattle.hippo_following.specs.Written.{is_written};
 ghost use Rattle.hippo_engine.specs.declared.faults.EngineFault.TheVariants.{Write as WriteFailed};
 ghost use Rattle.hippo_engine.specs.Carrying.{AtWork, IsQuiet, Carries};
 ghost use Rattle.hippo_engine.specs.Changing.{Changes, IsRefused};
@@ -34,6 +36,7 @@ impl Engine {
     ) -> Result<(), EngineFault>
         requires at_work { AtWork self.old (P.state keeper.old) }
         requires number { entry.now.seq < 2 ^ 63 }
+        requires follows { MayFollow self.old.state entry.now }
         ensures carries { (command : Command) (steps : ℕ) → Changes command entry.now self.old
             → Carries command result self.old self.new (P.state keeper.old) (P.state keeper.new) steps steps }
         ensures unwritten { result ≢ Err WriteFailed }
@@ -49,7 +52,8 @@ impl Engine {
         }
     }
 
-    /// Records the entry that the checks of a command found, or replies why they refuse it.
+    /// Records the entry that the checks of a command found, which may follow the history, or replies
+    /// why they refuse it.
     pub(crate) fn record_found<P: Keeper>(
         &mut self,
         alloc: Global,
@@ -59,6 +63,7 @@ impl Engine {
     ) -> Result<(), EngineFault>
         requires at_work { AtWork self.old (P.state keeper.old) }
         requires number { IfOk found (λ entry. entry.seq < 2 ^ 63) }
+        requires follows { IfOk found (λ entry. MayFollow self.old.state entry) }
         ensures carries { (command : Command) (steps : ℕ)
             → MatchResult found (λ entry. Changes command entry self.old)
             (λ refusal. IsRefused command session refusal self.old)
@@ -90,6 +95,7 @@ impl Engine {
     ) -> Result<(), EngineFault>
         requires at_work { AtWork self.old (P.state keeper.old) }
         requires changes { changes_something statement.now ≡ true }
+        requires written { is_written statement.now ≡ true }
         ensures carries { (text : Text) (steps : ℕ) → Carries (state session statement.now text) result
             self.old self.new (P.state keeper.old) (P.state keeper.new) steps steps }
         ensures unwritten { result ≢ Err WriteFailed }

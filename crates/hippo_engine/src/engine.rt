@@ -1,5 +1,5 @@
 //! The engine: each line of the input is carried out, and has its reply.
-ghost use Rattle.std.specs.Prelude.{◌≡◌, ◌≢◌, [], false, Err, IfOk, OnOk};
+ghost use Rattle.std.specs.Prelude.{◌≡◌, ◌≢◌, [], false, IsUtf8, Err, IfOk, OnOk};
 ghost use Rattle.hippo_io.specs.Faults.{HasRisen};
 ghost use Rattle.hippo_io.specs.LineTexts.{line_text};
 ghost use Rattle.hippo_io.specs.Told.{Appends, AppendsFront};
@@ -8,7 +8,7 @@ ghost use Rattle.hippo_world.specs.Holding.{world_of};
 ghost use Rattle.hippo_commands.specs.Commands.{state, commanded};
 ghost use Rattle.hippo_commands.specs.Lent.{command};
 ghost use Rattle.hippo_engine.specs.declared.faults.EngineFault.TheVariants.{Write as WriteFailed};
-ghost use Rattle.hippo_engine.specs.Carrying.{IsOfLine, AtWork, is_carried, Carries};
+ghost use Rattle.hippo_engine.specs.Carrying.{IsText, IsOfLine, AtWork, is_carried, Carries};
 
 use crate::faults::EngineFault;
 use hippo_commands::{Command, command_of};
@@ -52,6 +52,20 @@ fn at_beginning(
     Ok((world, reply))
 }
 
+// By its type the text of a line is UTF-8.
+fn is_text(text: &str)
+    ensures { IsUtf8 text.now }
+{}
+
+fn has_text(line: &Line<'_>)
+    ensures { IsText (line_text line.now) }
+{
+    match line {
+        Line::Text(text) => is_text(text),
+        Line::TooLong | Line::NotUtf8 | Line::End => {}
+    }
+}
+
 impl Engine {
     /// An engine that begins where a history ends: the clock stands at its last entry's moment, no session is open, and
     /// the history may have so many entries. Or want of memory.
@@ -91,6 +105,7 @@ impl Engine {
         steps: &mut Steps<L>,
     ) -> Result<(), EngineFault>
         requires at_work { AtWork self.old (P.state keeper.old) }
+        requires of_line { IsOfLine (state session statement.now text.now) }
         ensures carries { Carries (state session statement.now text.now) result self.old self.new
             (P.state keeper.old) (P.state keeper.new) steps.old steps.new }
         ensures unwritten { result ≢ Err WriteFailed }
@@ -196,6 +211,7 @@ impl Engine {
             (P.state keeper.old) (P.state keeper.new) steps.old steps.new }
         ensures unwritten { result ≢ Err WriteFailed }
     {
+        has_text(&line);
         let found = command_of(alloc, line);
         self.carry_out(alloc, keeper, found, steps)
     }

@@ -1,7 +1,9 @@
 //! Questions: each is kept before it is answered.
 ghost use Rattle.std.specs.Prelude.{◌≡◌, ◌≢◌, ◌⊎◌, ℕ, ◌+◌, ◌<◌, ◌≤◌, ◌^◌, List, [], ◌∷◌, ◌++◌};
 ghost use Rattle.std.specs.Prelude.{length, true, Some, Err as Bad, IfOk, OnOk};
+ghost use Rattle.hippo_values.specs.Moments.{is_moment};
 ghost use Rattle.hippo_model.specs.declared.entry.Act.TheVariants.{Asked};
+ghost use Rattle.hippo_model.specs.Keepable.{is_folded_name};
 ghost use Rattle.hippo_model.specs.Terms.{History, ShownRow};
 ghost use Rattle.hippo_model.specs.Validity.{may_follow};
 ghost use Rattle.hippo_csv.specs.Records.{extract_line};
@@ -10,13 +12,14 @@ ghost use Rattle.hippo_report.specs.Cells.{answer_line};
 ghost use Rattle.hippo_report.specs.Refusals.{refusal_line};
 ghost use Rattle.hippo_eval.specs.Answering.{IsAnswered};
 ghost use Rattle.hippo_typing.specs.Meanings.{meaning};
-ghost use Rattle.hippo_replay.specs.Standing.{StandsFor, IsNext, takes_no_memory};
+ghost use Rattle.hippo_replay.specs.Standing.{StandsFor, MayFollow, IsNext, takes_no_memory};
 ghost use Rattle.hippo_world.specs.declared.sessions.Session.{Session as KeptSession};
 ghost use Rattle.hippo_world.specs.Worlds.{session_at};
 ghost use Rattle.hippo_world.specs.Holding.{world_of, KeepsAudits};
 ghost use Rattle.hippo_commands.specs.Commands.{state};
+ghost use Rattle.hippo_following.specs.Written.{names_fit};
 ghost use Rattle.hippo_engine.specs.declared.faults.EngineFault.TheVariants.{Write as WriteFailed};
-ghost use Rattle.hippo_engine.specs.Carrying.{AtWork, IsBacked, Carries};
+ghost use Rattle.hippo_engine.specs.Carrying.{IsOfLine, AtWork, IsBacked, Carries};
 ghost use Rattle.hippo_engine.specs.Effects.{row_limit, question_rows, listed};
 ghost use Rattle.hippo_judging.specs.Asking.{question_of, statement_asked, IsAnswerable};
 ghost use Rattle.hippo_engine.specs.Questions.{entry_of, Asks, short_line, answer_said, world_left};
@@ -34,9 +37,32 @@ use hippo_keeper::{Keeper, KeeperFault};
 use hippo_model::{Act, Answer, CellRow, Entry, RawSelect};
 use hippo_replay::State;
 use hippo_report::{Refusal, answer_lines, number_line, refusal_line};
-use hippo_values::{Duplicate, Memory, Moment, Txt};
+use hippo_values::{Duplicate, Memory, Moment, Name, Txt};
 use hippo_world::{Session, World};
 use std::alloc::Global;
+
+// By their types who asks, and what for, are named in lower case, and a moment is one of the years
+// 0001 to 9999.
+fn name_fits(name: &Name)
+    ensures { is_folded_name name.now ≡ true }
+{
+    let _word = name.as_str();
+}
+
+fn names_fit(asking: &Asking<'_>)
+    ensures { names_fit asking.now.asker.now.user asking.now.asker.now.pair.purpose
+        asking.now.asker.now.pair.recipient ≡ true }
+{
+    name_fits(&asking.asker.user);
+    name_fits(&asking.asker.pair.purpose);
+    name_fits(&asking.asker.pair.recipient);
+}
+
+fn in_range(moment: Moment)
+    ensures { is_moment moment ≡ true }
+{
+    let _seconds = moment.seconds();
+}
 
 fn asked_act(alloc: Global, asker: &Session, text: &str) -> Result<Act, Memory>
     ensures { IfOk result (λ act.
@@ -115,6 +141,7 @@ fn keep_entry<P: Keeper>(
 ) -> Result<Result<Answer, EvalFault>, KeeperFault>
     requires backed { IsBacked state.old (P.state keeper.old) }
     requires number { entry.now.seq < 2 ^ 63 }
+    requires follows { MayFollow state.old entry.now }
     requires room { takes_no_memory entry.now.act ≡ true }
     requires answerable { IsAnswerable state.old asking.now.query }
     ensures asks { (session : ℕ) → Asks entry.now (world_of world.now) (question_of session asking.now) result
@@ -140,11 +167,16 @@ fn keep_and_answer<P: Keeper>(
 ) -> Result<Result<Answer, EvalFault>, KeeperFault>
     requires backed { IsBacked state.old (P.state keeper.old) }
     requires number { state.old.count + 1 < 2 ^ 63 }
+    requires follows { names_fit asking.now.asker.now.user asking.now.asker.now.pair.purpose
+        asking.now.asker.now.pair.recipient ≡ true → is_moment world.now.clock ≡ true
+        → MayFollow state.old (entry_of state.old world.now.clock (question_of 0 asking.now)) }
     requires answerable { IsAnswerable state.old asking.now.query }
     ensures asks { (session : ℕ) → Asks (entry_of state.old world.now.clock (question_of session asking.now))
         (world_of world.now) (question_of session asking.now) result
         state.old state.new (P.state keeper.old) (P.state keeper.new) }
 {
+    names_fit(asking);
+    in_range(world.clock);
     match entry_of(alloc, state, &world.clock, asking) {
         Ok(entry) => {
             let answer = keep_entry(alloc, keeper, state, world, asking, &entry);
@@ -377,6 +409,7 @@ impl Engine {
         text: &str,
     ) -> Result<(), EngineFault>
         requires at_work { AtWork self.old (P.state keeper.old) }
+        requires of_line { IsOfLine (state session (statement_asked handing select.now start end) text.now) }
         ensures carries { (steps : ℕ) → Carries (state session (statement_asked handing select.now start end) text.now)
             result self.old self.new (P.state keeper.old) (P.state keeper.new) steps steps }
         ensures unwritten { result ≢ Bad WriteFailed }

@@ -26,10 +26,9 @@ module _ (history : History) (user purpose recipient : Name) (text : Txt) (selec
       let some = may.reads.some in
       let within = may.reads.within in
       let size = may.reads.size in
-      let short = may.short in
       let utf8 : IsUtf8 (slice_range text start end) = IsUtf8-between text start end may.utf8 (omega arith) (may.reads.from may.utf8) (may.reads.to may.utf8) in
       and_from _ _ (le-leb 1 (length (slice_range text start end)) (omega arith))
-      (and_from _ _ (le-leb (length (slice_range text start end)) line_limit (omega arith)) (is_utf8-from_IsUtf8 (slice_range text start end) utf8))
+      (and_from _ _ (le-leb (length (slice_range text start end)) line_limit may.short) (is_utf8-from_IsUtf8 (slice_range text start end) utf8))
 
   -- and means a query
   text_means : is_some (meaning history (slice_range text start end)) ≡ true

@@ -17,12 +17,12 @@ use Rattle.hippo_reading_laws.specs.QuestionLaws.{ReadsByItself}
 use Rattle.hippo_following.specs.FollowingLaws.{next_entry, HasRoomAt}
 use Rattle.hippo_following.specs.Written.{names_fit}
 
--- a question that the checks let pass: it stands between two places of a line of text, where it reads by itself as this
--- select, of which nothing is refused; and its user may ask for its purpose and recipient
+-- a question that the checks let pass: it stands between two places of a text, is no longer than a line and reads by
+-- itself as this select, of which nothing is refused; and its user may ask for its purpose and recipient
 pub record MayBeAsked (history : History) (user purpose recipient : Name) (text : Txt) (select : RawSelect)
     (start end : ℕ) : Type 0 where
   pub utf8 : IsUtf8 text
-  pub short : length text ≤ line_limit
+  pub short : length (slice_range text start end) ≤ line_limit
   pub reads : ReadsByItself text select start end
   pub unrefused : select_refused (known_at history) select ≡ []
   pub names : names_fit user purpose recipient ≡ true

@@ -4,3 +4,4 @@ mod LoadLemmas
 pub mod AskingLemmas
 pub mod AuditLemmas
 pub mod EntryLemmas
+pub mod FollowingLemmas

@@ -1,6 +1,7 @@
 //! Questions of sessions: what is asked, or why it may not be.
-ghost use Rattle.std.specs.Prelude.{◌≡◌, ◌+◌, ◌<◌, ◌^◌, MatchResult, IfOk, OnOk, Ok as Good};
-ghost use Rattle.std.specs.Prelude.{Err as Bad};
+ghost use Rattle.std.specs.Prelude.{◌≡◌, ◌+◌, ◌<◌, ◌≤◌, ◌^◌, length, MatchResult, IfOk, OnOk};
+ghost use Rattle.std.specs.Prelude.{Ok as Good, Err as Bad};
+ghost use Rattle.hippo_values.specs.Limits.{line_limit};
 ghost use Rattle.hippo_model.specs.Terms.{History};
 ghost use Rattle.hippo_report.specs.declared.refusal.Refusal.TheVariants.{Memory as NoMemory};
 ghost use Rattle.hippo_catalog.specs.Catalogs.{known_at};
@@ -20,6 +21,7 @@ use hippo_model::{Query, RawSelect};
 use hippo_replay::State;
 use hippo_report::Refusal;
 use hippo_typing::resolve_select;
+use hippo_values::LINE_LIMIT;
 use hippo_world::{Session, World};
 use std::alloc::Global;
 
@@ -160,12 +162,19 @@ fn question<'a>(
     with_delivery(asking, delivery)
 }
 
-// The text of a question; one that cannot be cut out is answered by want of memory.
+// The text of a question; one that cannot be cut out, or is longer than a line, is answered by want of memory.
 fn cut(text: &str, start: usize, end: usize) -> Result<&str, Refusal>
-    ensures { MatchResult result (λ cut. cut.now ≡ text_between text.now start end) (λ refusal. refusal ≡ NoMemory) }
+    ensures cut { MatchResult result (λ cut. cut.now ≡ text_between text.now start end)
+        (λ refusal. refusal ≡ NoMemory) }
+    ensures short { OnOk result (length (text_between text.now start end) ≤ line_limit) }
 {
     match text.get(start..end) {
-        Some(cut) => Ok(cut),
+        Some(cut) => {
+            if cut.len() > LINE_LIMIT {
+                return Err(Refusal::Memory);
+            }
+            Ok(cut)
+        }
         None => Err(Refusal::Memory),
     }
 }
@@ -191,6 +200,7 @@ pub fn asks<'a>(
     ensures asker { IfOk result (λ asking. open_session (world_of world.now) session ≡ Good asking.asker.now) }
     ensures answerable { IfOk result (λ asking. IsAnswerable state.now asking.query) }
     ensures below { OnOk result (state.now.count + 1 < 2 ^ 63) }
+    ensures short { OnOk result (length (text_between text.now start end) ≤ line_limit) }
 {
     let text = cut(text, start, end)?;
     question(alloc, state, world, session, handing, select, text)

@@ -1,10 +1,12 @@
 //! Statements that change something: the entry that each adds to the history, or why it is refused.
-ghost use Rattle.std.specs.Prelude.{◌≡◌, ◌^◌, ◌<◌, length, IfOk, OnOk};
+ghost use Rattle.std.specs.Prelude.{◌≡◌, ◌^◌, ◌<◌, true, length, IfOk, OnOk};
+ghost use Rattle.hippo_values.specs.Moments.{is_moment};
 ghost use Rattle.hippo_model.specs.Terms.{History};
 ghost use Rattle.hippo_tables.specs.Finished.{finished};
 ghost use Rattle.hippo_tables.specs.Standing.{StandsFor as TablesStandFor};
-ghost use Rattle.hippo_replay.specs.Standing.{StandsFor};
+ghost use Rattle.hippo_replay.specs.Standing.{StandsFor, MayFollow, IsTimely};
 ghost use Rattle.hippo_world.specs.Holding.{world_of};
+ghost use Rattle.hippo_following.specs.Written.{is_written};
 ghost use Rattle.hippo_judging.specs.Checks.{Finds, rows_refusal, act_made};
 ghost use Rattle.hippo_judging.specs.Judging.{judged_wanted, judged_change};
 ghost use Rattle.hippo_judging.specs.Changes.{FindsChange, wanted_in, change_in_room};
@@ -17,6 +19,7 @@ use hippo_model::{Act, Entry, Stmt, TableFault, Wanted};
 use hippo_replay::State;
 use hippo_report::Refusal;
 use hippo_tables::Tables;
+use hippo_values::Moment;
 use hippo_world::World;
 use std::alloc::Global;
 
@@ -51,12 +54,21 @@ fn check_rows(alloc: Global, tables: &Tables, wanted: &Wanted) -> Result<Act, Re
     }
 }
 
+// By its type a moment is one of the years 0001 to 9999.
+fn in_range(moment: Moment)
+    ensures { is_moment moment ≡ true }
+{
+    let _seconds = moment.seconds();
+}
+
 // The next entry with an act, where the history has room for it.
 fn entry_in_room(count: u64, world: &World, act: Act) -> Result<Entry, Refusal>
     ensures found { (history : History) → count ≡ length history
         → FindsChange history (world_of world.now) (change_in_room history (world_of world.now) act) result }
     ensures number { IfOk result (λ entry. entry.seq < 2 ^ 63) }
+    ensures moment { IfOk result (λ entry. is_moment entry.moment ≡ true) }
 {
+    in_range(world.clock);
     if count < u64::from(world.limit) {
         Ok(Entry {
             seq: count + 1,
@@ -80,6 +92,7 @@ fn entry_wanted(
         → FindsChange history (world_of world.now)
         (judged_wanted history (world_of world.now) wanted.now) result }
     ensures number { IfOk result (λ entry. entry.seq < 2 ^ 63) }
+    ensures moment { IfOk result (λ entry. is_moment entry.moment ≡ true) }
 {
     match check_rows(alloc, &state.tables, wanted) {
         Ok(act) => entry_in_room(state.count, world, act),
@@ -98,6 +111,7 @@ pub(crate) fn entry_for(
         → FindsChange history (world_of world.now)
         (judged_change history (world_of world.now) 0 statement.now) result }
     ensures number { IfOk result (λ entry. entry.seq < 2 ^ 63) }
+    ensures moment { IfOk result (λ entry. is_moment entry.moment ≡ true) }
 {
     match check_names(alloc, &state.catalog, statement) {
         Ok(wanted) => {
@@ -110,9 +124,9 @@ pub(crate) fn entry_for(
 }
 
 /// The entry that a statement which changes something adds: the next one, with the clock's moment.
-/// Or its first refusal: that it is a session's, that its names or types are wrong, that the rows
-/// which are there do not let it be, or that the history is full. Want of memory may refuse it,
-/// too.
+/// It may follow the history. Or its first refusal: that it is a session's, that its names or types
+/// are wrong, that the rows which are there do not let it be, or that the history is full. Want of
+/// memory may refuse it, too.
 pub fn entry_of_change(
     alloc: Global,
     state: &State,
@@ -120,10 +134,13 @@ pub fn entry_of_change(
     session: u8,
     statement: &Stmt,
 ) -> Result<Entry, Refusal>
+    requires timely { IsTimely state.now world.now.clock }
+    requires written { is_written statement.now ≡ true }
     ensures found { (history : History) → StandsFor state.now history
         → FindsChange history (world_of world.now)
         (judged_change history (world_of world.now) session statement.now) result }
     ensures number { IfOk result (λ entry. entry.seq < 2 ^ 63) }
+    ensures follows { IfOk result (λ entry. MayFollow state.now entry) }
     ensures console { OnOk result (session ≡ 0) }
 {
     check_console(session)?;

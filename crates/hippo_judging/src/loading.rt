@@ -1,10 +1,15 @@
 //! Records that are loaded: each is an INSERT of its row.
-ghost use Rattle.std.specs.Prelude.{◌≡◌, ◌⊎◌, ◌^◌, ◌<◌, IfOk, OnOk};
+ghost use Rattle.std.specs.Prelude.{◌≡◌, ◌⊎◌, ◌^◌, ◌<◌, ◌&&◌, true, IfOk, OnOk};
+ghost use Rattle.std.specs.List.{list_all};
 ghost use Rattle.std.specs.Result.{result_map_both};
+ghost use Rattle.std.specs.Str.{is_utf8};
+ghost use Rattle.hippo_values.specs.Moments.{is_day, is_signed_number};
+ghost use Rattle.hippo_model.specs.Keepable.{is_folded_name};
 ghost use Rattle.hippo_model.specs.Terms.{History};
 ghost use Rattle.hippo_csv.specs.declared.faults.CsvFault.TheVariants as fields;
 ghost use Rattle.hippo_csv.specs.Loading.{row_of_fields};
-ghost use Rattle.hippo_replay.specs.Standing.{StandsFor};
+ghost use Rattle.hippo_following.specs.Written.{is_typed, is_written};
+ghost use Rattle.hippo_replay.specs.Standing.{StandsFor, MayFollow, IsTimely};
 ghost use Rattle.hippo_report.specs.declared.refusal.Refusal.TheVariants.{Memory as NoMemory};
 ghost use Rattle.hippo_world.specs.Holding.{world_of};
 ghost use Rattle.hippo_judging.specs.Checks.{Finds};
@@ -19,7 +24,7 @@ use hippo_lines::WrittenName;
 use hippo_model::{Cells, Entry, NameFault, Schema, Stmt};
 use hippo_replay::State;
 use hippo_report::Refusal;
-use hippo_values::{Duplicate, Memory, Name};
+use hippo_values::{DayNumber, Duplicate, Memory, Name, Value};
 use hippo_world::World;
 use std::alloc::Global;
 
@@ -68,13 +73,63 @@ fn loaded_row(alloc: Global, schema: &Schema, text: &str) -> Result<Cells, Refus
     }
 }
 
+// By their types each number has 64 bits, each text is UTF-8, each day is one of the years 0001 to 9999, and each name
+// is in lower case: nothing of them is looked at.
+fn number_fits(_number: i64)
+    ensures { is_signed_number _number ≡ true }
+{}
+
+fn text_fits(text: &str)
+    ensures { is_utf8 text.now ≡ true }
+{}
+
+fn day_fits(day: DayNumber)
+    ensures { is_day day ≡ true }
+{
+    let _number = day.day();
+}
+
+fn name_fits(name: &Name)
+    ensures { is_folded_name name.now ≡ true }
+{
+    let _word = name.as_str();
+}
+
+fn value_fits(value: &Value)
+    ensures { is_typed value.now ≡ true }
+{
+    match value {
+        Value::Null => {}
+        Value::Int(number) => number_fits(*number),
+        Value::Text(text) => text_fits(text.as_str()),
+        Value::Day(day) => day_fits(*day),
+    }
+}
+
+fn values_fit(values: &[Value])
+    ensures { list_all is_typed values.now ≡ true }
+{
+    for value in values {
+        value_fits(value);
+    }
+}
+
+fn insert_fits(table: &Name, values: &[Value])
+    ensures { (is_folded_name table.now && list_all is_typed values.now) ≡ true }
+{
+    name_fits(table);
+    values_fit(values);
+}
+
 // The INSERT of that row into a table.
 fn insert_into(alloc: Global, catalog: &Catalog, table: Name, text: &str) -> Result<Stmt, Refusal>
-    ensures { Finds (λ insert. insert) (insert_of catalog.now.names table text.now) result }
+    ensures found { Finds (λ insert. insert) (insert_of catalog.now.names table text.now) result }
+    ensures written { IfOk result (λ insert. is_written insert ≡ true) }
 {
     match catalog.table(&table) {
         Some(schema) => {
             let values = loaded_row(alloc, schema, text)?;
+            insert_fits(&table, values.as_slice());
             Ok(Stmt::Insert { table, values })
         }
         None => Err(Refusal::Meaningless(NameFault::UnknownTable(table))),
@@ -87,7 +142,8 @@ fn insert_of(
     table: &WrittenName<'_>,
     text: &str,
 ) -> Result<Stmt, Refusal>
-    ensures { Finds (λ insert. insert) (insert_of catalog.now.names table.now text.now) result }
+    ensures found { Finds (λ insert. insert) (insert_of catalog.now.names table.now text.now) result }
+    ensures written { IfOk result (λ insert. is_written insert ≡ true) }
 {
     match table.name(alloc) {
         Ok(table) => insert_into(alloc, catalog, table, text),
@@ -95,10 +151,10 @@ fn insert_of(
     }
 }
 
-/// The entry that a record for a table adds, which is that of its row's INSERT. Or its first
-/// refusal: that it is a session's, that there is no such table, that the text is not one record
-/// with a field of its form for each column, or that of the INSERT. Want of memory may refuse it,
-/// too.
+/// The entry that a record for a table adds, which is that of its row's INSERT and may follow the
+/// history. Or its first refusal: that it is a session's, that there is no such table, that the text
+/// is not one record with a field of its form for each column, or that of the INSERT. Want of memory
+/// may refuse it, too.
 pub fn entry_of_record(
     alloc: Global,
     state: &State,
@@ -107,11 +163,13 @@ pub fn entry_of_record(
     table: &WrittenName<'_>,
     text: &str,
 ) -> Result<Entry, Refusal>
+    requires timely { IsTimely state.now world.now.clock }
     ensures found { (history : History) → StandsFor state.now history
         → FindsChange history (world_of world.now)
         (judged_load history (world_of world.now) session table.now text.now) result }
     ensures number { IfOk result (λ entry. entry.seq < 2 ^ 63) }
     ensures console { OnOk result (session ≡ 0) }
+    ensures follows { IfOk result (λ entry. MayFollow state.now entry) }
 {
     check_console(session)?;
     match insert_of(alloc, &state.catalog, table, text) {

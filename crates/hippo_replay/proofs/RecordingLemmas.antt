@@ -20,7 +20,7 @@ use Rattle.hippo_keeper.specs.Answering.{has_failed, wants_memory}
 use Rattle.hippo_keeper.specs.Keeping.{Store, next_number as next_kept, KeeperState, IsReady, Appends}
 use Rattle.hippo_typing.specs.Meanings.{meaning}
 use Rattle.hippo_replay.specs.declared.state.State.{State}
-use Rattle.hippo_replay.specs.Standing.{StandsFor, IsSound, IsNext, takes_no_memory, Remembers}
+use Rattle.hippo_replay.specs.Standing.{StandsFor, IsSound, MayFollow, IsNext, takes_no_memory, Remembers}
 use Rattle.hippo_replay.specs.TakingIn.{HasLoaded}
 use Rattle.hippo_replay.specs.Recording.{Keeps, Records}
 use Rattle.hippo_replay.proofs.KeeperLemmas.{next_kept-stored}
@@ -37,11 +37,8 @@ abbrev pub short : Result (Unit {0}) KeeperFault
 short = Err Memory
 
 module _ (entry : Entry) where
-  abbrev pub MayFollow : State → Type 0
-  MayFollow state = (history : History) → StandsFor state history → may_follow meaning history entry ≡ true
-
   -- an entry that may follow can be kept
-  pub keepable_next : (state : State) → IsSound state → MayFollow state → is_keepable entry ≡ true
+  pub keepable_next : (state : State) → IsSound state → MayFollow state entry → is_keepable entry ≡ true
   keepable_next state sound follows =
       let numbered : Bool = is_keepable entry && entry.seq == length sound.history + 1 in
       let ordered = and_parts (numbered && keeps_order sound.history entry.moment) (is_acceptable meaning sound.history entry.act) (follows sound.history sound.stands) in
@@ -49,17 +46,17 @@ module _ (entry : Entry) where
       (and_parts (is_keepable entry) (entry.seq == length sound.history + 1) first.0).0
 
   -- and has the number that its keeper expects
-  pub number_next : (state : State) (keeper : KeeperState) → MayFollow state → (keeper.tells → HasLoaded state keeper.kept) → keeper.tells → entry.seq ≡ next_kept keeper.kept
+  pub number_next : (state : State) (keeper : KeeperState) → MayFollow state entry → (keeper.tells → HasLoaded state keeper.kept) → keeper.tells → entry.seq ≡ next_kept keeper.kept
   number_next state keeper follows told tells =
       let loaded = told tells in
       next_number meaning loaded.history entry (follows loaded.history loaded.stands)
       ∙ sym (ap next_kept (sym loaded.forms) ∙ next_kept-stored meaning loaded.history loaded.stands.valid)
 
-  pub IsNext-sound : (state : State) → IsSound state → MayFollow state → IsNext state entry
+  pub IsNext-sound : (state : State) → IsSound state → MayFollow state entry → IsNext state entry
   IsNext-sound state sound follows = record { history = sound.history; stands = sound.stands; follows = follows sound.history sound.stands }
 
   -- it was handed to the keeper
-  pub Keeps-Appends : (kept : StoredEntry) (result : Result (Unit {0}) KeeperFault) (state : State) (before after : KeeperState) → kept ≡ stored entry → Appends kept result before after → MayFollow state → Keeps entry result state before after
+  pub Keeps-Appends : (kept : StoredEntry) (result : Result (Unit {0}) KeeperFault) (state : State) (before after : KeeperState) → kept ≡ stored entry → Appends kept result before after → MayFollow state entry → Keeps entry result state before after
   Keeps-Appends kept result state before after form appended follows =
       let appends : Appends (stored entry) result before after = subst (λ (k : StoredEntry). Appends k result before after) form appended in
       record {

@@ -1,5 +1,5 @@
 -- What a state says of a history.
-use Rattle.std.specs.Prelude.{◌≡◌, Bool, true, false, [], ◌∷◌, ◌++◌, length, Some, unwrap_or}
+use Rattle.std.specs.Prelude.{◌≡◌, Bool, true, false, [], ◌∷◌, ◌++◌, length, int_le, Some, unwrap_or}
 use Rattle.hippo_values.specs.Moments.{first_moment}
 use Rattle.hippo_values.specs.declared.moments.Moment.{Moment}
 use Rattle.hippo_model.specs.declared.entry.Act.{Act}
@@ -34,7 +34,15 @@ pub record IsSound (state : State) : Type 0 where
   pub history : History
   pub stands : StandsFor state history
 
--- and one that this entry may follow
+-- an entry may follow each history for which the state stands
+abbrev pub MayFollow : State → Entry → Type 0
+MayFollow state entry = (history : History) → StandsFor state history → may_follow meaning history entry ≡ true
+
+-- a moment is not before that of the last entry
+abbrev pub IsTimely : State → Moment → Type 0
+IsTimely state moment = int_le state.last moment ≡ true
+
+-- there is a history for which the state stands, and which this entry may follow
 pub record IsNext (state : State) (entry : Entry) : Type 0 where
   pub history : History
   pub stands : StandsFor state history

@@ -1,5 +1,5 @@
 //! Recording: an entry is taken in to the state, and kept behind the others.
-ghost use Rattle.std.specs.Prelude.{◌≡◌, ◌^◌, ◌<◌, true, false, [], ◌∷◌, ◌++◌, OnOk, OnErr};
+ghost use Rattle.std.specs.Prelude.{◌≡◌, ◌^◌, ◌<◌, true, false, [], ◌∷◌, ◌++◌, OnOk};
 ghost use Rattle.hippo_model.specs.Terms.{History};
 ghost use Rattle.hippo_model.specs.Keepable.{is_keepable};
 ghost use Rattle.hippo_model.specs.Validity.{may_follow};
@@ -8,12 +8,12 @@ ghost use Rattle.hippo_keeper.specs.Answering.{has_failed, wants_memory};
 ghost use Rattle.hippo_keeper.specs.Keeping.{IsReady, next_number};
 ghost use Rattle.hippo_typing.specs.Meanings.{meaning};
 ghost use Rattle.hippo_replay.specs.declared.state.State.{State as StateOf};
-ghost use Rattle.hippo_replay.specs.Standing.{StandsFor, IsSound, IsNext, takes_no_memory, Remembers};
+ghost use Rattle.hippo_replay.specs.Standing.{StandsFor, IsSound, MayFollow, IsNext, takes_no_memory, Remembers};
 ghost use Rattle.hippo_replay.specs.TakingIn.{HasLoaded};
 ghost use Rattle.hippo_replay.specs.Recording.{Keeps, Records};
 
 use crate::state::State;
-use hippo_entry::{Keepable, encode};
+use hippo_entry::encode;
 use hippo_keeper::{Keeper, KeeperFault};
 use hippo_model::{Act, Entry};
 use hippo_values::Memory;
@@ -36,8 +36,7 @@ fn append<P: Keeper>(alloc: Global, keeper: &mut P, entry: &Entry) -> Result<(),
     requires ready { IsReady true (P.state keeper.old) }
     requires number { entry.now.seq < 2 ^ 63 }
     requires next { (P.state keeper.old).tells → entry.now.seq ≡ next_number (P.state keeper.old).kept }
-    ensures keeps { (state : StateOf) → ((history : History) → StandsFor state history
-        → may_follow meaning history entry.now ≡ true)
+    ensures keeps { (state : StateOf) → MayFollow state entry.now
         → Keeps entry.now result state (P.state keeper.old) (P.state keeper.new) }
 {
     match encode(alloc, entry) {
@@ -51,24 +50,8 @@ fn append<P: Keeper>(alloc: Global, keeper: &mut P, entry: &Entry) -> Result<(),
 }
 
 impl State {
-    // Ok where an entry can be kept and may come next; one that may not is answered by want of memory.
-    fn test_next(&self, alloc: Global, entry: &Entry) -> Result<(), Memory>
-        ensures { OnOk result ((history : History) → StandsFor self.now history
-            → may_follow meaning history entry.now ≡ true) }
-    {
-        if !entry.is_keepable() {
-            return Err(Memory);
-        }
-        match self.accepts(alloc, entry) {
-            Ok(true) => Ok(()),
-            Ok(false) => Err(Memory),
-            Err(Memory) => Err(Memory),
-        }
-    }
-
-    /// Keeps an entry behind the others. It is tested first, and handed to the keeper only where it can be kept and may
-    /// come next; one that may not is answered by `Memory`, as is want of memory: the keeper then keeps what it kept.
-    /// `Failed` comes only where the keeper failed: the entry is then kept or not.
+    /// Keeps an entry behind the others, which may come next: nothing of it is tested. `Memory` is want of memory: the
+    /// keeper then keeps what it kept. `Failed` comes only where the keeper failed: the entry is then kept or not.
     pub fn keep<P: Keeper>(
         &self,
         alloc: Global,
@@ -76,15 +59,13 @@ impl State {
         entry: &Entry,
     ) -> Result<(), KeeperFault>
         requires sound { IsSound self.now }
+        requires follows { MayFollow self.now entry.now }
         requires ready { IsReady true (P.state keeper.old) }
         requires told { (P.state keeper.old).tells → HasLoaded self.now (P.state keeper.old).kept }
         requires number { entry.now.seq < 2 ^ 63 }
         ensures keeps { Keeps entry.now result self.now (P.state keeper.old) (P.state keeper.new) }
     {
-        match self.test_next(alloc, entry) {
-            Ok(()) => append(alloc, keeper, entry),
-            Err(Memory) => Err(KeeperFault::Memory),
-        }
+        append(alloc, keeper, entry)
     }
 
     // Takes in the next entry, which takes no memory.
@@ -105,6 +86,7 @@ impl State {
         entry: &Entry,
     ) -> Result<(), KeeperFault>
         requires sound { IsSound self.old }
+        requires follows { MayFollow self.old entry.now }
         requires ready { IsReady true (P.state keeper.old) }
         requires told { (P.state keeper.old).tells → HasLoaded self.old (P.state keeper.old).kept }
         requires number { entry.now.seq < 2 ^ 63 }
@@ -120,21 +102,6 @@ impl State {
         }
     }
 
-    // Takes in an entry that can be kept and may come next; one that may not is answered by want of memory.
-    fn add_next(&mut self, alloc: Global, entry: &Entry) -> Result<(), Memory>
-        requires sound { IsSound self.old }
-        ensures follows { OnOk result ((history : History) → StandsFor self.old history
-            → may_follow meaning history entry.now ≡ true) }
-        ensures remembers { OnOk result (is_delete entry.now.act ≡ false → (history : History)
-            → StandsFor self.old history → Remembers self.new history entry.now) }
-        ensures same { OnErr result ((history : History) → StandsFor self.old history → StandsFor self.new history) }
-    {
-        match self.test_next(alloc, entry) {
-            Ok(()) => self.add(alloc, entry),
-            Err(Memory) => Err(Memory),
-        }
-    }
-
     // Keeps the entry that was taken in last, which is taken back where memory is short.
     fn keep_last<P: Keeper>(
         &mut self,
@@ -146,8 +113,7 @@ impl State {
         requires ready { IsReady true (P.state keeper.old) }
         requires number { entry.now.seq < 2 ^ 63 }
         requires next { (P.state keeper.old).tells → entry.now.seq ≡ next_number (P.state keeper.old).kept }
-        ensures keeps { (state : StateOf) → ((history : History) → StandsFor state history
-            → may_follow meaning history entry.now ≡ true)
+        ensures keeps { (state : StateOf) → MayFollow state entry.now
             → Keeps entry.now result state (P.state keeper.old) (P.state keeper.new) }
         ensures ok { OnOk result (self.new ≡ self.old) }
         ensures memory { wants_memory result ≡ true → (history : History) → Remembers self.old history entry.now
@@ -171,21 +137,22 @@ impl State {
         entry: &Entry,
     ) -> Result<(), KeeperFault>
         requires sound { IsSound self.old }
+        requires follows { MayFollow self.old entry.now }
         requires ready { IsReady true (P.state keeper.old) }
         requires told { (P.state keeper.old).tells → HasLoaded self.old (P.state keeper.old).kept }
         requires number { entry.now.seq < 2 ^ 63 }
         requires remembered { is_delete entry.now.act ≡ false }
         ensures records { Records entry.now result self.old self.new (P.state keeper.old) (P.state keeper.new) }
     {
-        match self.add_next(alloc, entry) {
+        match self.add(alloc, entry) {
             Ok(()) => self.keep_last(alloc, keeper, entry),
             Err(Memory) => Err(KeeperFault::Memory),
         }
     }
 
-    /// Takes in the entry that comes next and keeps it. One that cannot be kept or may not come next is answered by
-    /// `Memory`, as is want of memory: state and keeper then say what they said. After `Failed`, which comes only where
-    /// the keeper failed, the entry is kept or not, and the state is of no use.
+    /// Takes in the entry that comes next and keeps it: nothing of it is tested. `Memory` is want of memory: state and
+    /// keeper then say what they said. After `Failed`, which comes only where the keeper failed, the entry is kept or
+    /// not, and the state is of no use.
     pub fn record<P: Keeper>(
         &mut self,
         alloc: Global,
@@ -193,6 +160,7 @@ impl State {
         entry: &Entry,
     ) -> Result<(), KeeperFault>
         requires sound { IsSound self.old }
+        requires follows { MayFollow self.old entry.now }
         requires ready { IsReady true (P.state keeper.old) }
         requires told { (P.state keeper.old).tells → HasLoaded self.old (P.state keeper.old).kept }
         requires number { entry.now.seq < 2 ^ 63 }

@@ -1,5 +1,6 @@
 -- A drill, one line more.
 use Rattle.std.proofs.Common.{◌≡◌, ◌≢◌, ℕ, List, [], ◌∷◌, ◌++◌, map, true, inl, inr, Option, Result, Ok, Err, OnOk, refl, ap, sym, subst, ◌∙◌, append_assoc}
+use Rattle.hippo_values.specs.declared.moments.Moment.{Moment}
 use Rattle.hippo_values.specs.Texts.{Txt}
 use Rattle.hippo_values.specs.declared.memory.Memory.{Memory as Want}
 use Rattle.hippo_drill.specs.Script.{script}
@@ -17,7 +18,7 @@ use Rattle.hippo_world.specs.Holding.{world_of}
 use Rattle.hippo_commands.specs.Commands.{Command, command_of, who_commands}
 use Rattle.hippo_engine.specs.declared.engine.Engine.{Engine}
 use Rattle.hippo_engine.specs.Carrying.{Holds, AtWork, Carries, HasEffect}
-use Rattle.hippo_engine.proofs.CarryingLemmas.{Holds-opening}
+use Rattle.hippo_engine.proofs.CarryingLemmas.{IsTimely-begun, Holds-opening}
 use Rattle.hippo_judging.specs.Checks.{Checked}
 use Rattle.hippo_judging.specs.Deeds as deeds
 use Rattle.hippo_judging.specs.Deeds.{Deed}
@@ -100,6 +101,7 @@ pub at_work_none : (engine : Engine) (keeper : MemoryStore) → StandsFor engine
     → world_of engine.world ≡ opening (latest_moment []) drill_limit Text → IsReady true (seen keeper) → AtWork engine (seen keeper)
 at_work_none engine keeper stands kept world ready = record {
   sound = record { history = []; stands = stands };
+  timely = IsTimely-begun engine drill_limit Text (world ∙ ap (λ (moment : Moment). opening moment drill_limit Text) (sym stands.last));
   ready = ready;
   told = λ tells. ([], Holds-opening [] engine.state engine (seen keeper) (latest_moment []) drill_limit Text refl stands (sym kept) world);
 }

@@ -1,6 +1,5 @@
 -- What a call with a line makes of a run.
-use Rattle.std.proofs.Common.{◌≡◌, ◌≢◌, ℕ, ◌≤◌, ◌++◌, ◌∷◌, [], true, false, inl, inr, Option, Some, None, IfNone, MatchOption, Result, Ok, Err, option_map, refl, sym, subst, ◌∙◌}
-use Rattle.hippo_values.specs.declared.moments.Moment.{Moment}
+use Rattle.std.proofs.Common.{◌≡◌, ◌≢◌, ℕ, ◌≤◌, ◌++◌, ◌∷◌, [], true, false, inl, inr, Option, Some, None, IfNone, MatchOption, Result, Ok, Err, option_map, refl, sym, ap, subst, ◌∙◌}
 use Rattle.hippo_values.specs.Texts.{Txt}
 use Rattle.hippo_io.specs.Lines.{LineText, lines}
 use Rattle.hippo_io.specs.Position.{Position}
@@ -21,7 +20,7 @@ use Rattle.hippo_engine.specs.declared.engine.Engine.{Engine}
 use Rattle.hippo_engine.specs.declared.faults.EngineFault.{EngineFault}
 use Rattle.hippo_engine.specs.declared.faults.EngineFault.TheVariants.{Keeper, Write, Damaged as DamagedAt}
 use Rattle.hippo_engine.specs.Carrying.{AtWork, IsBacked, Carries}
-use Rattle.hippo_engine.proofs.CarryingLemmas.{Holds-opening}
+use Rattle.hippo_engine.proofs.CarryingLemmas.{IsTimely-begun, Holds-opening}
 use Rattle.hippo_words.specs.declared.calls.Job.{Job}
 use Rattle.hippo_words.specs.declared.calls.Setting.{Setting}
 use Rattle.hippo_serve.specs.declared.endings.Ending.{Ending}
@@ -38,14 +37,15 @@ some_line : (text : LineText) → Some text ≢ None
 some_line text e = cc
 
 -- an engine that begins with a state is at work where the keeper keeps what the state stands for
-pub AtWork-begun : (state : State) (engine : Engine) (keeper : KeeperState) (clock : Moment) (limit : ℕ) (format : Format) → engine.state ≡ state
-    → world_of engine.world ≡ opening clock limit format → IsBacked state keeper → AtWork engine keeper
-AtWork-begun state engine keeper clock limit format same opens backed = record {
+pub AtWork-begun : (state : State) (engine : Engine) (keeper : KeeperState) (limit : ℕ) (format : Format) → engine.state ≡ state
+    → world_of engine.world ≡ opening state.last limit format → IsBacked state keeper → AtWork engine keeper
+AtWork-begun state engine keeper limit format same opens backed = record {
   sound = subst (λ (s : State). IsSound s) (sym same) backed.sound;
+  timely = IsTimely-begun engine limit format (opens ∙ ap (λ (s : State). opening s.last limit format) (sym same));
   ready = backed.ready;
   told = λ tells.
       let loaded = backed.told tells in
-      (loaded.history, Holds-opening loaded.history state engine keeper clock limit format same loaded.stands loaded.forms opens);
+      (loaded.history, Holds-opening loaded.history state engine keeper state.last limit format same loaded.stands loaded.forms opens);
 }
 
 -- the keeper handed over what it did not keep, and that is said
@@ -81,6 +81,7 @@ module _ (engine engine' : Engine) (keeper keeper' : KeeperState) (output output
   pub at_work_carried : (command : Command) → Carrying command (Ok tt) → AtWork engine keeper → AtWork engine' keeper'
   at_work_carried command carries at_work = record {
     sound = carries.sound refl;
+    timely = carries.timely refl;
     ready = IsReady-after (well Fault) keeper keeper' refl carries.call;
     told = held_after command engine engine' keeper keeper' steps steps' carries at_work.told;
   }

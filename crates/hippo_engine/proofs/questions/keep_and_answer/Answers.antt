@@ -1,10 +1,15 @@
 -- The entry that is kept is that of the question.
-use Rattle.std.proofs.Common.{subst}
+use Rattle.std.proofs.Common.{subst, sym}
 use Rattle.hippo_model.specs.declared.entry.Entry.{Entry}
 use Rattle.hippo_world.specs.Holding.{world_of}
 use Rattle.hippo_judging.specs.Asking.{question_of}
+use Rattle.hippo_replay.specs.Standing.{MayFollow}
 use Rattle.hippo_engine.specs.Questions.{Asks}
 use Rattle.hippo_engine.proofs.questions.keep_and_answer.Goals as goal
+
+pub keep_entry-answer-requires-clause-follows : goal.keep_entry-answer-requires-clause-follows
+keep_entry-answer-requires-clause-follows g c =
+    subst (λ (entry : Entry). MayFollow c.args.state.now entry) (sym c.in-Ok.ensures) (c.requires.follows c.names_fit.ensures c.in_range.ensures)
 
 pub returns-in-Ok : goal.returns-in-Ok
 returns-in-Ok g c = record {

@@ -14,4 +14,4 @@ returns-in-Ok-open-clause-ends g c = λ some tells history stands keeps start co
 
 pub serve_all-ending-requires-clause-at_work : goal.serve_all-ending-requires-clause-at_work
 serve_all-ending-requires-clause-at_work g c =
-    AtWork-begun c.args.state c.in-Ok-open.engine (g.P.Keeper.state c.args.keeper.now) c.args.state.last c.args.setting.limit c.args.setting.format c.in-Ok-open.ensures.state c.in-Ok-open.ensures.world c.requires.backed
+    AtWork-begun c.args.state c.in-Ok-open.engine (g.P.Keeper.state c.args.keeper.now) c.args.setting.limit c.args.setting.format c.in-Ok-open.ensures.state c.in-Ok-open.ensures.world c.requires.backed

@@ -7,7 +7,7 @@ use Rattle.hippo_engine.proofs.engine.Engine.answer.Goals as goal
 
 pub carry_out-requires-clause-of_line : goal.carry_out-requires-clause-of_line
 carry_out-requires-clause-of_line g c =
-    IsOfLine-found (commanded (line_text c.args.line)) (command c.command_of-found.result) (IsOfLine-commanded (line_text c.args.line)) c.command_of-found.ensures
+    IsOfLine-found (commanded (line_text c.args.line)) (command c.command_of-found.result) (IsOfLine-commanded (line_text c.args.line) c.has_text.ensures) c.command_of-found.ensures
 
 pub returns-clause-carries : goal.returns-clause-carries
 returns-clause-carries g c =

@@ -12,21 +12,21 @@ pub returns-in-Ok-clause-carries : goal.returns-in-Ok-clause-carries
 returns-in-Ok-clause-carries g c = λ command steps changes.
     recorded command c.args.entry.now c.args.self.now
     (record { state = c.record.new.self; world = c.args.self.now.world; reply = c.say_number.new.reply })
-    (g.P.Keeper.state c.args.keeper.now) (g.P.Keeper.state c.record.new.keeper) steps changes
+    (g.P.Keeper.state c.args.keeper.now) (g.P.Keeper.state c.record.new.keeper) steps changes c.requires.at_work
     c.in-Ok.ensures.records (c.in-Ok.ensures.sound refl) refl c.say_number.ensures
 
 pub returns-in-Err-Failed-clause-carries : goal.returns-in-Err-Failed-clause-carries
 returns-in-Err-Failed-clause-carries g c = λ command steps changes.
     broken_change command c.args.entry.now c.args.self.now
     (record { state = c.record.new.self; world = c.args.self.now.world; reply = c.say_number.new.reply })
-    (g.P.Keeper.state c.args.keeper.now) (g.P.Keeper.state c.record.new.keeper) steps changes
+    (g.P.Keeper.state c.args.keeper.now) (g.P.Keeper.state c.record.new.keeper) steps changes c.requires.at_work
     (rw c.in-Err-Failed.field-0-is at c.in-Err-Failed.ensures.records)
 
 pub returns-in-Err-Memory-clause-carries : goal.returns-in-Err-Memory-clause-carries
 returns-in-Err-Memory-clause-carries g c = λ command steps changes.
     unrecorded command c.args.entry.now c.args.self.now
     (record { state = c.record.new.self; world = c.args.self.now.world; reply = c.refuse.new.reply })
-    (g.P.Keeper.state c.args.keeper.now) (g.P.Keeper.state c.record.new.keeper) steps changes
+    (g.P.Keeper.state c.args.keeper.now) (g.P.Keeper.state c.record.new.keeper) steps changes c.requires.at_work
     (rw c.in-Err-Memory.field-0-is at c.in-Err-Memory.ensures.records)
     (rw c.in-Err-Memory.field-0-is at c.in-Err-Memory.ensures.sound refl)
     refl (told_short c.refuse.new.reply c.refuse.ensures.said)

@@ -1,11 +1,10 @@
 -- The entry is kept, and the state takes it in.
-use Rattle.std.proofs.Common.{refl}
 use Rattle.hippo_replay.proofs.RecordingLemmas.{IsNext-sound, Records-added, Records-unkept}
 use Rattle.hippo_replay.proofs.state.State.keep_and_add.Goals as goal
 
 pub add_at_once-requires : goal.add_at_once-requires
 add_at_once-requires g c = record {
-  next = IsNext-sound c.args.entry.now c.args.self.now c.requires.sound (c.in-Ok.ensures.keeps.follows refl);
+  next = IsNext-sound c.args.entry.now c.args.self.now c.requires.sound c.requires.follows;
   room = c.requires.room;
 }
 

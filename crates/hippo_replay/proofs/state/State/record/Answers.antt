@@ -6,6 +6,7 @@ use Rattle.hippo_replay.proofs.state.State.record.Goals as goal
 pub add_and_keep-requires : goal.add_and_keep-requires
 add_and_keep-requires g c = record {
   sound = c.requires.sound;
+  follows = c.requires.follows;
   ready = c.requires.ready;
   told = c.requires.told;
   number = c.requires.number;
