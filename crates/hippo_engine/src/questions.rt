@@ -149,6 +149,7 @@ fn keep_entry<P: Keeper>(
 {
     match state.keep(alloc, keeper, entry) {
         Ok(()) => {
+            state.order_for(alloc, &asking.query);
             let answer = answered(alloc, state, world, asking);
             take_in(alloc, state, entry);
             Ok(answer)

@@ -10,4 +10,3 @@ pub mod Walking
 pub mod Existence
 pub mod Visiting
 pub mod Plans
-pub mod Seeking

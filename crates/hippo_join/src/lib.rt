@@ -1,7 +1,6 @@
 //! Planned joins, and whether some combination of rows counts.
 #![tactic(auto)]
 
-mod columns;
 mod existence;
 mod finding;
 mod following;
@@ -19,7 +18,6 @@ mod stages;
 mod ties;
 mod visiting;
 
-pub use columns::sought_columns;
 pub use gathering::gather_joined;
 pub use joins::{blank_row, run};
 pub use lookups::value_at;
