@@ -30,10 +30,10 @@ flat-fit said opened negated supported = few-fit said (omega (arith, opened)) (o
 abbrev pub is_calm : TokenKind → Bool
 is_calm kind = not (opens kind) && not (negates kind) && not (is_unsupported kind)
 
-passed : (test : TokenKind → Bool) (kind : TokenKind) → test kind ≡ false → (said : Kinds) → count_by test (kind ∷ said) ≡ count_by test said
+pub passed : (test : TokenKind → Bool) (kind : TokenKind) → test kind ≡ false → (said : Kinds) → count_by test (kind ∷ said) ≡ count_by test said
 passed test kind other said = sum_by-cons (λ (k : TokenKind). cond (test k) 1 0) kind said ∙ rw other (zero-add (count_by test said))
 
-fails : (test : Bool) → not test ≡ true → test ≡ false
+pub fails : (test : Bool) → not test ≡ true → test ≡ false
 fails true is = absurd cc
 fails false is = refl
 

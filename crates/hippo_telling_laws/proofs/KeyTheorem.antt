@@ -34,10 +34,10 @@ use Rattle.hippo_telling_laws.proofs.NamePlaces.{places_again, names_folded}
 use Rattle.hippo_telling_laws.proofs.ReadingTheorem.{console-reads}
 use Rattle.hippo_telling_laws.proofs.RowTheorem.{literal-calm}
 
-abbrev Assigned : Type 0
+abbrev pub Assigned : Type 0
 Assigned = Place × Value
 
-abbrev conjunction : Txt
+abbrev pub conjunction : Txt
 conjunction = codes " AND "
 
 -- columns with values
@@ -57,7 +57,7 @@ module _ (columns : List Column) where
   abbrev pub pairs_later : List Assigned → Kinds → Kinds
   pairs_later pairs said = later_said pair_text pair_said pair_meant pair_fits EndsLiteral conjunction (Keyword KAnd) pairs said
 
-  pair-says : (pair : Assigned) (rest : Txt) (said : Kinds) → pair_fits pair ≡ true → EndsLiteral rest → Says rest said → Says (pair_text pair ++ rest) (pair_said pair ++ said)
+  pub pair-says : (pair : Assigned) (rest : Txt) (said : Kinds) → pair_fits pair ≡ true → EndsLiteral rest → Says rest said → Says (pair_text pair ++ rest) (pair_said pair ++ said)
   pair-says (place, value) rest said fit ends more =
       let parts = and_parts (is_folded_name (name_at columns place)) (value_is_keepable value) fit in
       subst (λ (t : Txt). Says t (pair_said (place, value) ++ said)) (sym (append_assoc (name_at columns place) (codes " = " ++ literal_text value) rest))
@@ -71,13 +71,13 @@ module _ (columns : List Column) where
       (λ behind said more. says-blank (codes "AND " ++ behind) _ (says-word (codes "AND") behind KAnd said and-word more)) (λ behind. (refl, refl))
       pair pairs rest said fit ends more
 
-  pair-is : (pair : Assigned) (rest : Kinds) → IsAssignment (pair_said pair ++ rest) (pair_meant pair) rest
+  pub pair-is : (pair : Assigned) (rest : Kinds) → IsAssignment (pair_said pair ++ rest) (pair_meant pair) rest
   pair-is (place, value) rest = assignment (literal-is value rest)
 
   pub pairs-read : (pair : Assigned) (pairs : List Assigned) (rest : Kinds) → AreKeys (pair_said pair ++ pairs_later pairs rest) (map pair_meant (pair ∷ pairs)) rest
   pairs-read pair pairs rest = list-read pair_text pair_said pair_meant pair_fits EndsLiteral conjunction (Keyword KAnd) IsAssignment pair-is pair pairs rest
 
-  pair-calm : (pair : Assigned) (said : Kinds) → list_all is_calm said ≡ true → list_all is_calm (pair_said pair ++ said) ≡ true
+  pub pair-calm : (pair : Assigned) (said : Kinds) → list_all is_calm said ≡ true → list_all is_calm (pair_said pair ++ said) ≡ true
   pair-calm (place, value) said calm = calm-append (literal_said value) said (literal-calm value) calm
 
   pub pairs-calm : (pairs : List Assigned) → list_all is_calm (pairs_later pairs []) ≡ true
@@ -113,7 +113,7 @@ passed-over place value pairs (other ∷ others) none =
     let differs : nat_eq other place ≡ false = grind (arith, nat_tests) in
     rw differs (ap (λ (rest : List Value). cons_option (lookup (nat_eq other) pairs) rest) (passed-over place value pairs others parts.1))
 
-same_place : (place : Place) → nat_eq place place ≡ true
+pub same_place : (place : Place) → nat_eq place place ≡ true
 same_place place = grind (arith, nat_tests)
 
 looked-up : (places : List Place) (key : Key) → all_differ nat_eq places ≡ true → length places ≡ length key → filter_map (λ (place : Place). lookup (nat_eq place) (zip places key)) places ≡ key
@@ -125,7 +125,7 @@ looked-up (place ∷ places) (value ∷ key) differ size =
     rw (same_place place)
     (ap (λ (rest : Key). value ∷ rest) (passed-over place value (zip places key) places (not-true _ parts.0) ∙ looked-up places key parts.1 (omega (arith, size))))
 
-key-again : (schema : Schema) (key : Key) → places_of schema (map (name_at schema.columns) schema.key) ≡ schema.key → all_differ nat_eq schema.key ≡ true → length schema.key ≡ length key → key_written schema (map (name_at schema.columns) schema.key) key ≡ key
+pub key-again : (schema : Schema) (key : Key) → places_of schema (map (name_at schema.columns) schema.key) ≡ schema.key → all_differ nat_eq schema.key ≡ true → length schema.key ≡ length key → key_written schema (map (name_at schema.columns) schema.key) key ≡ key
 key-again schema key again differ size =
     ap (λ (places : List Place). filter_map (λ (place : Place). lookup (nat_eq place) (zip places key)) schema.key) again ∙ looked-up schema.key key differ size
 

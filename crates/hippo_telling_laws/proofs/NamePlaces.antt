@@ -49,7 +49,7 @@ places_again schema (place ∷ places) differ within =
     ∙ ap (λ (rest : List Place). place ∷ rest) (places_again schema places differ parts.1)
 
 -- the names of columns are names in lower case
-name_folded : (columns : List Column) (place : Place) → list_all (λ (column : Column). is_folded_name column.name) columns ≡ true → place < length columns → is_folded_name (name_at columns place) ≡ true
+pub name_folded : (columns : List Column) (place : Place) → list_all (λ (column : Column). is_folded_name column.name) columns ≡ true → place < length columns → is_folded_name (name_at columns place) ≡ true
 name_folded [] place all small = absurd (omega (arith, small))
 name_folded (column ∷ columns) zero all small = (and_parts (is_folded_name column.name) (list_all (λ (column : Column). is_folded_name column.name) columns) all).0
 name_folded (column ∷ columns) (suc place) all small =
