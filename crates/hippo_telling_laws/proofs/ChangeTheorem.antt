@@ -50,7 +50,7 @@ module _ (columns : List Column) (row : Row) where
   abbrev cell_fits : Place → Bool
   cell_fits place = pair_fits columns (place, cell_at row place)
 
-  cells-fit : (places : List Place) → list_all (λ (place : Place). is_folded_name (name_at columns place)) places ≡ true
+  pub cells-fit : (places : List Place) → list_all (λ (place : Place). is_folded_name (name_at columns place)) places ≡ true
       → ((place : Place) → value_is_keepable (cell_at row place) ≡ true) → list_all cell_fits places ≡ true
   cells-fit [] named kept = refl
   cells-fit (place ∷ places) named kept =
@@ -86,7 +86,7 @@ module _ (columns : List Column) (row : Row) where
     cells-calm calm (place ∷ places) said rest =
         and_from _ _ calm (pair-calm columns (place, cell_at row place) (cells_later places said) (cells-calm calm places said rest))
 
-update-reads : (columns : List Column) (table : Name) (row : Row) (places key : List Place) → is_folded_name table ≡ true → 0 < length places → 0 < length key →
+pub update-reads : (columns : List Column) (table : Name) (row : Row) (places key : List Place) → is_folded_name table ≡ true → 0 < length places → 0 < length key →
     list_all (cell_fits columns row) places ≡ true → list_all (cell_fits columns row) key ≡ true →
     ReadsAs (codes "UPDATE " ++ (table ++ (codes " SET " ++ (row_text columns row comma places ++ (codes " WHERE " ++ row_text columns row (codes " AND ") key)))))
     (stmt.Update table (map (name_at columns) places) (map (cell_at row) places) (map (name_at columns) key) (map (cell_at row) key))
@@ -133,7 +133,7 @@ all_filtered test kept (place ∷ places) all =
       | inr is ↦ rw is (all_filtered test kept places parts.1)
     ]
 
-sets_within : (columns : List Column) (key : List Place) → all_within columns (set_places columns key) ≡ true
+pub sets_within : (columns : List Column) (key : List Place) → all_within columns (set_places columns key) ≡ true
 sets_within columns key =
     all_filtered (λ (place : Place). nat_lt place (length columns)) (is_set key) (range_with_len 0 (length columns))
     (all_below 0 (length columns) (length columns) (omega arith))
@@ -156,7 +156,7 @@ denied : (test : Bool) → not test ≡ false → test ≡ true
 denied true is = refl
 denied false is = absurd cc
 
-unset : (columns : List Column) (key : List Place) (place : Place) → place < length columns → list_any (nat_eq place) (set_places columns key) ≡ false → list_any (nat_eq place) key ≡ true
+pub unset : (columns : List Column) (key : List Place) (place : Place) → place < length columns → list_any (nat_eq place) (set_places columns key) ≡ false → list_any (nat_eq place) key ≡ true
 unset columns key place small none =
     let there : list_any (nat_eq place) (range_with_len 0 (length columns)) ≡ true =
     list_any-range_true (nat_eq place) 0 (length columns) place small (rw zero-add (same_place place)) in
@@ -167,7 +167,7 @@ abbrev behind_first : Row → Row
 behind_first [] = []
 behind_first (value ∷ row) = row
 
-same_cells_at : (key : List Place) (old row : Row) (place : Place) → key_of key old ≡ key_of key row → list_any (nat_eq place) key ≡ true → cell_at old place ≡ cell_at row place
+pub same_cells_at : (key : List Place) (old row : Row) (place : Place) → key_of key old ≡ key_of key row → list_any (nat_eq place) key ≡ true → cell_at old place ≡ cell_at row place
 same_cells_at [] old row place same there = absurd cc
 same_cells_at (first ∷ key) old row place same there = elim (cases_Bool (nat_eq place first)) [
   | inl is ↦ subst (λ (p : Place). cell_at old p ≡ cell_at row p) (sym (eqb-true place first is)) (ap (λ (cells : Row). cell_at cells 0) same)
@@ -175,7 +175,7 @@ same_cells_at (first ∷ key) old row place same there = elim (cases_Bool (nat_e
 ]
 
 -- a row is again what it was made of by setting values
-written-again : (places : List Place) (row old : Row) → length old ≡ length row → ((place : Place) → place < length row → list_any (nat_eq place) places ≡ false → cell_at old place ≡ cell_at row place) → written places (map (cell_at row) places) old ≡ row
+pub written-again : (places : List Place) (row old : Row) → length old ≡ length row → ((place : Place) → place < length row → list_any (nat_eq place) places ≡ false → cell_at old place ≡ cell_at row place) → written places (map (cell_at row) places) old ≡ row
 written-again [] row old size same =
     ext_get_or Null old row size (λ place small. same place (omega (arith, size, small)) refl)
 written-again (place ∷ places) row old size same =
@@ -188,12 +188,12 @@ written-again (place ∷ places) row old size same =
         get_or-set_other old place other (cell_at row place) Null (eqb-false other place is) ∙ same other small (rw is none)
     ])
 
-cell_kept : (row : Row) (place : Place) → list_all value_is_keepable row ≡ true → value_is_keepable (cell_at row place) ≡ true
+pub cell_kept : (row : Row) (place : Place) → list_all value_is_keepable row ≡ true → value_is_keepable (cell_at row place) ≡ true
 cell_kept [] place all = refl
 cell_kept (value ∷ row) zero all = (and_parts (value_is_keepable value) (list_all value_is_keepable row) all).0
 cell_kept (value ∷ row) (suc place) all = cell_kept row place (and_parts (value_is_keepable value) (list_all value_is_keepable row) all).1
 
-pub updates_read_back : UpdatesReadBack
+abbrev pub updates_read_back : UpdatesReadBack
 updates_read_back history schema table row old rule differ some is kept there =
     let columns : List Column = schema.columns in
     let sets : List Place = set_places columns schema.key in

@@ -129,7 +129,7 @@ pub key-again : (schema : Schema) (key : Key) → places_of schema (map (name_at
 key-again schema key again differ size =
     ap (λ (places : List Place). filter_map (λ (place : Place). lookup (nat_eq place) (zip places key)) schema.key) again ∙ looked-up schema.key key differ size
 
-delete-reads : (columns : List Column) (places : List Place) (table : Name) (key : Key) → is_folded_name table ≡ true → 0 < length places → length places ≡ length key →
+pub delete-reads : (columns : List Column) (places : List Place) (table : Name) (key : Key) → is_folded_name table ≡ true → 0 < length places → length places ≡ length key →
     list_all (pair_fits columns) (zip places key) ≡ true → ReadsAs (delete_text columns places table key) (stmt.Delete table (map (name_at columns) places) key)
 delete-reads columns [] table key is some size fit = absurd (omega (arith, some))
 delete-reads columns (place ∷ places) table [] is some size fit = absurd (omega (arith, size))
@@ -150,7 +150,7 @@ delete-reads columns (place ∷ places) table (value ∷ key) is some size fit =
     console-reads _ (front ++ tail) _ says (front-fit front tail 0 refl (omega arith) refl refl calm)
     (delete (pairs-read columns pair pairs []) (ap (λ (n : List Name). stmt.Delete table n (value ∷ key)) (sym names) ∙ ap (λ (v : Key). stmt.Delete table (columns_of (map (pair_meant columns) (pair ∷ pairs))) v) (sym kept)))
 
-pub deletes_read_back : DeletesReadBack
+abbrev pub deletes_read_back : DeletesReadBack
 deletes_read_back history schema table key row rule differ is size kept live =
     let named = names_folded schema.columns schema.key rule.columns_named rule.within in
     let again = places_again schema schema.key rule.differ rule.within in

@@ -10,4 +10,5 @@ pub mod ChangeTheorem
 pub mod WeightLemmas
 pub mod TableTheorem
 pub mod ReadingTheorem
+pub mod UnrefusedLemmas
 pub mod EntryTheorem

@@ -1,7 +1,7 @@
 -- What is told of acts that name no table reads back.
 use Rattle.std.proofs.Common.{◌≡◌, ℤ, true, false, ◌&&◌, [], ◌∷◌, ◌++◌, Ok, refl, sym, subst, codes}
 use Rattle.std.specs.Fmt.{signed_decimal}
-use Rattle.std.proofs.lemmas.Bool.{and_parts}
+use Rattle.std.proofs.lemmas.Bool.{and_parts, false≢true}
 use Rattle.hippo_values.specs.Moments.{is_signed_number}
 use Rattle.hippo_values.specs.Texts.{Txt}
 use Rattle.hippo_values.specs.declared.names.Name.{Name}
@@ -39,7 +39,7 @@ console-reads text said s says fit is =
       found = complete cut.0 s (console (subst (λ (k : Kinds). IsConsole k s []) (sym cut.2) is) nothing);
     }
 
-purpose-reads : (purpose : Name) → is_folded_name purpose ≡ true → ReadsAs (codes "CREATE PURPOSE " ++ purpose) (stmt.CreatePurpose purpose)
+pub purpose-reads : (purpose : Name) → is_folded_name purpose ≡ true → ReadsAs (codes "CREATE PURPOSE " ++ purpose) (stmt.CreatePurpose purpose)
 purpose-reads purpose is =
     let said : Kinds = Keyword KCreate ∷ Keyword KPurpose ∷ Word purpose ∷ [] in
     let says : Says (codes "CREATE PURPOSE " ++ purpose) said =
@@ -47,7 +47,7 @@ purpose-reads purpose is =
     (says-word (codes "PURPOSE") purpose KPurpose _ purpose-word (says-last_name purpose is)) in
     console-reads _ said _ says (flat-fit said refl refl refl) create_purpose
 
-recipient-reads : (recipient : Name) → is_folded_name recipient ≡ true → ReadsAs (codes "CREATE RECIPIENT " ++ recipient) (stmt.CreateRecipient recipient)
+pub recipient-reads : (recipient : Name) → is_folded_name recipient ≡ true → ReadsAs (codes "CREATE RECIPIENT " ++ recipient) (stmt.CreateRecipient recipient)
 recipient-reads recipient is =
     let said : Kinds = Keyword KCreate ∷ Keyword KRecipient ∷ Word recipient ∷ [] in
     let says : Says (codes "CREATE RECIPIENT " ++ recipient) said =
@@ -55,7 +55,7 @@ recipient-reads recipient is =
     (says-word (codes "RECIPIENT") recipient KRecipient _ recipient-word (says-last_name recipient is)) in
     console-reads _ said _ says (flat-fit said refl refl refl) create_recipient
 
-opt_in-reads : (item : Name) → is_folded_name item ≡ true → ReadsAs (item_text item OptIn) (stmt.CreateItem item OptIn)
+pub opt_in-reads : (item : Name) → is_folded_name item ≡ true → ReadsAs (item_text item OptIn) (stmt.CreateItem item OptIn)
 opt_in-reads item is =
     let said : Kinds = Keyword KCreate ∷ Keyword KItem ∷ Word item ∷ Keyword KOpt ∷ Keyword KIn ∷ [] in
     let says : Says (item_text item OptIn) said =
@@ -64,7 +64,7 @@ opt_in-reads item is =
     (says-name_first item (codes "OPT IN") _ is (says-word (codes "OPT") (codes "IN") KOpt _ opt-word (says-last_word (codes "IN") KIn in-word)))) in
     console-reads _ said _ says (flat-fit said refl refl refl) create_opt_in
 
-opt_out-reads : (item : Name) → is_folded_name item ≡ true → ReadsAs (item_text item OptOut) (stmt.CreateItem item OptOut)
+pub opt_out-reads : (item : Name) → is_folded_name item ≡ true → ReadsAs (item_text item OptOut) (stmt.CreateItem item OptOut)
 opt_out-reads item is =
     let said : Kinds = Keyword KCreate ∷ Keyword KItem ∷ Word item ∷ Keyword KOpt ∷ Keyword KOut ∷ [] in
     let says : Says (item_text item OptOut) said =
@@ -89,7 +89,7 @@ grant-says user purpose recipient are =
     (says-name purpose (codes ", " ++ recipient) _ named.1 refl
     (says-comma (32 ∷ recipient) _ (says-blank recipient _ (says-last_name recipient named.2)))))
 
-authorize-reads : (user purpose recipient : Name) → (is_folded_name user && is_folded_name purpose && is_folded_name recipient) ≡ true →
+pub authorize-reads : (user purpose recipient : Name) → (is_folded_name user && is_folded_name purpose && is_folded_name recipient) ≡ true →
     ReadsAs (codes "AUTHORIZE " ++ grant_text user purpose recipient) (stmt.Authorize user purpose recipient)
 authorize-reads user purpose recipient are =
     let said : Kinds = Keyword KAuthorize ∷ Word user ∷ Keyword KFor ∷ Word purpose ∷ Symbol Comma ∷ Word recipient ∷ [] in
@@ -97,7 +97,7 @@ authorize-reads user purpose recipient are =
     says-word (codes "AUTHORIZE") (grant_text user purpose recipient) KAuthorize _ authorize-word (grant-says user purpose recipient are) in
     console-reads _ said _ says (flat-fit said refl refl refl) authorize
 
-deauthorize-reads : (user purpose recipient : Name) → (is_folded_name user && is_folded_name purpose && is_folded_name recipient) ≡ true →
+pub deauthorize-reads : (user purpose recipient : Name) → (is_folded_name user && is_folded_name purpose && is_folded_name recipient) ≡ true →
     ReadsAs (codes "DEAUTHORIZE " ++ grant_text user purpose recipient) (stmt.Deauthorize user purpose recipient)
 deauthorize-reads user purpose recipient are =
     let said : Kinds = Keyword KDeauthorize ∷ Word user ∷ Keyword KFor ∷ Word purpose ∷ Symbol Comma ∷ Word recipient ∷ [] in
@@ -105,7 +105,7 @@ deauthorize-reads user purpose recipient are =
     says-word (codes "DEAUTHORIZE") (grant_text user purpose recipient) KDeauthorize _ deauthorize-word (grant-says user purpose recipient are) in
     console-reads _ said _ says (flat-fit said refl refl refl) deauthorize
 
-yes-reads : (subject : ℤ) (item : Name) → is_signed_number subject ≡ true → is_folded_name item ≡ true → ReadsAs (choice_text subject item true) (stmt.Choice subject item true)
+pub yes-reads : (subject : ℤ) (item : Name) → is_signed_number subject ≡ true → is_folded_name item ≡ true → ReadsAs (choice_text subject item true) (stmt.Choice subject item true)
 yes-reads subject item fits is =
     let said : Kinds = Keyword KChoice ∷ Number subject ∷ Keyword KOn ∷ Word item ∷ Keyword KIs ∷ Keyword KYes ∷ [] in
     let says : Says (choice_text subject item true) said =
@@ -115,7 +115,7 @@ yes-reads subject item fits is =
     (says-name_first item (codes "IS YES") _ is (says-word (codes "IS") (codes "YES") KIs _ is-word (says-last_word (codes "YES") KYes yes-word))))) in
     console-reads _ said _ says (flat-fit said refl refl refl) choice_yes
 
-no-reads : (subject : ℤ) (item : Name) → is_signed_number subject ≡ true → is_folded_name item ≡ true → ReadsAs (choice_text subject item false) (stmt.Choice subject item false)
+pub no-reads : (subject : ℤ) (item : Name) → is_signed_number subject ≡ true → is_folded_name item ≡ true → ReadsAs (choice_text subject item false) (stmt.Choice subject item false)
 no-reads subject item fits is =
     let said : Kinds = Keyword KChoice ∷ Number subject ∷ Keyword KOn ∷ Word item ∷ Keyword KIs ∷ Keyword KNo ∷ [] in
     let says : Says (choice_text subject item false) said =
@@ -125,7 +125,7 @@ no-reads subject item fits is =
     (says-name_first item (codes "IS NO") _ is (says-word (codes "IS") (codes "NO") KIs _ is-word (says-last_word (codes "NO") KNo no-word))))) in
     console-reads _ said _ says (flat-fit said refl refl refl) choice_no
 
-pub names_read_back : NamesReadBack
+abbrev pub names_read_back : NamesReadBack
 names_read_back history schema (Purpose purpose) is kept = record { statement = stmt.CreatePurpose purpose; reads = purpose-reads purpose kept; wanted = Ready (acts.Purpose purpose); wants = refl; comes = refl }
 names_read_back history schema (Recipient recipient) is kept = record { statement = stmt.CreateRecipient recipient; reads = recipient-reads recipient kept; wanted = Ready (acts.Recipient recipient); wants = refl; comes = refl }
 names_read_back history schema (Item item OptIn) is kept = record { statement = stmt.CreateItem item OptIn; reads = opt_in-reads item kept; wanted = Ready (acts.Item item OptIn); wants = refl; comes = refl }
@@ -138,4 +138,4 @@ names_read_back history schema (Choice subject item true) is kept =
 names_read_back history schema (Choice subject item false) is kept =
     let parts = and_parts (is_signed_number subject) (is_folded_name item) kept in
     record { statement = stmt.Choice subject item false; reads = no-reads subject item parts.0 parts.1; wanted = Ready (acts.Choice subject item false); wants = refl; comes = refl }
-names_read_back history schema act is kept = absurd cc
+names_read_back history schema act is kept = absurd (false≢true is)

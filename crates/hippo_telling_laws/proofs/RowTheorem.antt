@@ -71,7 +71,7 @@ insert-reads table (value ∷ row) is some kept =
     (list-read literal_text literal_said same value_is_keepable EndsLiteral comma (Symbol Comma) IsLiteral literal-is value row (Symbol RightParen ∷ [])) in
     console-reads _ (front ++ tail) _ says (front-fit front tail 1 refl (omega arith) refl refl calm) (insert read)
 
-pub inserts_read_back : InsertsReadBack
+abbrev pub inserts_read_back : InsertsReadBack
 inserts_read_back history schema table row known free is some kept = record {
   statement = stmt.Insert table row;
   reads = insert-reads table row is some kept;

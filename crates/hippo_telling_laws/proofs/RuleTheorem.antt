@@ -1,5 +1,5 @@
 -- What is told of rules reads back.
-use Rattle.std.proofs.Common.{◌≡◌, ◌∙◌, ℕ, pos, Bool, true, ◌&&◌, List, [], ◌∷◌, ◌++◌, map, Option, Some, None, refl, sym, ap, subst, arith, codes, decimal}
+use Rattle.std.proofs.Common.{◌≡◌, ◌∙◌, ℕ, ◌<◌, pos, Bool, true, ◌&&◌, List, [], ◌∷◌, ◌++◌, length, map, Option, Some, None, refl, sym, ap, subst, arith, codes, decimal}
 use Rattle.std.specs.Prelude.{nat_le}
 use Rattle.std.specs.List.{list_all}
 use Rattle.std.proofs.lemmas.Bool.{and_parts, leb-true}
@@ -89,10 +89,11 @@ module _ (columns : List Column) where
       (says-name_first table (codes "(" ++ inside) _ named.2
       (says-opening inside tail (names-say place places (codes ")" ++ rest) (Symbol RightParen ∷ said) fit refl (says-closing rest said more))))))))
 
-revoke-reads : (columns : List Column) (purpose recipient table : Name) (place : Place) (places : List Place) → (is_folded_name purpose && is_folded_name recipient && is_folded_name table) ≡ true →
-    list_all (is_named columns) (place ∷ places) ≡ true →
-    ReadsAs (codes "REVOKE " ++ rule_text columns purpose recipient table (place ∷ places)) (stmt.Revoke purpose recipient table (map (name_at columns) (place ∷ places)))
-revoke-reads columns purpose recipient table place places are fit =
+pub revoke-reads : (columns : List Column) (purpose recipient table : Name) (places : List Place) → 0 < length places
+    → (is_folded_name purpose && is_folded_name recipient && is_folded_name table) ≡ true → list_all (is_named columns) places ≡ true
+    → ReadsAs (codes "REVOKE " ++ rule_text columns purpose recipient table places) (stmt.Revoke purpose recipient table (map (name_at columns) places))
+revoke-reads columns purpose recipient table [] some are fit = absurd (omega (arith, some))
+revoke-reads columns purpose recipient table (place ∷ places) some are fit =
     let rule : Txt = rule_text columns purpose recipient table (place ∷ places) in
     let front : Kinds = Keyword KRevoke ∷ rule_front columns purpose recipient table in
     let tail : Kinds = name_said columns place ++ names_later columns places (Symbol RightParen ∷ []) in
@@ -151,10 +152,11 @@ behind-calm None (Some days) = refl
 behind-calm (Some item) None = refl
 behind-calm (Some item) (Some days) = refl
 
-allow-reads : (columns : List Column) (purpose recipient table : Name) (place : Place) (places : List Place) (item : Option Name) (days : Option ℕ) →
-    (is_folded_name purpose && is_folded_name recipient && is_folded_name table) ≡ true → list_all (is_named columns) (place ∷ places) ≡ true → item_is_keepable item ≡ true → days_fit days ≡ true →
-    ReadsAs (allow_text columns purpose recipient table (place ∷ places) item days) (stmt.Allow purpose recipient table (map (name_at columns) (place ∷ places)) item days)
-allow-reads columns purpose recipient table place places item days are fit item_fits days_fits =
+pub allow-reads : (columns : List Column) (purpose recipient table : Name) (places : List Place) (item : Option Name) (days : Option ℕ) → 0 < length places
+    → (is_folded_name purpose && is_folded_name recipient && is_folded_name table) ≡ true → list_all (is_named columns) places ≡ true → item_is_keepable item ≡ true → days_fit days ≡ true
+    → ReadsAs (allow_text columns purpose recipient table places item days) (stmt.Allow purpose recipient table (map (name_at columns) places) item days)
+allow-reads columns purpose recipient table [] item days some are fit item_fits days_fits = absurd (omega (arith, some))
+allow-reads columns purpose recipient table (place ∷ places) item days some are fit item_fits days_fits =
     let rule : Txt = rule_text columns purpose recipient table (place ∷ places) in
     let behind : Txt = with_text item ++ retention_text days in
     let behind_said : Kinds = with_said item (retention_said days) in
@@ -168,28 +170,26 @@ allow-reads columns purpose recipient table place places item days are fit item_
     console-reads _ (front ++ tail) _ says (front-fit front tail 1 refl (omega arith) refl refl calm)
     (allow (names-read columns place places (Symbol RightParen ∷ behind_said)) (with-read item (retention_said days) (λ none. no_item)) (retention-read days days_fits))
 
-pub revokes_read_back : RevokesReadBack
-revokes_read_back history schema purpose recipient table [] rule names = absurd (let some = rule.some in omega (arith, some))
-revokes_read_back history schema purpose recipient table (place ∷ places) rule names =
-    let fit = names_folded schema.columns (place ∷ places) rule.columns_named rule.within in
-    let again = places_again schema (place ∷ places) rule.differ rule.within in
+abbrev pub revokes_read_back : RevokesReadBack
+revokes_read_back history schema purpose recipient table places rule names =
+    let fit = names_folded schema.columns places rule.columns_named rule.within in
+    let again = places_again schema places rule.differ rule.within in
     record {
-      statement = stmt.Revoke purpose recipient table (map (name_at schema.columns) (place ∷ places));
-      reads = revoke-reads schema.columns purpose recipient table place places names fit;
-      wanted = Ready (acts.Revoke purpose recipient table (place ∷ places));
+      statement = stmt.Revoke purpose recipient table (map (name_at schema.columns) places);
+      reads = revoke-reads schema.columns purpose recipient table places rule.some names fit;
+      wanted = Ready (acts.Revoke purpose recipient table places);
       wants = rw rule.known (ap (λ (found : List Place). Some (Ready (acts.Revoke purpose recipient table found))) again);
       comes = refl;
     }
 
-pub allows_read_back : AllowsReadBack
-allows_read_back history schema purpose recipient table [] item days rule names item_fits days_fits = absurd (let some = rule.some in omega (arith, some))
-allows_read_back history schema purpose recipient table (place ∷ places) item days rule names item_fits days_fits =
-    let fit = names_folded schema.columns (place ∷ places) rule.columns_named rule.within in
-    let again = places_again schema (place ∷ places) rule.differ rule.within in
+abbrev pub allows_read_back : AllowsReadBack
+allows_read_back history schema purpose recipient table places item days rule names item_fits days_fits =
+    let fit = names_folded schema.columns places rule.columns_named rule.within in
+    let again = places_again schema places rule.differ rule.within in
     record {
-      statement = stmt.Allow purpose recipient table (map (name_at schema.columns) (place ∷ places)) item days;
-      reads = allow-reads schema.columns purpose recipient table place places item days names fit item_fits days_fits;
-      wanted = Ready (acts.Allow purpose recipient table (place ∷ places) item days);
+      statement = stmt.Allow purpose recipient table (map (name_at schema.columns) places) item days;
+      reads = allow-reads schema.columns purpose recipient table places item days rule.some names fit item_fits days_fits;
+      wanted = Ready (acts.Allow purpose recipient table places item days);
       wants = rw rule.known (ap (λ (found : List Place). Some (Ready (acts.Allow purpose recipient table found item days))) again);
       comes = refl;
     }

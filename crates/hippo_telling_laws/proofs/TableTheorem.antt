@@ -235,7 +235,7 @@ pub record HasNames (name : Name) (columns : List Column) (key : List Place) (pl
   pub few : length columns ≤ 64
   pub some_key : 0 < length key
 
-table-reads : (name : Name) (columns : List Column) (key : List Place) (place : Option Place) → HasNames name columns key place →
+pub table-reads : (name : Name) (columns : List Column) (key : List Place) (place : Option Place) → HasNames name columns key place →
     ReadsAs (create_text (record { name = name; columns = columns; key = key; subject = place })) (stmt.CreateTable name columns (map (name_at columns) key) (option_map (name_at columns) place))
 table-reads name [] key place has = absurd (let some = has.some in omega (arith, some))
 table-reads name (column ∷ others) [] place has = absurd (let some = has.some_key in omega (arith, some))
@@ -272,7 +272,7 @@ table-reads name (column ∷ others) (first ∷ key) place has =
     (create_table (columns-read column others primary) (names-read columns first key end_said) (subject-is columns place))
 
 -- columns at places
-there : (test : Column → Bool) (columns : List Column) (place : Place) → option_map_or test (slice_get columns place) false ≡ true → place < length columns
+pub there : (test : Column → Bool) (columns : List Column) (place : Place) → option_map_or test (slice_get columns place) false ≡ true → place < length columns
 there test [] place passes = absurd cc
 there test (column ∷ columns) zero passes = omega arith
 there test (column ∷ columns) (suc place) passes = let more = there test columns place passes in omega (arith, more)
@@ -328,10 +328,10 @@ pub record IsTable (schema : Schema) : Type 0 where
   pub subject_fits : option_map_or (column_passes subject_column_fits schema) schema.subject true ≡ true
 
 module _ (schema : Schema) (is : IsTable schema) where
-  abbrev key_names : List Name
+  abbrev pub key_names : List Name
   key_names = map (name_at schema.columns) schema.key
 
-  abbrev subject_name : Option Name
+  abbrev pub subject_name : Option Name
   subject_name = option_map (name_at schema.columns) schema.subject
 
   subject-apart : (place : Option Place) (other : Place) (column : Column) → option_map_or (column_passes subject_column_fits schema) place true ≡ true → slice_get schema.columns other ≡ Some column →
@@ -348,7 +348,7 @@ module _ (schema : Schema) (is : IsTable schema) where
       (λ fails. subject-apart schema.subject place column is.subject_fits at fails) in
       λ i. record column { not_null = required i })
 
-  abbrev draft : Schema
+  abbrev pub draft : Schema
   draft = draft_of schema.name schema.columns
 
   key-stays : places_of draft key_names ≡ schema.key
@@ -361,7 +361,7 @@ module _ (schema : Schema) (is : IsTable schema) where
   subject-stays : option_and_then (place_of draft) subject_name ≡ schema.subject
   subject-stays = subject-again schema.subject is.subject_fits
 
-  made : table_made schema.name schema.columns key_names subject_name ≡ schema
+  pub made : table_made schema.name schema.columns key_names subject_name ≡ schema
   made = λ i. record { name = schema.name; columns = columns-stay i; key = key-stays i; subject = subject-stays i }
 
   has-subject : (place : Option Place) → list_all column_named schema.columns ≡ true → option_map_or (column_passes subject_column_fits schema) place true ≡ true → subject_named schema.columns place ≡ true
@@ -397,7 +397,7 @@ is_table schema formed =
     let first = and_parts (all_differ bytes_eq (column_names schema.columns)) (all_differ nat_eq schema.key) inner.0 in
     record { differ = first.0; key_differ = first.1; key_fits = inner.1; subject_fits = outer.1 }
 
-pub creates_read_back : CreatesReadBack
+abbrev pub creates_read_back : CreatesReadBack
 creates_read_back history known schema kept formed =
     let is : IsTable schema = is_table schema formed in
     record {

@@ -1,5 +1,5 @@
 -- What is told of an act reads back.
-use Rattle.std.specs.Prelude.{◌≡◌, ℕ, ◌<◌, Bool, true, false, ◌&&◌, List, ◌∷◌, ◌++◌, map, length, nat_eq, nat_lt, bytes_eq, Option, Some, None, Ok}
+use Rattle.std.specs.Prelude.{◌≡◌, ℕ, ◌<◌, Bool, true, false, ◌&&◌, List, [], ◌∷◌, ◌++◌, map, length, nat_eq, nat_lt, bytes_eq, Option, Some, None, Ok}
 use Rattle.std.specs.List.{list_all}
 use Rattle.hippo_values.specs.Texts.{Txt}
 use Rattle.hippo_values.specs.declared.names.Name.{Name}
@@ -19,6 +19,7 @@ use Rattle.hippo_model.specs.Terms.{History, Key, Meaning, Place, Row}
 use Rattle.hippo_model.specs.Validity.{all_differ, days_fit, is_valid, is_well_formed}
 use Rattle.hippo_stmt_reader.specs.StatementFinder.{statement_of}
 use Rattle.hippo_catalog.specs.Catalogs.{known_at, table_of}
+use Rattle.hippo_catalog.specs.ChangesRefused.{change_refused}
 use Rattle.hippo_catalog.specs.ChangesWanted.{wanted_by}
 use Rattle.hippo_tables.specs.Finished.{finished, live_row, live_number}
 use Rattle.hippo_telling.specs.Telling.{told_act, set_places, columns_of, key_places, schema_before}
@@ -124,9 +125,14 @@ is_stated schema (Asked user purpose recipient text) = false
 is_stated schema (Update table row) = nat_lt 0 (length (set_places (columns_of schema) (key_places schema)))
 is_stated schema act = true
 
--- each entry of a valid history that is told as a statement reads back after the entries before it
-abbrev pub EntriesReadBack : Type 0
-EntriesReadBack =
+-- what is told reads back, and nothing is refused of the statement: after the history it makes just this act
+pub record MakesAgain (history : History) (schema : Option Schema) (act : Act) : Type 0 where
+  pub back : ReadsBack history schema act
+  pub unrefused : change_refused (known_at history) back.statement ≡ []
+
+-- each entry of a valid history that is told as a statement is made again by it, after the entries before it
+abbrev pub EntriesAreMadeAgain : Type 0
+EntriesAreMadeAgain =
     (meaning : Meaning) (before later : History) (entry : Entry) → is_valid meaning (before ++ entry ∷ later) ≡ true
     → is_stated (schema_before (before ++ entry ∷ later) entry) entry.act ≡ true
-    → ReadsBack before (schema_before (before ++ entry ∷ later) entry) entry.act
+    → MakesAgain before (schema_before (before ++ entry ∷ later) entry) entry.act

@@ -1,5 +1,5 @@
 //! Laws on how what is told reads.
-ghost use Rattle.hippo_telling_laws.specs.TellingLaws.{NamesReadBack, CreatesReadBack, InsertsReadBack, UpdatesReadBack, DeletesReadBack, RevokesReadBack, AllowsReadBack, EntriesReadBack};
+ghost use Rattle.hippo_telling_laws.specs.TellingLaws.{NamesReadBack, CreatesReadBack, InsertsReadBack, UpdatesReadBack, DeletesReadBack, RevokesReadBack, AllowsReadBack, EntriesAreMadeAgain};
 
 /// What is told of a purpose, a recipient or an item that is created, of a user who is authorized or no longer is, and
 /// of a patient's choice is a statement by the grammar, and after any history the statement asks for just this act.
@@ -45,7 +45,8 @@ pub fn allows_read_back()
 {}
 
 /// Each entry of a valid history, but for questions and for an UPDATE of a table that has columns of its key alone, is told
-/// as a statement by the grammar, and after the entries before it the statement asks for just this entry's act.
-pub fn entries_read_back()
-    ensures { EntriesReadBack }
+/// as a statement by the grammar, and after the entries before it nothing is refused of the statement, and it makes just
+/// this entry's act.
+pub fn entries_are_made_again()
+    ensures { EntriesAreMadeAgain }
 {}
