@@ -1,0 +1,4 @@
+pub mod LineLemmas
+pub mod JudgingLemmas
+pub mod LinesTheorem
+pub mod ScriptTheorem
