@@ -24,7 +24,8 @@ use Rattle.hippo_judging.specs.Deeds.{Deed}
 use Rattle.hippo_judging.specs.Judging.{judged_change, judged_clock, judged_statement, judged_wanted}
 
 -- a statement that asks for something is judged as a change
-changes-judged : (history : History) (world : World) (statement : Stmt) (text : Txt) (wanted : Wanted) → wanted_by (known_at history) statement ≡ Some wanted
+changes-judged : (history : History) (world : World) (statement : Stmt) (text : Txt)
+    (wanted : Wanted) → wanted_by (known_at history) statement ≡ Some wanted
     → judged_statement history world 0 statement text ≡ judged_change history world 0 statement
 changes-judged history world (stmt.Select select start end) text wanted wants = absurd cc
 changes-judged history world (stmt.Ask select start end) text wanted wants = absurd cc
@@ -35,22 +36,31 @@ changes-judged history world (stmt.BeginAudit audit) text wanted wants = absurd 
 changes-judged history world (stmt.Watch audit) text wanted wants = absurd cc
 changes-judged history world statement text wanted wants = refl
 
--- a statement of which nothing is refused makes the act that it comes to, where the history has room
-pub change-judged : (history : History) (world : World) (statement : Stmt) (text : Txt) (wanted : Wanted) (act : Act) → change_refused (known_at history) statement ≡ []
-    → wanted_by (known_at history) statement ≡ Some wanted → finished history wanted ≡ Ok act → length history < world.limit
+-- a statement of which nothing is refused makes the act that it comes to, where the history has
+-- room
+pub change-judged : (history : History) (world : World) (statement : Stmt) (text : Txt)
+    (wanted : Wanted) (act : Act) → change_refused (known_at history) statement ≡ []
+    → wanted_by (known_at history) statement ≡ Some wanted → finished history wanted ≡ Ok act
+    → length history < world.limit
     → judged_statement history world 0 statement text ≡ Ok (deeds.change act)
 change-judged history world statement text wanted act unrefused wants comes room =
-    let full : nat_le world.limit (length history) ≡ false = lt-leb world.limit (length history) room in
+    let full : nat_le world.limit (length history) ≡ false =
+    lt-leb world.limit (length history) room in
     changes-judged history world statement text wanted wants
-    ∙ ap (λ (refusals : List NameFault). meant refusals (wanted_by (known_at history) statement) >>= λ change. (ok_or change BadSyntax >>= λ made. judged_wanted history world made)) unrefused
-    ∙ ap (λ (change : Option Wanted). ok_or change BadSyntax >>= λ made. judged_wanted history world made) wants
-    ∙ ap (λ (made : Result Act TableFault). act_made made >>= λ change. (has_room history world >>= λ free. Ok (deeds.change change))) comes
+    ∙ ap (λ (refusals : List NameFault). meant refusals (wanted_by (known_at history) statement) >>=
+    λ change. (ok_or change BadSyntax >>= λ made. judged_wanted history world made)) unrefused
+    ∙ ap (λ (change : Option Wanted). ok_or change BadSyntax >>= λ made. judged_wanted history world
+    made) wants
+    ∙ ap (λ (made : Result Act TableFault). act_made made >>=
+    λ change. (has_room history world >>= λ free. Ok (deeds.change change))) comes
     ∙ ap (λ (test : Bool). refused_if test HistoryFull >>= λ free. Ok (deeds.change act)) full
 
 not_back : (clock moment : ℤ) → int_le clock moment ≡ true → int_lt moment clock ≡ false
 not_back clock moment no_earlier = grind (arith, ints)
 
 -- the clock may be set to a moment that is no earlier
-pub clock-judged : (world : World) (moment : Moment) → int_le world.clock moment ≡ true → judged_clock world moment ≡ Ok (deeds.set_clock moment)
+pub clock-judged : (world : World) (moment : Moment) → int_le world.clock moment ≡ true
+    → judged_clock world moment ≡ Ok (deeds.set_clock moment)
 clock-judged world moment no_earlier =
-    ap (λ (test : Bool). refused_if test (MomentBack world.clock) >>= λ set. Ok (deeds.set_clock moment)) (not_back world.clock moment no_earlier)
+    ap (λ (test : Bool). refused_if test (MomentBack world.clock) >>= λ set. Ok
+    (deeds.set_clock moment)) (not_back world.clock moment no_earlier)

@@ -1,13 +1,15 @@
 //! Laws on what the script of a history makes.
 ghost use Rattle.hippo_script_laws.specs.ScriptLaws.{ScriptsAreLines, ScriptsMakeHistories};
 
-/// The script of entries that are told as statements is the lines of a script, each with its line feed.
+/// The script of entries that are told as statements is the lines of a script, each with its line
+/// feed.
 pub fn scripts_are_lines()
     ensures { ScriptsAreLines }
 {}
 
-/// The lines of the script of a valid history whose entries are told as statements make the history again, by the rules,
-/// where the run begins with no entry, with room for them all, and no later than the first of them.
+/// The lines of the script of a valid history whose entries are told as statements make the history
+/// again, by the rules, where the run begins with no entry, with room for them all, and no later
+/// than the first of them.
 pub fn scripts_make_histories()
     ensures { ScriptsMakeHistories }
 {}

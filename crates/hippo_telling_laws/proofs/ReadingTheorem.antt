@@ -33,7 +33,8 @@ use Rattle.hippo_telling_laws.proofs.SayingLemmas.{Says, Spells, says-blank, say
 use Rattle.hippo_telling_laws.proofs.SpellingLemmas.{says-number_first, says-comma, authorize-word, choice-word, create-word, deauthorize-word, for-word, in-word, is-word, item-word, no-word, on-word, opt-word, out-word, purpose-word, recipient-word, yes-word}
 
 -- a text that says a statement of the console is read as it
-pub console-reads : (text : Txt) (said : Kinds) (s : Stmt) → Says text said → AreFit said → IsConsole said s [] → ReadsAs text s
+pub console-reads : (text : Txt) (said : Kinds) (s : Stmt) → Says text said → AreFit said
+    → IsConsole said s [] → ReadsAs text s
 unfolding outcome_of
 console-reads text said s says fit is =
     let cut = says 0 in
@@ -41,46 +42,57 @@ console-reads text said s says fit is =
       tokens = cut.0;
       cut = cut-is 0 text (Ok cut.0) cut.1;
       words = words-fit cut.0 (subst AreFit (sym cut.2) fit);
-      found = complete cut.0 s (console (subst (λ (k : Kinds). IsConsole k s []) (sym cut.2) is) nothing);
+      found = complete cut.0 s
+          (console (subst (λ (k : Kinds). IsConsole k s []) (sym cut.2) is) nothing);
     }
 
 -- CREATE, what is created and its name
 abbrev created_said : words.Keyword → Name → Kinds
 created_said keyword name = Keyword KCreate ∷ Keyword keyword ∷ Word name ∷ []
 
-pub created-reads : (word : Txt) (keyword : words.Keyword) (name : Name) (s : Stmt) → Spells word keyword
-    → is_folded_name name ≡ true → AreFit (created_said keyword name) → IsConsole (created_said keyword name) s []
+pub created-reads : (word : Txt) (keyword : words.Keyword) (name : Name) (s : Stmt)
+    → Spells word keyword
+    → is_folded_name name ≡ true → AreFit (created_said keyword name)
+    → IsConsole (created_said keyword name) s []
     → ReadsAs (codes "CREATE " ++ (word ++ 32 ∷ name)) s
-created-reads word keyword name s spells is fit console =
+created-reads word keyword name s spells is fit grammatical =
     let says : Says (codes "CREATE " ++ (word ++ 32 ∷ name)) (created_said keyword name) =
     says-word (codes "CREATE") (word ++ 32 ∷ name) KCreate _ create-word
     (says-word word name keyword _ spells (says-last_name name is)) in
-    console-reads _ (created_said keyword name) s says fit console
+    console-reads _ (created_said keyword name) s says fit grammatical
 
 -- an item, and how silence on it is read
 abbrev item_said : Name → words.Keyword → Kinds
-item_said item keyword = Keyword KCreate ∷ Keyword KItem ∷ Word item ∷ Keyword KOpt ∷ Keyword keyword ∷ []
+item_said item keyword =
+    Keyword KCreate ∷ Keyword KItem ∷ Word item ∷ Keyword KOpt ∷ Keyword keyword ∷ []
 
-pub item-reads : (item : Name) (word : Txt) (keyword : words.Keyword) (s : Stmt) → Spells word keyword
-    → is_folded_name item ≡ true → AreFit (item_said item keyword) → IsConsole (item_said item keyword) s []
+pub item-reads : (item : Name) (word : Txt) (keyword : words.Keyword) (s : Stmt)
+    → Spells word keyword
+    → is_folded_name item ≡ true → AreFit (item_said item keyword)
+    → IsConsole (item_said item keyword) s []
     → ReadsAs (codes "CREATE ITEM " ++ (item ++ (codes " OPT " ++ word))) s
-item-reads item word keyword s spells is fit console =
-    let says : Says (codes "CREATE ITEM " ++ (item ++ (codes " OPT " ++ word))) (item_said item keyword) =
-    says-word (codes "CREATE") (codes "ITEM " ++ (item ++ (codes " OPT " ++ word))) KCreate _ create-word
+item-reads item word keyword s spells is fit grammatical =
+    let says : Says (codes "CREATE ITEM " ++ (item ++ (codes " OPT " ++ word)))
+    (item_said item keyword) =
+    says-word (codes "CREATE") (codes "ITEM " ++ (item ++ (codes " OPT " ++ word))) KCreate _
+    create-word
     (says-word (codes "ITEM") (item ++ (codes " OPT " ++ word)) KItem _ item-word
     (says-name_first item (codes "OPT " ++ word) _ is
     (says-word (codes "OPT") word KOpt _ opt-word (says-last_word word keyword spells)))) in
-    console-reads _ (item_said item keyword) s says fit console
+    console-reads _ (item_said item keyword) s says fit grammatical
 
 -- three names in lower case
-pub three-names : (a b c : Name) → (is_folded_name a && is_folded_name b && is_folded_name c) ≡ true → (is_folded_name a ≡ true) × (is_folded_name b ≡ true) × (is_folded_name c ≡ true)
+pub three-names : (a b c : Name) → (is_folded_name a && is_folded_name b && is_folded_name c) ≡ true
+    → (is_folded_name a ≡ true) × (is_folded_name b ≡ true) × (is_folded_name c ≡ true)
 three-names a b c are =
     let two = and_parts (is_folded_name a && is_folded_name b) (is_folded_name c) are in
     let one = and_parts (is_folded_name a) (is_folded_name b) two.0 in
     (one.0, one.1, two.1)
 
-grant-says : (user purpose recipient : Name) → (is_folded_name user && is_folded_name purpose && is_folded_name recipient) ≡ true →
-    Says (grant_text user purpose recipient) (Word user ∷ Keyword KFor ∷ Word purpose ∷ Symbol Comma ∷ Word recipient ∷ [])
+grant-says : (user purpose recipient : Name)
+    → (is_folded_name user && is_folded_name purpose && is_folded_name recipient) ≡ true →
+    Says (grant_text user purpose recipient)
+    (Word user ∷ Keyword KFor ∷ Word purpose ∷ Symbol Comma ∷ Word recipient ∷ [])
 grant-says user purpose recipient are =
     let named = three-names user purpose recipient are in
     says-name_first user (codes "FOR " ++ (purpose ++ (codes ", " ++ recipient))) _ named.0
@@ -98,34 +110,40 @@ pub grant-reads : (word : Txt) (keyword : words.Keyword) (user purpose recipient
     → AreFit (grant_said keyword user purpose recipient)
     → IsConsole (grant_said keyword user purpose recipient) s []
     → ReadsAs (word ++ 32 ∷ grant_text user purpose recipient) s
-grant-reads word keyword user purpose recipient s spells are fit console =
+grant-reads word keyword user purpose recipient s spells are fit grammatical =
     let said : Kinds = grant_said keyword user purpose recipient in
     let says : Says (word ++ 32 ∷ grant_text user purpose recipient) said =
-    says-word word (grant_text user purpose recipient) keyword _ spells (grant-says user purpose recipient are) in
-    console-reads _ said s says fit console
+    says-word word (grant_text user purpose recipient) keyword _ spells
+    (grant-says user purpose recipient are) in
+    console-reads _ said s says fit grammatical
 
 -- a patient's answer
 abbrev choice_said : ℤ → Name → words.Keyword → Kinds
 choice_said subject item answer =
     Keyword KChoice ∷ Number subject ∷ Keyword KOn ∷ Word item ∷ Keyword KIs ∷ Keyword answer ∷ []
 
-pub choice-reads : (subject : ℤ) (item : Name) (word : Txt) (answer : words.Keyword) (s : Stmt) → Spells word answer
-    → is_signed_number subject ≡ true → is_folded_name item ≡ true → AreFit (choice_said subject item answer)
+pub choice-reads : (subject : ℤ) (item : Name) (word : Txt) (answer : words.Keyword) (s : Stmt)
+    → Spells word answer
+    → is_signed_number subject ≡ true → is_folded_name item ≡ true
+    → AreFit (choice_said subject item answer)
     → IsConsole (choice_said subject item answer) s []
-    → ReadsAs (codes "CHOICE " ++ (signed_decimal subject ++ (codes " ON " ++ (item ++ (codes " IS " ++ word))))) s
-choice-reads subject item word answer s spells fits is fit console =
+    → ReadsAs (codes
+    "CHOICE " ++ (signed_decimal subject ++ (codes " ON " ++ (item ++ (codes " IS " ++ word))))) s
+choice-reads subject item word answer s spells fits is fit grammatical =
     let said : Kinds = choice_said subject item answer in
     let behind : Txt = item ++ (codes " IS " ++ word) in
     let says : Says (codes "CHOICE " ++ (signed_decimal subject ++ (codes " ON " ++ behind))) said =
-    says-word (codes "CHOICE") (signed_decimal subject ++ (codes " ON " ++ behind)) KChoice _ choice-word
+    says-word (codes "CHOICE") (signed_decimal subject ++ (codes " ON " ++ behind)) KChoice _
+    choice-word
     (says-number_first subject (codes "ON " ++ behind) _ fits
     (says-word (codes "ON") behind KOn _ on-word
     (says-name_first item (codes "IS " ++ word) _ is
     (says-word (codes "IS") word KIs _ is-word (says-last_word word answer spells))))) in
-    console-reads _ said s says fit console
+    console-reads _ said s says fit grammatical
 
 -- a statement that asks for an act as it stands
-abbrev pub ready : (history : History) (schema : Option Schema) (act : Act) (s : Stmt) → ReadsAs (told_act schema act) s
+abbrev pub ready : (history : History) (schema : Option Schema) (act : Act) (s : Stmt)
+    → ReadsAs (told_act schema act) s
     → wanted_by (known_at history) s ≡ Some (Ready act) → ReadsBack history schema act
 ready history schema act s reads wants = record {
   statement = s;
@@ -146,16 +164,19 @@ names_read_back history schema (Recipient recipient) is kept =
     (flat-fit (created_said KRecipient recipient) refl refl refl) create_recipient) refl
 names_read_back history schema (Item item OptIn) is kept =
     ready history schema (Item item OptIn) (stmt.CreateItem item OptIn)
-    (item-reads item (codes "IN") KIn _ in-word kept (flat-fit (item_said item KIn) refl refl refl) create_opt_in) refl
+    (item-reads item (codes "IN") KIn _ in-word kept (flat-fit (item_said item KIn) refl refl refl)
+    create_opt_in) refl
 names_read_back history schema (Item item OptOut) is kept =
     ready history schema (Item item OptOut) (stmt.CreateItem item OptOut)
-    (item-reads item (codes "OUT") KOut _ out-word kept (flat-fit (item_said item KOut) refl refl refl) create_opt_out) refl
+    (item-reads item (codes "OUT") KOut _ out-word kept
+    (flat-fit (item_said item KOut) refl refl refl) create_opt_out) refl
 names_read_back history schema (Authorize user purpose recipient) is kept =
     ready history schema (Authorize user purpose recipient) (stmt.Authorize user purpose recipient)
     (grant-reads (codes "AUTHORIZE") KAuthorize user purpose recipient _ authorize-word kept
     (flat-fit (grant_said KAuthorize user purpose recipient) refl refl refl) authorize) refl
 names_read_back history schema (Deauthorize user purpose recipient) is kept =
-    ready history schema (Deauthorize user purpose recipient) (stmt.Deauthorize user purpose recipient)
+    ready history schema (Deauthorize user purpose recipient)
+    (stmt.Deauthorize user purpose recipient)
     (grant-reads (codes "DEAUTHORIZE") KDeauthorize user purpose recipient _ deauthorize-word kept
     (flat-fit (grant_said KDeauthorize user purpose recipient) refl refl refl) deauthorize) refl
 names_read_back history schema (Choice subject item true) is kept =

@@ -24,7 +24,8 @@ weighs-front said calm =
     let none = calm-fits said calm in
     record { open_few = omega (arith, none.0); not_few = omega (arith, none.1); supported = none.2 }
 
-pub weighs-calm : (kind : TokenKind) (said : Kinds) (opened negated : ℕ) → is_calm kind ≡ true → Weighs said opened negated → Weighs (kind ∷ said) opened negated
+pub weighs-calm : (kind : TokenKind) (said : Kinds) (opened negated : ℕ) → is_calm kind ≡ true
+    → Weighs said opened negated → Weighs (kind ∷ said) opened negated
 weighs-calm kind said opened negated calm light =
     let two = and_parts (not (opens kind) && not (negates kind)) (not (is_unsupported kind)) calm in
     let one = and_parts (not (opens kind)) (not (negates kind)) two.0 in
@@ -36,9 +37,11 @@ weighs-calm kind said opened negated calm light =
       supported = rw (fails (is_unsupported kind) two.1) light.supported;
     }
 
-pub weighs-opening : (said : Kinds) (opened negated : ℕ) → Weighs said opened negated → Weighs (Symbol LeftParen ∷ said) (opened + 1) negated
+pub weighs-opening : (said : Kinds) (opened negated : ℕ) → Weighs said opened negated
+    → Weighs (Symbol LeftParen ∷ said) (opened + 1) negated
 weighs-opening said opened negated light =
-    let one_more : count_by opens (Symbol LeftParen ∷ said) ≡ 1 + count_by opens said = sum_by-cons (λ (k : TokenKind). cond (opens k) 1 0) (Symbol LeftParen) said in
+    let one_more : count_by opens (Symbol LeftParen ∷ said) ≡ 1 + count_by opens said =
+    sum_by-cons (λ (k : TokenKind). cond (opens k) 1 0) (Symbol LeftParen) said in
     let same_negated = passed negates (Symbol LeftParen) refl said in
     record {
       open_few = (let few = light.open_few in omega (arith, one_more, few));
@@ -46,24 +49,29 @@ weighs-opening said opened negated light =
       supported = light.supported;
     }
 
-pub weighs-not : (said : Kinds) (opened negated : ℕ) → Weighs said opened negated → Weighs (Keyword KNot ∷ said) opened (negated + 1)
+pub weighs-not : (said : Kinds) (opened negated : ℕ) → Weighs said opened negated
+    → Weighs (Keyword KNot ∷ said) opened (negated + 1)
 weighs-not said opened negated light =
     let same_opened = passed opens (Keyword KNot) refl said in
-    let one_more : count_by negates (Keyword KNot ∷ said) ≡ 1 + count_by negates said = sum_by-cons (λ (k : TokenKind). cond (negates k) 1 0) (Keyword KNot) said in
+    let one_more : count_by negates (Keyword KNot ∷ said) ≡ 1 + count_by negates said =
+    sum_by-cons (λ (k : TokenKind). cond (negates k) 1 0) (Keyword KNot) said in
     record {
       open_few = (let few = light.open_few in omega (arith, same_opened, few));
       not_few = (let few = light.not_few in omega (arith, one_more, few));
       supported = light.supported;
     }
 
-pub weighs-more : (said : Kinds) (opened negated : ℕ) → Weighs said opened negated → Weighs said opened (negated + 1)
+pub weighs-more : (said : Kinds) (opened negated : ℕ) → Weighs said opened negated
+    → Weighs said opened (negated + 1)
 weighs-more said opened negated light = record {
   open_few = light.open_few;
   not_few = (let few = light.not_few in omega (arith, few));
   supported = light.supported;
 }
 
-pub weighs-fit : (said : Kinds) (opened negated : ℕ) → Weighs said opened negated → opened ≤ 64 → negated ≤ 64 → AreFit said
+pub weighs-fit : (said : Kinds) (opened negated : ℕ) → Weighs said opened negated → opened ≤ 64
+    → negated ≤ 64 → AreFit said
 weighs-fit said opened negated light opened_small negated_small =
     few-fit said
-    (let few = light.open_few in omega (arith, few, opened_small)) (let few = light.not_few in omega (arith, few, negated_small)) light.supported
+    (let few = light.open_few in omega (arith, few, opened_small))
+    (let few = light.not_few in omega (arith, few, negated_small)) light.supported
