@@ -1,10 +1,10 @@
 -- What is told of an updated row reads back.
-use Rattle.std.proofs.Common.{◌≡◌, ◌∙◌, zero, suc, ◌+◌, ◌<◌, ◌≤◌, Bool, true, false, not, ◌&&◌, List, [], ◌∷◌, ◌++◌, filter, length, map, Some, Ok, refl, sym, ap, subst, inl, inr, arith, zero-add, codes}
+use Rattle.std.proofs.Common.{◌≡◌, ◌∙◌, zero, suc, ◌+◌, ◌<◌, ◌≤◌, Bool, true, false, not, List, [], ◌∷◌, ◌++◌, filter, length, map, Some, Ok, refl, sym, ap, subst, inl, inr, arith, zero-add, codes}
 use Rattle.std.specs.Prelude.{nat_eq, nat_lt, slice_set}
 use Rattle.std.specs.List.{list_any, list_all, range_with_len}
-use Rattle.std.proofs.lemmas.Bool.{and_parts, and_from, or_parts, or_left, both_ways, cases_Bool, eqb-true, eqb-false, lt-ltb}
+use Rattle.std.proofs.lemmas.Bool.{and_parts, and_from, or_parts, both_ways, cases_Bool, eqb-true, eqb-false, lt-ltb}
 use Rattle.std.proofs.lemmas.Grind.{get_or-set_at}
-use Rattle.std.proofs.lemmas.List.{append-nil, append_assoc, ext_get_or, get_or-set_other, length-map, length-set}
+use Rattle.std.proofs.lemmas.List.{append-nil, ext_get_or, get_or-set_other, length-map, length-set}
 use Rattle.hippo_values.specs.Texts.{Txt}
 use Rattle.hippo_values.specs.declared.names.Name.{Name}
 use Rattle.hippo_values.specs.declared.values.Value.{Value}

@@ -1,5 +1,5 @@
 -- Each entry of a valid history is made again by what is told of it.
-use Rattle.std.proofs.Common.{◌≡◌, ◌∙◌, ℕ, zero, suc, ◌+◌, ◌<◌, ◌≤◌, Bool, true, false, not, ◌&&◌, List, [], ◌∷◌, ◌++◌, length, filter_map, Option, Some, None, refl, sym, ap, subst, arith}
+use Rattle.std.proofs.Common.{◌≡◌, ◌∙◌, ℕ, zero, suc, ◌<◌, ◌≤◌, Bool, true, false, not, ◌&&◌, List, [], ◌∷◌, ◌++◌, length, filter_map, Option, Some, None, refl, sym, ap, subst, arith}
 use Rattle.std.specs.Prelude.{bytes_eq, count_by, is_none, is_some, nat_eq, nat_le, nat_lt, option_and_then, option_map, option_to_list, slice_get, unwrap_or}
 use Rattle.std.specs.Bool.{then_some}
 use Rattle.std.specs.Cmp.Lexicographic.{pointwise}
@@ -8,7 +8,6 @@ use Rattle.std.specs.Option.{option_map_or}
 use Rattle.std.proofs.lemmas.Bool.{and_from, and_parts, eq-eqb, le-ltb, lt-leb, lt-ltb, ltb-true, not-true, not_from_true}
 use Rattle.hippo_values.specs.Limits.{column_limit, table_limit}
 use Rattle.hippo_values.specs.declared.names.Name.{Name}
-use Rattle.hippo_values.specs.declared.values.Value.{Value}
 use Rattle.hippo_values.specs.Order.{same_cells}
 use Rattle.hippo_model.specs.declared.entry.Act.{Act}
 use Rattle.hippo_model.specs.declared.entry.Act.TheVariants.{Create, Insert, Update, Delete, Purpose, Recipient, Item, Authorize, Deauthorize, Allow, Revoke, Choice, Asked}
@@ -161,10 +160,10 @@ module _ (meaning : Meaning) (before : History) (valid : is_valid meaning before
 
   -- the table of an act, and its schema
   module _ (table : Name) (schema : Schema) (is : schema_at before table ≡ Some schema) where
-    sound : IsTable schema
+    pub sound : IsTable schema
     sound = is_table schema (schema_kept meaning before table schema valid is).1
 
-    has : HasNames schema.name schema.columns schema.key schema.subject
+    pub has : HasNames schema.name schema.columns schema.key schema.subject
     has = has-names schema sound (schema_kept meaning before table schema valid is).0
 
     known-here : table_of known table ≡ Some schema
@@ -188,7 +187,7 @@ module _ (meaning : Meaning) (before : History) (valid : is_valid meaning before
       within = within;
     }
 
-    key-within : all_within schema.columns schema.key ≡ true
+    pub key-within : all_within schema.columns schema.key ≡ true
     key-within = all_there key_column_fits schema schema.key sound.key_fits
 
     key-named : NamesColumns before schema table schema.key

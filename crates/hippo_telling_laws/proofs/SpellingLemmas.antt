@@ -36,7 +36,7 @@ digits_pass (digit ∷ digits) are =
     let first : is_ascii_digit digit ≡ true = grind (arith, nat_tests) in
     and_from _ _ first (digits_pass digits are.1)
 
-decimal_digits : (n : ℕ) → n < 2 ^ 64 → AreDigits (decimal n)
+pub decimal_digits : (n : ℕ) → n < 2 ^ 64 → AreDigits (decimal n)
 decimal_digits n small = let numeral = (decimal_is_IsNumeral n small).0 in
     (numeral.0, digits_pass (decimal n) numeral.1)
 

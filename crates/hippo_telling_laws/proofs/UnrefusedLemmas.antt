@@ -1,6 +1,6 @@
 -- Names, places and values of which nothing is refused.
-use Rattle.std.proofs.Common.{◌≡◌, ◌∙◌, zero, suc, ◌+◌, ◌<◌, Bool, true, false, not, ◌&&◌, ◌||◌, List, [], ◌∷◌, ◌++◌, filter, filter_map, length, map, Option, Some, None, refl, sym, ap, subst, inl, inr, arith}
-use Rattle.std.specs.Prelude.{◌==◌, bytes_eq, nat_eq, nat_lt, slice_get, unwrap_or, is_none}
+use Rattle.std.proofs.Common.{◌≡◌, ◌∙◌, zero, suc, ◌+◌, ◌<◌, Bool, true, false, not, ◌&&◌, List, [], ◌∷◌, ◌++◌, filter, filter_map, length, map, Option, Some, refl, sym, ap, subst, inl, inr, arith}
+use Rattle.std.specs.Prelude.{bytes_eq, nat_eq, nat_lt, slice_get, unwrap_or, is_none}
 use Rattle.std.specs.Cmp.Lexicographic.{nat_list_eq_equiv, pointwise}
 use Rattle.std.specs.List.{list_any, list_all, range_with_len, zip, cons_option}
 use Rattle.std.specs.Option.{option_map_or}
@@ -20,7 +20,7 @@ use Rattle.hippo_model.specs.Rows.{cell_at, key_of}
 use Rattle.hippo_model.specs.Terms.{Key, Place, Row}
 use Rattle.hippo_model.specs.Validity.{all_differ}
 use Rattle.hippo_model.specs.Values.{fits, has_kind}
-use Rattle.hippo_catalog.specs.ChangesRefused.{places_of, unknown_columns, in_column, kind_refused, null_refused, text_refused, row_refused, assigned_refused, assignments_refused, key_refused, key_changed, is_the_key, is_of_key}
+use Rattle.hippo_catalog.specs.ChangesRefused.{unknown_columns, in_column, kind_refused, null_refused, text_refused, row_refused, assigned_refused, assignments_refused, key_refused, key_changed, is_the_key, is_of_key}
 use Rattle.hippo_catalog.specs.Refusals.{refused, repeated_after, repeated_names}
 use Rattle.hippo_catalog.specs.WrittenColumns.{place_of}
 use Rattle.hippo_telling.specs.Telling.{name_at, is_set}
