@@ -20,7 +20,7 @@ use Rattle.hippo_showing.specs.declared.asking.Form.TheVariants.{Script}
 use Rattle.hippo_showing.specs.Showing.{schema_named, stands_at, clock_line, act_lines, shown_as, entry_shown, clock_after, is_asked, entries_shown}
 use Rattle.hippo_script_laws.specs.ScriptLaws.{ScriptsAreLines, are_stated, clock_lines, script_lines, statement_line}
 
-abbrev fed : Txt → Txt
+abbrev pub fed : Txt → Txt
 fed line = line ++ codes "\n"
 
 -- a statement is a line of the console

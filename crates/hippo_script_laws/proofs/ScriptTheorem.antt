@@ -124,7 +124,7 @@ module _ (before later : History) (entry : Entry)
   abbrev known : KnownNames
   known = known_at whole
 
-  may : may_follow meaning before entry ≡ true
+  pub may : may_follow meaning before entry ≡ true
   may = followed meaning before entry later valid
 
   -- a table that was there has the schema that it had
@@ -134,7 +134,7 @@ module _ (before later : History) (entry : Entry)
       (valid_names meaning whole valid).tables table
       ∙ schemas_last meaning before (entry ∷ later) table schema valid is ∙ sym is
 
-  named : (act : Act) → is_acceptable meaning before act ≡ true → schema_named known act
+  pub named : (act : Act) → is_acceptable meaning before act ≡ true → schema_named known act
       ≡ option_and_then (schema_at before) (table_named act)
   named (Insert table row) fit =
       let made = passes_so (λ (schema : Schema). version_fits schema before (Insert table row))

@@ -3,11 +3,13 @@ use Rattle.std.specs.Prelude.{◌≡◌, ◌≤◌, ℕ, Bool, true, List, [], �
 use Rattle.std.specs.List.{list_all}
 use Rattle.std.specs.Option.{option_map_or}
 use Rattle.hippo_values.specs.Dates.{moment_text}
+use Rattle.hippo_values.specs.Limits.{line_limit}
 use Rattle.hippo_values.specs.Texts.{Txt}
 use Rattle.hippo_values.specs.declared.moments.Moment.{Moment}
-use Rattle.hippo_io.specs.Lines.{LineText, text_line}
+use Rattle.hippo_io.specs.Lines.{LineText, lines, text_line}
 use Rattle.hippo_model.specs.declared.entry.Act.{Act}
 use Rattle.hippo_model.specs.declared.entry.Entry.{Entry}
+use Rattle.hippo_model.specs.Keepable.{is_text}
 use Rattle.hippo_model.specs.Terms.{History}
 use Rattle.hippo_model.specs.Validity.{is_valid}
 use Rattle.hippo_catalog.specs.Catalogs.{KnownNames, known_at}
@@ -19,7 +21,7 @@ use Rattle.hippo_telling.specs.Telling.{told_act}
 use Rattle.hippo_telling_laws.specs.TellingLaws.{is_stated}
 use Rattle.hippo_showing.specs.declared.asking.Excerpt.{Excerpt}
 use Rattle.hippo_showing.specs.declared.asking.Form.TheVariants.{Script}
-use Rattle.hippo_showing.specs.Showing.{schema_named, stands_at, is_asked, entries_shown}
+use Rattle.hippo_showing.specs.Showing.{schema_named, stands_at, is_asked, entries_shown, shown}
 
 -- whether each entry is told as a statement
 abbrev pub are_stated : KnownNames → History → Bool
@@ -63,3 +65,13 @@ ScriptsMakeHistories =
     → are_stated (known_at history) history ≡ true → length history ≤ world.limit
     → starts_before world history ≡ true
     → ruled [] world (map text_line (script_lines (known_at history) None history)) ≡ history
+
+-- where each line of the script is a text that is no longer than a line may be, what is shown makes the history again
+abbrev pub ScriptsRunAgain : Type 0
+ScriptsRunAgain =
+    (history : History) (excerpt : Excerpt) (world : World) → is_valid meaning history ≡ true
+    → are_stated (known_at history) history ≡ true → excerpt.form ≡ Script
+    → list_all (is_asked (known_at history) excerpt) history ≡ true → length history ≤ world.limit
+    → starts_before world history ≡ true
+    → list_all (is_text line_limit) (script_lines (known_at history) None history) ≡ true
+    → ruled [] world (lines (shown excerpt history)) ≡ history

@@ -1,5 +1,5 @@
 //! Laws on what the script of a history makes.
-ghost use Rattle.hippo_script_laws.specs.ScriptLaws.{ScriptsAreLines, ScriptsMakeHistories};
+ghost use Rattle.hippo_script_laws.specs.ScriptLaws.{ScriptsAreLines, ScriptsMakeHistories, ScriptsRunAgain};
 
 /// The script of entries that are told as statements is the lines of a script, each with its line
 /// feed.
@@ -12,4 +12,10 @@ pub fn scripts_are_lines()
 /// than the first of them.
 pub fn scripts_make_histories()
     ensures { ScriptsMakeHistories }
+{}
+
+/// Where each line of that script is a text no longer than a line may be, the script is cut into
+/// just these lines, so what is shown makes the history again.
+pub fn scripts_run_again()
+    ensures { ScriptsRunAgain }
 {}
