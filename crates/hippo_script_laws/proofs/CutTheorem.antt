@@ -1,5 +1,5 @@
 -- A script is cut into its lines.
-use Rattle.std.proofs.Common.{◌≡◌, ◌∙◌, ℕ, zero, suc, ◌+◌, ◌-◌, ◌/◌, ◌%◌, ◌<◌, ◌≤◌, Bool, true, false, not, ◌&&◌, List, [], ◌∷◌, ◌++◌, flat_map, length, map, Option, Some, None, refl, sym, ap, subst, arith, ℤ, pos, codes}
+use Rattle.std.proofs.Common.{◌≡◌, ◌∙◌, ℕ, zero, suc, ◌-◌, ◌/◌, ◌%◌, ◌<◌, Bool, true, false, not, List, [], ◌∷◌, ◌++◌, flat_map, length, map, Option, Some, None, refl, sym, ap, subst, arith, ℤ, pos, codes}
 use Rattle.std.specs.Prelude.{◌==◌, if◌then◌else◌, nat_le, nat_lt, option_and_then, slice_index, unsigned_abs}
 use Rattle.std.specs.Int.{int_div_euclid, int_rem_euclid}
 use Rattle.std.specs.Io.BufRead.{ends_with_byte, strip_last}
@@ -12,8 +12,7 @@ use Rattle.hippo_values.specs.Limits.{line_limit}
 use Rattle.hippo_values.specs.Moments.{day_seconds}
 use Rattle.hippo_values.specs.Texts.{Txt}
 use Rattle.hippo_values.specs.declared.moments.Moment.{Moment}
-use Rattle.hippo_io.specs.Lines.{LineText, line_of, lines, pieces, text_line, text_or_not, too_long_line, with_first}
-use Rattle.hippo_model.specs.declared.entry.Entry.{Entry}
+use Rattle.hippo_io.specs.Lines.{line_of, lines, pieces, text_line, text_or_not, too_long_line, with_first}
 use Rattle.hippo_model.specs.declared.schema.Schema.{Schema}
 use Rattle.hippo_model.specs.Histories.{schema_at}
 use Rattle.hippo_model.specs.Keepable.{is_text}
@@ -26,8 +25,7 @@ use Rattle.hippo_following.proofs.HistoryLemmas.{acceptable, keepable}
 use Rattle.hippo_telling.specs.Telling.{table_named, told_act}
 use Rattle.hippo_telling_laws.specs.TellingLaws.{is_stated}
 use Rattle.hippo_showing.specs.Showing.{schema_named, shown, stands_at}
-use Rattle.hippo_world.specs.Worlds.{World}
-use Rattle.hippo_script_laws.specs.ScriptLaws.{ScriptsRunAgain, are_stated, clock_lines, ruled, script_lines, statement_line}
+use Rattle.hippo_script_laws.specs.ScriptLaws.{ScriptsRunAgain, are_stated, ruled, script_lines, statement_line}
 use Rattle.hippo_script_laws.proofs.InnerLemmas.{AreInner, both, inner-digit, is_inner, said}
 use Rattle.hippo_script_laws.proofs.LinesTheorem.{fed, scripts_are_lines}
 use Rattle.hippo_script_laws.proofs.ScriptTheorem.{may, named, scripts_make_histories}
@@ -36,8 +34,25 @@ use Rattle.hippo_script_laws.proofs.ToldTheorem.{told-inner}
 -- in a moment no line ends
 inner-clock : (y m d h mi s : ℕ) → AreInner (date_text y m d ++ clock_text h mi s)
 inner-clock y m d h mi s =
-    said (rw (inner-digit (y / 100 / 10), inner-digit (y / 100 % 10), inner-digit (y % 100 / 10), inner-digit (y % 100 % 10), inner-digit (m / 10), inner-digit (m % 10),
-    inner-digit (d / 10), inner-digit (d % 10), inner-digit (h / 10), inner-digit (h % 10), inner-digit (mi / 10), inner-digit (mi % 10), inner-digit (s / 10), inner-digit (s % 10))
+    said (rw (
+      inner-digit (y / 100 / 10),
+      inner-digit (y / 100 % 10),
+      inner-digit
+          (y % 100 / 10),
+      inner-digit (y % 100 % 10),
+      inner-digit (m / 10),
+      inner-digit (m % 10),
+      inner-digit (d / 10),
+      inner-digit (d % 10),
+      inner-digit (h / 10),
+      inner-digit
+          (h % 10),
+      inner-digit (mi / 10),
+      inner-digit (mi % 10),
+      inner-digit (s / 10),
+      inner-digit
+          (s % 10),
+    )
     refl)
 
 inner-moment : (moment : Moment) → AreInner (moment_text moment)
@@ -45,43 +60,53 @@ unfolding moment_text day_text time_text
 inner-moment moment =
     let day : ℤ = int_div_euclid moment (pos day_seconds) in
     let second : ℕ = unsigned_abs (int_rem_euclid moment (pos day_seconds)) in
-    inner-clock (year_of day) (month_of day) (day_of_month day) (second / 3600) (second / 60 % 60) (second % 60)
+    inner-clock (year_of day) (month_of day) (day_of_month day) (second / 3600) (second / 60 % 60)
+    (second % 60)
 
 -- a text in which no line ends, and a line feed, is a piece
-cut-line : (line rest : Txt) → list_all is_inner line ≡ true → pieces (line ++ 10 ∷ rest) ≡ line ∷ pieces rest
+cut-line : (line rest : Txt) → list_all is_inner line ≡ true → pieces (line ++ 10 ∷ rest)
+    ≡ line ∷ pieces rest
 cut-line [] rest inner = refl
 cut-line (byte ∷ line) rest inner =
     let parts = and_parts (is_inner byte) (list_all is_inner line) inner in
     let other = not-true (byte == 10) (and_parts (not (byte == 10)) (not (byte == 13)) parts.0).0 in
-    ap (λ (feed : Bool). if feed then [] ∷ pieces (line ++ 10 ∷ rest) else with_first byte (pieces (line ++ 10 ∷ rest))) other
+    ap (λ (feed : Bool). if feed then [] ∷ pieces (line ++ 10 ∷ rest) else with_first byte
+    (pieces (line ++ 10 ∷ rest))) other
     ∙ ap (with_first byte) (cut-line line rest parts.1)
 
 abbrev is_inner_line : Txt → Bool
 is_inner_line line = list_all is_inner line
 
-cut-lines : (written : List Txt) → list_all is_inner_line written ≡ true → pieces (flat_map fed written) ≡ written
+cut-lines : (written : List Txt) → list_all is_inner_line written ≡ true
+    → pieces (flat_map fed written) ≡ written
 cut-lines [] inner = refl
 cut-lines (line ∷ written) inner =
     let parts = and_parts (is_inner_line line) (list_all is_inner_line written) inner in
-    ap pieces (append_assoc line (10 ∷ []) (flat_map fed written)) ∙ cut-line line (flat_map fed written) parts.0
+    ap pieces (append_assoc line (10 ∷ []) (flat_map fed written))
+    ∙ cut-line line (flat_map fed written) parts.0
     ∙ ap (λ (rest : List Txt). line ∷ rest) (cut-lines written parts.1)
 
 -- no carriage return is dropped
-inner-at : (text : Txt) (place : Place) → place < length text → list_all is_inner text ≡ true → is_inner (slice_index text place) ≡ true
+inner-at : (text : Txt) (place : Place) → place < length text → list_all is_inner text ≡ true
+    → is_inner (slice_index text place) ≡ true
 inner-at [] place small inner = absurd (omega (arith, small))
-inner-at (byte ∷ text) zero small inner = (and_parts (is_inner byte) (list_all is_inner text) inner).0
+inner-at (byte ∷ text) zero small inner =
+    (and_parts (is_inner byte) (list_all is_inner text) inner).0
 inner-at (byte ∷ text) (suc place) small inner =
-    inner-at text place (omega (arith, small)) (and_parts (is_inner byte) (list_all is_inner text) inner).1
+    inner-at text place (omega (arith, small))
+    (and_parts (is_inner byte) (list_all is_inner text) inner).1
 
 no-return : (text : Txt) → list_all is_inner text ≡ true → ends_with_byte 13 text ≡ false
 no-return [] inner = refl
 no-return (byte ∷ text) inner =
     let at = inner-at (byte ∷ text) (length (byte ∷ text) - 1) (omega arith) inner in
     let last = slice_index (byte ∷ text) (length (byte ∷ text) - 1) in
-    and_right (nat_lt 0 (length (byte ∷ text))) (last == 13) (not-true (last == 13) (and_parts (not (last == 10)) (not (last == 13)) at).1)
+    and_right (nat_lt 0 (length (byte ∷ text))) (last == 13)
+    (not-true (last == 13) (and_parts (not (last == 10)) (not (last == 13)) at).1)
 
 -- a text that is no longer than a line may be is a line
-whole-line : (line : Txt) → list_all is_inner line ≡ true → is_text line_limit line ≡ true → line_of line ≡ text_line line
+whole-line : (line : Txt) → list_all is_inner line ≡ true → is_text line_limit line ≡ true
+    → line_of line ≡ text_line line
 whole-line line inner text =
     let parts = and_parts (nat_le (length line) line_limit) (is_utf8 line) text in
     let short = le-ltb line_limit (length line) (leb-true (length line) line_limit parts.0) in
@@ -89,13 +114,16 @@ whole-line line inner text =
     ap (λ (long : Bool). if long then too_long_line else text_or_not (strip_last 13 line)) short
     ∙ ap text_or_not kept ∙ rw parts.1 refl
 
-whole-lines : (written : List Txt) → list_all is_inner_line written ≡ true → list_all (is_text line_limit) written ≡ true → map line_of written ≡ map text_line written
+whole-lines : (written : List Txt) → list_all is_inner_line written ≡ true
+    → list_all (is_text line_limit) written ≡ true → map line_of written ≡ map text_line written
 whole-lines [] inner texts = refl
 whole-lines (line ∷ written) inner texts =
     let first = and_parts (is_inner_line line) (list_all is_inner_line written) inner in
-    let second = and_parts (is_text line_limit line) (list_all (is_text line_limit) written) texts in
+    let second =
+    and_parts (is_text line_limit line) (list_all (is_text line_limit) written) texts in
     let here : line_of line ≡ text_line line = whole-line line first.0 second.0 in
-    let later : map line_of written ≡ map text_line written = whole-lines written first.1 second.1 in
+    let later : map line_of written ≡ map text_line written =
+    whole-lines written first.1 second.1 in
     λ i. here i ∷ later i
 
 -- in a script's lines no line ends
@@ -103,33 +131,53 @@ module _ (whole : History) (valid : is_valid meaning whole ≡ true) where
   abbrev names : KnownNames
   names = known_at whole
 
-  inner-lines : (later before : History) (clock : Option Moment) → whole ≡ before ++ later → are_stated names later ≡ true → list_all is_inner_line (script_lines names clock later) ≡ true
+  inner-lines : (later before : History) (clock : Option Moment) → whole ≡ before ++ later
+      → are_stated names later ≡ true → list_all is_inner_line (script_lines names clock later)
+      ≡ true
   inner-lines [] before clock parts stated = refl
   inner-lines (entry ∷ later) before clock parts stated =
-      let each = and_parts (is_stated (schema_named names entry.act) entry.act) (are_stated names later) stated in
-      let here : is_valid meaning (before ++ entry ∷ later) ≡ true = ap (is_valid meaning) (sym parts) ∙ valid in
+      let each = and_parts (is_stated (schema_named names entry.act) entry.act)
+      (are_stated names later) stated in
+      let here : is_valid meaning (before ++ entry ∷ later) ≡ true =
+      ap (is_valid meaning) (sym parts) ∙ valid in
       let follows = may before later entry here in
       let first = front_is_valid meaning before (entry ∷ later) here in
       let fit = acceptable meaning before entry follows in
-      let schema : schema_named names entry.act ≡ option_and_then (schema_at before) (table_named entry.act) =
-      ap (λ (h : History). schema_named (known_at h) entry.act) parts ∙ named before later entry here entry.act fit in
+      let schema : schema_named names entry.act
+      ≡ option_and_then (schema_at before) (table_named entry.act) =
+      ap (λ (h : History). schema_named (known_at h) entry.act) parts
+      ∙ named before later entry here entry.act fit in
       let told : AreInner (told_act (schema_named names entry.act) entry.act) =
-      subst (λ (s : Option Schema). is_stated s entry.act ≡ true → AreInner (told_act s entry.act)) (sym schema) (told-inner meaning before first entry.act (keepable meaning before entry follows) fit) each.0 in
-      let statement : AreInner (statement_line names entry.act) = both (codes "0 ") (told_act (schema_named names entry.act) entry.act) (said refl) told in
-      let regrouped : whole ≡ (before ++ entry ∷ []) ++ later = parts ∙ sym (append_assoc before (entry ∷ []) later) in
-      let rest : list_all is_inner_line (statement_line names entry.act ∷ script_lines names (Some entry.moment) later) ≡ true =
-      and_from _ _ statement.all (inner-lines later (before ++ entry ∷ []) (Some entry.moment) regrouped each.1) in
-      by_test (stands_at clock entry.moment) entry.moment (statement_line names entry.act ∷ script_lines names (Some entry.moment) later) rest
+      subst (λ (s : Option Schema). is_stated s entry.act ≡ true → AreInner (told_act s entry.act))
+      (sym schema)
+      (told-inner meaning before first entry.act (keepable meaning before entry follows) fit)
+      each.0 in
+      let statement : AreInner (statement_line names entry.act) =
+      both (codes "0 ") (told_act (schema_named names entry.act) entry.act) (said refl) told in
+      let regrouped : whole ≡ (before ++ entry ∷ []) ++ later =
+      parts ∙ sym (append_assoc before (entry ∷ []) later) in
+      let rest : list_all is_inner_line
+      (statement_line names entry.act ∷ script_lines names (Some entry.moment) later) ≡ true =
+      and_from _ _ statement.all
+      (inner-lines later (before ++ entry ∷ []) (Some entry.moment) regrouped each.1) in
+      by_test (stands_at clock entry.moment) entry.moment
+      (statement_line names entry.act ∷ script_lines names (Some entry.moment) later) rest
     where
-      by_test : (test : Bool) (moment : Moment) (more : List Txt) → list_all is_inner_line more ≡ true → list_all is_inner_line ((if test then [] else (codes "at " ++ moment_text moment) ∷ []) ++ more) ≡ true
+      by_test : (test : Bool) (moment : Moment) (more : List Txt) → list_all is_inner_line more
+          ≡ true → list_all is_inner_line
+          ((if test then [] else (codes "at " ++ moment_text moment) ∷ []) ++ more) ≡ true
       by_test true moment more all = all
-      by_test false moment more all = and_from _ _ (both (codes "at ") (moment_text moment) (said refl) (inner-moment moment)).all all
+      by_test false moment more all =
+          and_from _ _
+          (both (codes "at ") (moment_text moment) (said refl) (inner-moment moment)).all all
 
 pub scripts_run_again : ScriptsRunAgain
 scripts_run_again history excerpt world valid stated is_script all room starts texts =
     let written : List Txt = script_lines (known_at history) None history in
     let inner = inner-lines history valid history [] None refl stated in
-    let spelled : shown excerpt history ≡ flat_map fed written = scripts_are_lines (known_at history) excerpt None history is_script all stated in
+    let spelled : shown excerpt history ≡ flat_map fed written =
+    scripts_are_lines (known_at history) excerpt None history is_script all stated in
     let cut : lines (shown excerpt history) ≡ map text_line written =
-    ap lines spelled ∙ ap (map line_of) (cut-lines written inner) ∙ whole-lines written inner texts in
+    ap lines spelled ∙ ap (map line_of) (cut-lines written inner)
+    ∙ whole-lines written inner texts in
     ap (ruled [] world) cut ∙ scripts_make_histories history world valid stated room starts

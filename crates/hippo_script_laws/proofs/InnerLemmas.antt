@@ -1,5 +1,5 @@
 -- Texts in which no line ends.
-use Rattle.std.proofs.Common.{◌≡◌, ◌∙◌, ℕ, zero, suc, ◌+◌, ◌/◌, ◌%◌, ◌<◌, ◌^◌, Bool, true, false, not, ◌&&◌, List, [], ◌∷◌, ◌++◌, flat_map, length, refl, sym, ap, subst, inl, inr, arith, ℤ, pos, negsuc, codes, decimal}
+use Rattle.std.proofs.Common.{◌≡◌, ◌∙◌, ℕ, suc, ◌+◌, ◌/◌, ◌%◌, ◌<◌, ◌^◌, Bool, true, false, not, ◌&&◌, List, [], ◌∷◌, ◌++◌, flat_map, refl, subst, inl, inr, arith, ℤ, pos, negsuc, codes, decimal}
 use Rattle.std.specs.Prelude.{◌==◌}
 use Rattle.std.specs.Fmt.{signed_decimal}
 use Rattle.std.specs.List.{list_all}
@@ -9,7 +9,7 @@ use Rattle.std.proofs.lemmas.Int.{ints}
 use Rattle.std.proofs.lemmas.List.Folds.{list_all-append}
 use Rattle.hippo_values.specs.Dates.{date_text, day_of_month, day_text, month_of, year_of}
 use Rattle.hippo_values.specs.Moments.{is_signed_number}
-use Rattle.hippo_values.specs.Names.{is_name, is_word, is_word_byte}
+use Rattle.hippo_values.specs.Names.{is_name, is_word_byte}
 use Rattle.hippo_values.specs.Quoting.{doubled, is_quote}
 use Rattle.hippo_values.specs.Texts.{Txt, is_plain}
 use Rattle.hippo_values.specs.declared.names.Name.{Name}
@@ -61,7 +61,8 @@ inner-name name is =
     let form = (and_parts _ _ (and_parts _ _ (and_parts (is_name name) _ is).0).0).0 in
     inner-all is_word_byte refl refl name (and_parts _ (list_all is_word_byte name) form).1
 
-inner_doubled : (text : Txt) → list_all is_inner text ≡ true → list_all is_inner (doubled text) ≡ true
+inner_doubled : (text : Txt) → list_all is_inner text ≡ true → list_all is_inner (doubled text)
+    ≡ true
 inner_doubled [] inner = refl
 inner_doubled (byte ∷ text) inner =
     let parts = and_parts (is_inner byte) (list_all is_inner text) inner in
@@ -84,13 +85,21 @@ inner-number (negsuc n) is =
 
 pub inner-digit : (n : ℕ) → is_inner (48 + n) ≡ true
 inner-digit n =
-    inner_from (48 + n) (λ same. absurd (omega (arith, same))) (λ same. absurd (omega (arith, same)))
+    inner_from (48 + n) (λ same. absurd (omega (arith, same)))
+    (λ same. absurd (omega (arith, same)))
 
 inner-date : (y m d : ℕ) → AreInner (date_text y m d)
 inner-date y m d =
-    said (rw (inner-digit (y / 100 / 10), inner-digit (y / 100 % 10), inner-digit (y % 100 / 10),
-    inner-digit (y % 100 % 10), inner-digit (m / 10), inner-digit (m % 10), inner-digit (d / 10),
-    inner-digit (d % 10)) refl)
+    said (rw (
+      inner-digit (y / 100 / 10),
+      inner-digit (y / 100 % 10),
+      inner-digit (y % 100 / 10),
+      inner-digit (y % 100 % 10),
+      inner-digit (m / 10),
+      inner-digit (m % 10),
+      inner-digit (d / 10),
+      inner-digit (d % 10),
+    ) refl)
 
 inner-day : (day : ℤ) → AreInner (day_text day)
 unfolding day_text
@@ -110,7 +119,8 @@ inner-literal (values.Text text) kept plain =
     both (39 ∷ []) (doubled text ++ 39 ∷ []) (said refl)
     (both (doubled text) (39 ∷ []) (said (inner_doubled text inner)) (said refl))
 inner-literal (values.Day day) kept plain =
-    both (codes "DATE '") _ (said refl) (both (day_text day) (codes "'") (inner-day day) (said refl))
+    both (codes "DATE '") _ (said refl)
+    (both (day_text day) (codes "'") (inner-day day) (said refl))
 
 -- members that are joined
 module _ {A : Type 0} (text : A → Txt) (separator : Txt) (between : AreInner separator) where
@@ -123,7 +133,8 @@ module _ {A : Type 0} (text : A → Txt) (separator : Txt) (between : AreInner s
       both (separator ++ text member) _ (both separator (text member) between (each member parts.0))
       (later-inner fits each members parts.1)
 
-  pub inner-joined : (fits : A → Bool) → ((member : A) → fits member ≡ true → AreInner (text member))
+  pub inner-joined : (fits : A → Bool)
+      → ((member : A) → fits member ≡ true → AreInner (text member))
       → (members : List A) → list_all fits members ≡ true → AreInner (joined text separator members)
   inner-joined fits each [] all = said refl
   inner-joined fits each (member ∷ members) all =

@@ -1,5 +1,5 @@
 -- What is judged of a statement that changes something, and of a line that sets the clock.
-use Rattle.std.proofs.Common.{◌≡◌, ◌∙◌, ◌+◌, ◌<◌, Bool, true, false, List, [], ◌∷◌, length, Option, Some, None, Result, Ok, refl, ap, arith, ℤ}
+use Rattle.std.proofs.Common.{◌≡◌, ◌∙◌, ◌<◌, Bool, true, false, List, [], length, Option, Some, Result, Ok, refl, ap, arith, ℤ}
 use Rattle.std.specs.Prelude.{int_le, int_lt, nat_le, ok_or}
 use Rattle.std.proofs.lemmas.Bool.{lt-leb}
 use Rattle.std.proofs.lemmas.Int.{ints}

@@ -1,5 +1,5 @@
 -- What the lines of a script command.
-use Rattle.std.proofs.Common.{◌≡◌, ◌∙◌, ℕ, suc, ◌+◌, ◌/◌, ◌%◌, ◌<◌, Bool, true, false, List, [], ◌∷◌, ◌++◌, length, Option, Some, None, Ok, refl, sym, ap, arith, ℤ, pos, codes}
+use Rattle.std.proofs.Common.{◌≡◌, ◌∙◌, ℕ, suc, ◌+◌, ◌/◌, ◌%◌, ◌<◌, true, false, List, [], ◌∷◌, ◌++◌, length, Option, Some, None, Ok, refl, ap, arith, ℤ, pos, codes}
 use Rattle.std.specs.Prelude.{int_le, nat_lt, ok_or, option_and_then, unsigned_abs}
 use Rattle.std.specs.Int.{int_div_euclid, int_rem_euclid}
 use Rattle.std.proofs.lemmas.Bool.{and_parts, lt-ltb, ne_eqb}
@@ -9,15 +9,11 @@ use Rattle.hippo_values.specs.Moments.{IsMoment, day_seconds, first_moment, is_m
 use Rattle.hippo_values.specs.Texts.{Txt}
 use Rattle.hippo_values.specs.declared.moments.Moment.{Moment}
 use Rattle.hippo_io.specs.Lines.{text_line}
-use Rattle.hippo_lexer.specs.Cutting.{outcome_of}
-use Rattle.hippo_lexer.specs.Words.{words_check}
 use Rattle.hippo_model.specs.declared.statement.Stmt.{Stmt}
-use Rattle.hippo_stmt_reader.specs.StatementFinder.{statement_of}
 use Rattle.hippo_report.specs.declared.refusal.Refusal.TheVariants.{BadSyntax}
 use Rattle.hippo_lines.specs.Words.{is_space, words_of, only}
-use Rattle.hippo_lines.specs.Forms.{Form, sets_clock, states, short_word_of, form_with, at_of, session_form, line_form}
+use Rattle.hippo_lines.specs.Forms.{sets_clock, states, short_word_of, form_with, line_form}
 use Rattle.hippo_commands.specs.Commands.{state, set_clock, command_of, command_by, clock_command, state_command, statement_among, statement_by, statement_in}
-use Rattle.hippo_commands.specs.Moments.{moment_in}
 use Rattle.hippo_commands.proofs.MomentLemmas.{moments_are_read}
 use Rattle.hippo_telling_laws.specs.TellingLaws.{ReadsAs}
 

@@ -1,5 +1,5 @@
 -- What is shown as a script is its lines.
-use Rattle.std.proofs.Common.{◌≡◌, ◌∙◌, Bool, true, false, ◌&&◌, List, [], ◌∷◌, ◌++◌, flat_map, Option, Some, None, refl, sym, ap, codes}
+use Rattle.std.proofs.Common.{◌≡◌, ◌∙◌, Bool, true, false, List, [], ◌∷◌, ◌++◌, flat_map, Option, Some, refl, sym, ap, codes}
 use Rattle.std.specs.Prelude.{if◌then◌else◌}
 use Rattle.std.specs.List.{list_all}
 use Rattle.std.proofs.lemmas.Bool.{and_parts}
@@ -10,13 +10,9 @@ use Rattle.hippo_values.specs.Texts.{Txt}
 use Rattle.hippo_values.specs.declared.moments.Moment.{Moment}
 use Rattle.hippo_model.specs.declared.entry.Act.{Act}
 use Rattle.hippo_model.specs.declared.entry.Act.TheVariants.{Asked}
-use Rattle.hippo_model.specs.declared.entry.Entry.{Entry}
-use Rattle.hippo_model.specs.Terms.{History}
 use Rattle.hippo_catalog.specs.Catalogs.{KnownNames}
 use Rattle.hippo_telling_laws.specs.TellingLaws.{is_stated}
-use Rattle.hippo_showing.specs.declared.asking.Excerpt.{Excerpt}
 use Rattle.hippo_showing.specs.declared.asking.Form.{Form}
-use Rattle.hippo_showing.specs.declared.asking.Form.TheVariants.{Script}
 use Rattle.hippo_showing.specs.Showing.{schema_named, stands_at, clock_line, act_lines, shown_as, entry_shown, clock_after, is_asked, entries_shown}
 use Rattle.hippo_script_laws.specs.ScriptLaws.{ScriptsAreLines, are_stated, clock_lines, script_lines, statement_line}
 

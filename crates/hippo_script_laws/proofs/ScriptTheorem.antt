@@ -1,9 +1,8 @@
 -- The lines of a valid history's script make it again.
-use Rattle.std.proofs.Common.{◌≡◌, ◌∙◌, ℕ, suc, ◌+◌, ◌≤◌, ◌<◌, Bool, true, false, not, ◌&&◌, List, [], ◌∷◌, ◌++◌, length, map, Option, Some, None, Ok, refl, sym, ap, subst, arith, codes}
-use Rattle.std.specs.Prelude.{◌==◌, if◌then◌else◌, int_le, nat_lt, option_and_then, slice_get}
+use Rattle.std.proofs.Common.{◌≡◌, ◌∙◌, ℕ, suc, ◌+◌, ◌≤◌, ◌<◌, true, false, not, ◌&&◌, List, [], ◌∷◌, ◌++◌, length, map, Option, Some, None, refl, sym, ap, subst, arith, codes}
+use Rattle.std.specs.Prelude.{◌==◌, if◌then◌else◌, int_le, nat_lt, option_and_then}
 use Rattle.std.specs.List.{filter, list_all, slice_split}
-use Rattle.std.specs.Ordering.{int_eq}
-use Rattle.std.specs.Option.{option_map_or, option_or}
+use Rattle.std.specs.Option.{option_map_or}
 use Rattle.std.proofs.lemmas.Bool.{and_parts, not-true}
 use Rattle.std.proofs.lemmas.Bool.Decides.{Decides-int_eq}
 use Rattle.std.proofs.lemmas.List.{append-nil, append_assoc, length-append}
@@ -33,15 +32,14 @@ use Rattle.hippo_lines.specs.Words.{is_filled, is_space, words_of}
 use Rattle.hippo_lines.specs.Forms.{short_word_of}
 use Rattle.hippo_world.specs.Worlds.{World}
 use Rattle.hippo_commands.specs.Commands.{command_of}
-use Rattle.hippo_judging.specs.Checks.{Checked}
-use Rattle.hippo_judging.specs.Deeds.{Deed, next_entry}
+use Rattle.hippo_judging.specs.Deeds.{next_entry}
 use Rattle.hippo_engine.specs.Effects.{Effect, carried_out, effect_of, only_reply}
 use Rattle.hippo_following.proofs.HistoryLemmas.{acceptable, followed, passes_so, schemas_last}
 use Rattle.hippo_telling.specs.Telling.{schema_before, table_named, told_act}
 use Rattle.hippo_telling_laws.specs.TellingLaws.{MakesAgain, is_stated}
 use Rattle.hippo_telling_laws.proofs.EntryTheorem.{entries_are_made_again}
 use Rattle.hippo_showing.specs.Showing.{schema_named, stands_at}
-use Rattle.hippo_script_laws.specs.ScriptLaws.{ScriptsMakeHistories, are_stated, clock_lines, ruled, script_lines, starts_before, statement_line}
+use Rattle.hippo_script_laws.specs.ScriptLaws.{ScriptsMakeHistories, are_stated, ruled, script_lines, starts_before, statement_line}
 use Rattle.hippo_script_laws.proofs.LineLemmas.{sets-it, states-it}
 use Rattle.hippo_script_laws.proofs.JudgingLemmas.{change-judged, clock-judged}
 
@@ -111,7 +109,8 @@ follows before entry may =
     let kept = (and_parts (nat_lt entry.seq 18446744073709551616 && is_moment entry.moment)
     (act_is_keepable entry.act) third).0 in
     record {
-      moment_fits = (and_parts (nat_lt entry.seq 18446744073709551616) (is_moment entry.moment) kept).1;
+      moment_fits =
+          (and_parts (nat_lt entry.seq 18446744073709551616) (is_moment entry.moment) kept).1;
       order = second.1;
     }
 

@@ -1,5 +1,5 @@
 -- What the script of a history makes.
-use Rattle.std.specs.Prelude.{◌≡◌, ◌≤◌, ℕ, Bool, true, List, [], ◌∷◌, ◌++◌, map, flat_map, length, int_le, slice_get, Option, Some, None, if◌then◌else◌, codes}
+use Rattle.std.specs.Prelude.{◌≡◌, ◌≤◌, Bool, true, List, [], ◌∷◌, ◌++◌, map, flat_map, length, int_le, slice_get, Option, Some, None, if◌then◌else◌, codes}
 use Rattle.std.specs.List.{list_all}
 use Rattle.std.specs.Option.{option_map_or}
 use Rattle.hippo_values.specs.Dates.{moment_text}
@@ -8,7 +8,6 @@ use Rattle.hippo_values.specs.Texts.{Txt}
 use Rattle.hippo_values.specs.declared.moments.Moment.{Moment}
 use Rattle.hippo_io.specs.Lines.{LineText, lines, text_line}
 use Rattle.hippo_model.specs.declared.entry.Act.{Act}
-use Rattle.hippo_model.specs.declared.entry.Entry.{Entry}
 use Rattle.hippo_model.specs.Keepable.{is_text}
 use Rattle.hippo_model.specs.Terms.{History}
 use Rattle.hippo_model.specs.Validity.{is_valid}
