@@ -87,7 +87,7 @@ clock_form text are =
     (λ (words : List Txt). option_and_then (λ (moment : Txt). Some (sets_clock moment))
     (only words)) are)
 
-moment-fits : (moment : Moment) → is_moment moment ≡ true → IsMoment moment
+pub moment-fits : (moment : Moment) → is_moment moment ≡ true → IsMoment moment
 moment-fits moment fits = let parts =
     and_parts (int_le first_moment moment) (int_le moment last_moment) fits in grind (arith, ints)
 

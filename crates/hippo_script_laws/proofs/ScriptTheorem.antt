@@ -92,11 +92,11 @@ told-begins schema (Choice subject item agreed) stated = begins (codes "CHOICE")
 told-begins schema (Asked user purpose recipient text) stated = absurd cc
 
 -- the parts of what lets an entry follow
-record Follows (before : History) (entry : Entry) : Type 0 where
-  moment_fits : is_moment entry.moment ≡ true
-  order : keeps_order before entry.moment ≡ true
+pub record Follows (before : History) (entry : Entry) : Type 0 where
+  pub moment_fits : is_moment entry.moment ≡ true
+  pub order : keeps_order before entry.moment ≡ true
 
-follows : (before : History) (entry : Entry) → may_follow meaning before entry ≡ true
+pub follows : (before : History) (entry : Entry) → may_follow meaning before entry ≡ true
     → Follows before entry
 follows before entry may =
     let first =

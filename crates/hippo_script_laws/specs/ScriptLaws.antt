@@ -1,5 +1,5 @@
 -- What the script of a history makes.
-use Rattle.std.specs.Prelude.{◌≡◌, ◌≤◌, Bool, true, List, [], ◌∷◌, ◌++◌, map, flat_map, length, int_le, slice_get, Option, Some, None, if◌then◌else◌, codes}
+use Rattle.std.specs.Prelude.{◌≡◌, ◌≤◌, Bool, true, List, [], ◌∷◌, ◌++◌, map, flat_map, length, int_le, nat_le, slice_get, Option, Some, None, if◌then◌else◌, codes}
 use Rattle.std.specs.List.{list_all}
 use Rattle.std.specs.Option.{option_map_or}
 use Rattle.hippo_values.specs.Dates.{moment_text}
@@ -8,7 +8,6 @@ use Rattle.hippo_values.specs.Texts.{Txt}
 use Rattle.hippo_values.specs.declared.moments.Moment.{Moment}
 use Rattle.hippo_io.specs.Lines.{LineText, lines, text_line}
 use Rattle.hippo_model.specs.declared.entry.Act.{Act}
-use Rattle.hippo_model.specs.Keepable.{is_text}
 use Rattle.hippo_model.specs.Terms.{History}
 use Rattle.hippo_model.specs.Validity.{is_valid}
 use Rattle.hippo_catalog.specs.Catalogs.{KnownNames, known_at}
@@ -65,12 +64,12 @@ ScriptsMakeHistories =
     → starts_before world history ≡ true
     → ruled [] world (map text_line (script_lines (known_at history) None history)) ≡ history
 
--- where each line of the script is a text that is no longer than a line may be, what is shown makes the history again
+-- where no line of the script is longer than a line may be, what is shown makes the history again
 abbrev pub ScriptsRunAgain : Type 0
 ScriptsRunAgain =
     (history : History) (excerpt : Excerpt) (world : World) → is_valid meaning history ≡ true
     → are_stated (known_at history) history ≡ true → excerpt.form ≡ Script
     → list_all (is_asked (known_at history) excerpt) history ≡ true → length history ≤ world.limit
     → starts_before world history ≡ true
-    → list_all (is_text line_limit) (script_lines (known_at history) None history) ≡ true
+    → list_all (λ line. nat_le (length line) line_limit) (script_lines (known_at history) None history) ≡ true
     → ruled [] world (lines (shown excerpt history)) ≡ history

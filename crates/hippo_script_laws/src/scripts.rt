@@ -14,8 +14,8 @@ pub fn scripts_make_histories()
     ensures { ScriptsMakeHistories }
 {}
 
-/// Where each line of that script is a text no longer than a line may be, the script is cut into
-/// just these lines, so what is shown makes the history again.
+/// Where no line of that script is longer than a line may be, the script is cut into just these
+/// lines, so what is shown makes the history again.
 pub fn scripts_run_again()
     ensures { ScriptsRunAgain }
 {}
