@@ -131,7 +131,8 @@ doubled_utf8 front (byte ∷ text) utf8 =
           let longer : IsUtf8 ((front ++ byte ∷ []) ++ text) =
           subst (λ (bytes : Txt). IsUtf8 bytes) (sym (append_assoc front (byte ∷ []) text)) utf8 in
           let doubled_rest = doubled_utf8 (front ++ byte ∷ []) text longer in
-          rw is (subst (λ (bytes : Txt). IsUtf8 bytes) (append_assoc front (byte ∷ []) (doubled text))
+          rw is
+          (subst (λ (bytes : Txt). IsUtf8 bytes) (append_assoc front (byte ∷ []) (doubled text))
           doubled_rest)
     ]
 

@@ -368,7 +368,8 @@ differ_kept kept (place ∷ places) differ =
     and_parts (not (list_any (nat_eq place) places)) (all_differ nat_eq places) differ in
     elim (cases_Bool (kept place)) [
       | inl is ↦ rw is
-          (and_from _ _ (not_from_false _ (none_kept kept (nat_eq place) places (not-true _ parts.0)))
+          (and_from _ _
+          (not_from_false _ (none_kept kept (nat_eq place) places (not-true _ parts.0)))
           (differ_kept kept places parts.1))
       | inr is ↦ rw is (differ_kept kept places parts.1)
     ]
