@@ -14,8 +14,7 @@ use Rattle.hippo_values.specs.Moments.{is_moment}
 use Rattle.hippo_values.specs.Texts.{Txt}
 use Rattle.hippo_values.specs.declared.moments.Moment.{Moment}
 use Rattle.hippo_values.proofs.MomentTextLemmas.{IsDayNumber-of_moment, day_of, second_of}
-use Rattle.hippo_io.specs.Lines.{LineText, line_of, lines, pieces, text_line, text_or_not, too_long_line, with_first}
-use Rattle.hippo_model.specs.declared.entry.Entry.{Entry}
+use Rattle.hippo_io.specs.Lines.{line_of, lines, pieces, text_line, text_or_not, too_long_line, with_first}
 use Rattle.hippo_model.specs.declared.schema.Schema.{Schema}
 use Rattle.hippo_model.specs.Histories.{schema_at}
 use Rattle.hippo_model.specs.Terms.{History, Place}
