@@ -30,19 +30,19 @@ two_parts front rest utf8 bound = (
 )
 
 -- a text may be cut before a byte of ASCII
-before_ascii : (front : List ℕ) (byte : ℕ) (rest : List ℕ) → byte < 128 → IsUtf8 (front ++ byte ∷ rest) → IsUtf8 front × IsUtf8 (byte ∷ rest)
+pub before_ascii : (front : List ℕ) (byte : ℕ) (rest : List ℕ) → byte < 128 → IsUtf8 (front ++ byte ∷ rest) → IsUtf8 front × IsUtf8 (byte ∷ rest)
 before_ascii front byte rest small utf8 =
     let within : length front < length (front ++ byte ∷ rest) = simp length-append (omega arith) in
     let there : get_or (front ++ byte ∷ rest) (length front) 0 < 128 = rw (get_or_at front byte rest 0 (length front) refl) small in
     two_parts front (byte ∷ rest) utf8 (IsCharBoundary-before_ascii (front ++ byte ∷ rest) (length front) within there)
 
 -- and behind one
-after_ascii : (byte : ℕ) (rest : List ℕ) → byte < 128 → IsUtf8 (byte ∷ rest) → IsUtf8 rest
+pub after_ascii : (byte : ℕ) (rest : List ℕ) → byte < 128 → IsUtf8 (byte ∷ rest) → IsUtf8 rest
 after_ascii byte rest small utf8 =
     let within : 0 < length (byte ∷ rest) = omega arith in
     IsUtf8-drop (byte ∷ rest) 1 utf8 (IsCharBoundary-after_ascii (byte ∷ rest) 0 utf8 within small)
 
-a_quote : IsUtf8 (39 ∷ [])
+pub a_quote : IsUtf8 (39 ∷ [])
 a_quote = IsUtf8-from_ascii (39 ∷ []) small
   where
     small : (i : ℕ) → get_or (39 ∷ []) i 0 < 128

@@ -12,36 +12,47 @@ use Rattle.hippo_spj_reader.specs.Front.{Kinds}
 use Rattle.hippo_reading_laws.proofs.FitWords.{AreFit}
 
 -- words with few parentheses and few NOT are fit to be read
-pub few-fit : (said : Kinds) → count_by opens said ≤ 64 → count_by negates said ≤ 64 → list_any is_unsupported said ≡ false → AreFit said
+pub few-fit : (said : Kinds) → count_by opens said ≤ 64 → count_by negates said ≤ 64
+    → list_any is_unsupported said ≡ false → AreFit said
 few-fit said opened negated supported = record {
   level = λ n small.
-      let parts : count_by opens said ≡ count_by opens (take n said) + count_by opens (drop n said) =
-      ap (count_by opens) (sym (take-append-drop n said)) ∙ sum_by-append (λ (k : TokenKind). cond (opens k) 1 0) (take n said) (drop n said) in
+      let parts : count_by opens said ≡ count_by opens (take n said) + count_by opens
+      (drop n said) =
+      ap (count_by opens) (sym (take-append-drop n said))
+      ∙ sum_by-append (λ (k : TokenKind). cond (opens k) 1 0) (take n said) (drop n said) in
       omega (arith, parts, opened);
   few = negated;
   supported = supported;
 }
 
 -- words without any
-pub flat-fit : (said : Kinds) → count_by opens said ≡ 0 → count_by negates said ≡ 0 → list_any is_unsupported said ≡ false → AreFit said
-flat-fit said opened negated supported = few-fit said (omega (arith, opened)) (omega (arith, negated)) supported
+pub flat-fit : (said : Kinds) → count_by opens said ≡ 0 → count_by negates said ≡ 0
+    → list_any is_unsupported said ≡ false → AreFit said
+flat-fit said opened negated supported =
+    few-fit said (omega (arith, opened)) (omega (arith, negated)) supported
 
 -- neither `(` nor NOT, and no word that is refused
 abbrev pub is_calm : TokenKind → Bool
 is_calm kind = not (opens kind) && not (negates kind) && not (is_unsupported kind)
 
-passed : (test : TokenKind → Bool) (kind : TokenKind) → test kind ≡ false → (said : Kinds) → count_by test (kind ∷ said) ≡ count_by test said
-passed test kind other said = sum_by-cons (λ (k : TokenKind). cond (test k) 1 0) kind said ∙ rw other (zero-add (count_by test said))
+pub passed : (test : TokenKind → Bool) (kind : TokenKind) → test kind ≡ false → (said : Kinds)
+    → count_by test (kind ∷ said) ≡ count_by test said
+passed test kind other said =
+    sum_by-cons (λ (k : TokenKind). cond (test k) 1 0) kind said
+    ∙ rw other (zero-add (count_by test said))
 
-fails : (test : Bool) → not test ≡ true → test ≡ false
+pub fails : (test : Bool) → not test ≡ true → test ≡ false
 fails true is = absurd cc
 fails false is = refl
 
-pub calm-fits : (said : Kinds) → list_all is_calm said ≡ true → (count_by opens said ≡ 0) × (count_by negates said ≡ 0) × (list_any is_unsupported said ≡ false)
+pub calm-fits : (said : Kinds) → list_all is_calm said ≡ true
+    → (count_by opens said ≡ 0) × (count_by negates said ≡ 0) × (list_any is_unsupported said
+    ≡ false)
 calm-fits [] calm = (refl, refl, refl)
 calm-fits (kind ∷ said) calm =
     let both = and_parts (is_calm kind) (list_all is_calm said) calm in
-    let two = and_parts (not (opens kind) && not (negates kind)) (not (is_unsupported kind)) both.0 in
+    let two = and_parts (not (opens kind) && not (negates kind)) (not (is_unsupported kind))
+    both.0 in
     let one = and_parts (not (opens kind)) (not (negates kind)) two.0 in
     let later = calm-fits said both.1 in (
       passed opens kind (fails (opens kind) one.0) said ∙ later.0,
@@ -50,16 +61,30 @@ calm-fits (kind ∷ said) calm =
     )
 
 -- a front with few of them, and then none
-pub front-fit : (front said : Kinds) (opened : ℕ) → count_by opens front ≡ opened → opened ≤ 64 → count_by negates front ≡ 0 → list_any is_unsupported front ≡ false → list_all is_calm said ≡ true → AreFit (front ++ said)
+pub front-fit : (front said : Kinds) (opened : ℕ) → count_by opens front ≡ opened → opened ≤ 64
+    → count_by negates front ≡ 0 → list_any is_unsupported front ≡ false → list_all is_calm said
+    ≡ true → AreFit (front ++ said)
 front-fit front said opened count few negated supported calm =
     let none = calm-fits said calm in
     few-fit (front ++ said)
-    (omega (arith, sum_by-append (λ (k : TokenKind). cond (opens k) 1 0) front said, none.0, count, few))
-    (omega (arith, sum_by-append (λ (k : TokenKind). cond (negates k) 1 0) front said, none.1, negated))
+    (omega (
+      arith,
+      sum_by-append (λ (k : TokenKind). cond (opens k) 1 0) front said,
+      none.0,
+      count,
+      few,
+    ))
+    (omega (
+      arith,
+      sum_by-append (λ (k : TokenKind). cond (negates k) 1 0) front said,
+      none.1,
+      negated,
+    ))
     (list_any-append is_unsupported front said ∙ rw (supported, none.2) refl)
 
 -- lists that are calm
-pub calm-append : (front said : Kinds) → list_all is_calm front ≡ true → list_all is_calm said ≡ true → list_all is_calm (front ++ said) ≡ true
+pub calm-append : (front said : Kinds) → list_all is_calm front ≡ true → list_all is_calm said
+    ≡ true → list_all is_calm (front ++ said) ≡ true
 calm-append [] said first later = later
 calm-append (kind ∷ front) said first later =
     let both = and_parts (is_calm kind) (list_all is_calm front) first in

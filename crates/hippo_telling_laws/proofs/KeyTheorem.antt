@@ -34,10 +34,10 @@ use Rattle.hippo_telling_laws.proofs.NamePlaces.{places_again, names_folded}
 use Rattle.hippo_telling_laws.proofs.ReadingTheorem.{console-reads}
 use Rattle.hippo_telling_laws.proofs.RowTheorem.{literal-calm}
 
-abbrev Assigned : Type 0
+abbrev pub Assigned : Type 0
 Assigned = Place × Value
 
-abbrev conjunction : Txt
+abbrev pub conjunction : Txt
 conjunction = codes " AND "
 
 -- columns with values
@@ -55,82 +55,124 @@ module _ (columns : List Column) where
   pair_fits (place, value) = is_folded_name (name_at columns place) && value_is_keepable value
 
   abbrev pub pairs_later : List Assigned → Kinds → Kinds
-  pairs_later pairs said = later_said pair_text pair_said pair_meant pair_fits EndsLiteral conjunction (Keyword KAnd) pairs said
+  pairs_later pairs said =
+      later_said pair_text pair_said pair_meant pair_fits EndsLiteral conjunction
+      (Keyword KAnd) pairs said
 
-  pair-says : (pair : Assigned) (rest : Txt) (said : Kinds) → pair_fits pair ≡ true → EndsLiteral rest → Says rest said → Says (pair_text pair ++ rest) (pair_said pair ++ said)
+  pub pair-says : (pair : Assigned) (rest : Txt) (said : Kinds) → pair_fits pair ≡ true
+      → EndsLiteral rest → Says rest said → Says (pair_text pair ++ rest) (pair_said pair ++ said)
   pair-says (place, value) rest said fit ends more =
-      let parts = and_parts (is_folded_name (name_at columns place)) (value_is_keepable value) fit in
-      subst (λ (t : Txt). Says t (pair_said (place, value) ++ said)) (sym (append_assoc (name_at columns place) (codes " = " ++ literal_text value) rest))
-      (says-name_first (name_at columns place) (codes "= " ++ (literal_text value ++ rest)) _ parts.0
-      (says-equal (32 ∷ (literal_text value ++ rest)) _ (says-blank (literal_text value ++ rest) _ (says-literal value rest said parts.1 ends more))))
+      let parts =
+      and_parts (is_folded_name (name_at columns place)) (value_is_keepable value) fit in
+      subst (λ (t : Txt). Says t (pair_said (place, value) ++ said))
+      (sym (append_assoc (name_at columns place) (codes " = " ++ literal_text value) rest))
+      (says-name_first (name_at columns place) (codes "= " ++ (literal_text value ++ rest)) _
+      parts.0
+      (says-equal (32 ∷ (literal_text value ++ rest)) _
+      (says-blank (literal_text value ++ rest) _ (says-literal value rest said parts.1 ends more))))
 
-  pub pairs-say : (pair : Assigned) (pairs : List Assigned) (rest : Txt) (said : Kinds) → list_all pair_fits (pair ∷ pairs) ≡ true → EndsLiteral rest → Says rest said →
-      Says (joined pair_text conjunction (pair ∷ pairs) ++ rest) (pair_said pair ++ pairs_later pairs said)
+  pub pairs-say : (pair : Assigned) (pairs : List Assigned) (rest : Txt) (said : Kinds)
+      → list_all pair_fits (pair ∷ pairs) ≡ true → EndsLiteral rest → Says rest said →
+      Says (joined pair_text conjunction (pair ∷ pairs) ++ rest)
+      (pair_said pair ++ pairs_later pairs said)
   pairs-say pair pairs rest said fit ends more =
-      says-joined pair_text pair_said pair_meant pair_fits EndsLiteral conjunction (Keyword KAnd) pair-says
-      (λ behind said more. says-blank (codes "AND " ++ behind) _ (says-word (codes "AND") behind KAnd said and-word more)) (λ behind. (refl, refl))
+      says-joined pair_text pair_said pair_meant pair_fits EndsLiteral conjunction
+      (Keyword KAnd) pair-says
+      (λ behind said more. says-blank (codes "AND " ++ behind) _
+      (says-word (codes "AND") behind KAnd said and-word more)) (λ behind. (refl, refl))
       pair pairs rest said fit ends more
 
-  pair-is : (pair : Assigned) (rest : Kinds) → IsAssignment (pair_said pair ++ rest) (pair_meant pair) rest
+  pub pair-is : (pair : Assigned) (rest : Kinds)
+      → IsAssignment (pair_said pair ++ rest) (pair_meant pair) rest
   pair-is (place, value) rest = assignment (literal-is value rest)
 
-  pub pairs-read : (pair : Assigned) (pairs : List Assigned) (rest : Kinds) → AreKeys (pair_said pair ++ pairs_later pairs rest) (map pair_meant (pair ∷ pairs)) rest
-  pairs-read pair pairs rest = list-read pair_text pair_said pair_meant pair_fits EndsLiteral conjunction (Keyword KAnd) IsAssignment pair-is pair pairs rest
+  pub pairs-read : (pair : Assigned) (pairs : List Assigned) (rest : Kinds)
+      → AreKeys (pair_said pair ++ pairs_later pairs rest) (map pair_meant (pair ∷ pairs)) rest
+  pairs-read pair pairs rest =
+      list-read pair_text pair_said pair_meant pair_fits EndsLiteral conjunction
+      (Keyword KAnd) IsAssignment pair-is pair pairs rest
 
-  pair-calm : (pair : Assigned) (said : Kinds) → list_all is_calm said ≡ true → list_all is_calm (pair_said pair ++ said) ≡ true
-  pair-calm (place, value) said calm = calm-append (literal_said value) said (literal-calm value) calm
+  pub pair-calm : (pair : Assigned) (said : Kinds) → list_all is_calm said ≡ true
+      → list_all is_calm (pair_said pair ++ said) ≡ true
+  pair-calm (place, value) said calm =
+      calm-append (literal_said value) said (literal-calm value) calm
 
   pub pairs-calm : (pairs : List Assigned) → list_all is_calm (pairs_later pairs []) ≡ true
   pairs-calm [] = refl
   pairs-calm (pair ∷ pairs) = pair-calm pair (pairs_later pairs []) (pairs-calm pairs)
 
   -- the names and the values of a key
-  pub names-of : (places : List Place) (key : Key) → length places ≡ length key → columns_of (map pair_meant (zip places key)) ≡ map (name_at columns) places
+  pub names-of : (places : List Place) (key : Key) → length places ≡ length key
+      → columns_of (map pair_meant (zip places key)) ≡ map (name_at columns) places
   names-of [] key size = refl
   names-of (place ∷ places) [] size = absurd (omega (arith, size))
-  names-of (place ∷ places) (value ∷ key) size = ap (λ (names : List Name). name_at columns place ∷ names) (names-of places key (omega (arith, size)))
+  names-of (place ∷ places) (value ∷ key) size =
+      ap (λ (names : List Name). name_at columns place ∷ names)
+      (names-of places key (omega (arith, size)))
 
-  pub values-of : (places : List Place) (key : Key) → length places ≡ length key → values_of (map pair_meant (zip places key)) ≡ key
+  pub values-of : (places : List Place) (key : Key) → length places ≡ length key
+      → values_of (map pair_meant (zip places key)) ≡ key
   values-of [] [] size = refl
   values-of [] (value ∷ key) size = absurd (omega (arith, size))
   values-of (place ∷ places) [] size = absurd (omega (arith, size))
-  values-of (place ∷ places) (value ∷ key) size = ap (λ (rest : Key). value ∷ rest) (values-of places key (omega (arith, size)))
+  values-of (place ∷ places) (value ∷ key) size =
+      ap (λ (rest : Key). value ∷ rest) (values-of places key (omega (arith, size)))
 
-  pub pairs-fit : (places : List Place) (key : Key) → list_all (λ (place : Place). is_folded_name (name_at columns place)) places ≡ true → list_all value_is_keepable key ≡ true → list_all pair_fits (zip places key) ≡ true
+  pub pairs-fit : (places : List Place) (key : Key)
+      → list_all (λ (place : Place). is_folded_name (name_at columns place)) places ≡ true
+      → list_all value_is_keepable key ≡ true → list_all pair_fits (zip places key) ≡ true
   pairs-fit [] key named kept = refl
   pairs-fit (place ∷ places) [] named kept = refl
   pairs-fit (place ∷ places) (value ∷ key) named kept =
-      let names = and_parts (is_folded_name (name_at columns place)) (list_all (λ (place : Place). is_folded_name (name_at columns place)) places) named in
+      let names =
+      and_parts (is_folded_name (name_at columns place))
+      (list_all (λ (place : Place). is_folded_name (name_at columns place)) places) named in
       let each = and_parts (value_is_keepable value) (list_all value_is_keepable key) kept in
       and_from _ _ (and_from _ _ names.0 each.0) (pairs-fit places key names.1 each.1)
 
 -- values that are looked up by places that differ
-passed-over : (place : Place) (value : Value) (pairs : List Assigned) (others : List Place) → list_any (nat_eq place) others ≡ false →
-    filter_map (λ (other : Place). lookup (nat_eq other) ((place, value) ∷ pairs)) others ≡ filter_map (λ (other : Place). lookup (nat_eq other) pairs) others
+passed-over : (place : Place) (value : Value) (pairs : List Assigned) (others : List Place)
+    → list_any (nat_eq place) others ≡ false →
+    filter_map (λ (other : Place). lookup (nat_eq other) ((place, value) ∷ pairs)) others
+    ≡ filter_map (λ (other : Place). lookup (nat_eq other) pairs) others
 passed-over place value pairs [] none = refl
 passed-over place value pairs (other ∷ others) none =
     let parts = or_parts (nat_eq place other) (list_any (nat_eq place) others) none in
     let differs : nat_eq other place ≡ false = grind (arith, nat_tests) in
-    rw differs (ap (λ (rest : List Value). cons_option (lookup (nat_eq other) pairs) rest) (passed-over place value pairs others parts.1))
+    rw differs (ap (λ (rest : List Value). cons_option (lookup (nat_eq other) pairs) rest)
+    (passed-over place value pairs others parts.1))
 
-same_place : (place : Place) → nat_eq place place ≡ true
+pub same_place : (place : Place) → nat_eq place place ≡ true
 same_place place = grind (arith, nat_tests)
 
-looked-up : (places : List Place) (key : Key) → all_differ nat_eq places ≡ true → length places ≡ length key → filter_map (λ (place : Place). lookup (nat_eq place) (zip places key)) places ≡ key
+looked-up : (places : List Place) (key : Key) → all_differ nat_eq places ≡ true → length places
+    ≡ length key → filter_map (λ (place : Place). lookup (nat_eq place) (zip places key)) places
+    ≡ key
 looked-up [] [] differ size = refl
 looked-up [] (value ∷ key) differ size = absurd (omega (arith, size))
 looked-up (place ∷ places) [] differ size = absurd (omega (arith, size))
 looked-up (place ∷ places) (value ∷ key) differ size =
-    let parts = and_parts (not (list_any (nat_eq place) places)) (all_differ nat_eq places) differ in
+    let parts =
+    and_parts (not (list_any (nat_eq place) places)) (all_differ nat_eq places) differ in
     rw (same_place place)
-    (ap (λ (rest : Key). value ∷ rest) (passed-over place value (zip places key) places (not-true _ parts.0) ∙ looked-up places key parts.1 (omega (arith, size))))
+    (ap (λ (rest : Key). value ∷ rest)
+    (passed-over place value (zip places key) places (not-true _ parts.0)
+    ∙ looked-up places key parts.1 (omega (arith, size))))
 
-key-again : (schema : Schema) (key : Key) → places_of schema (map (name_at schema.columns) schema.key) ≡ schema.key → all_differ nat_eq schema.key ≡ true → length schema.key ≡ length key → key_written schema (map (name_at schema.columns) schema.key) key ≡ key
+pub key-again : (schema : Schema) (key : Key)
+    → places_of schema (map (name_at schema.columns) schema.key) ≡ schema.key
+    → all_differ nat_eq schema.key ≡ true → length schema.key ≡ length key
+    → key_written schema (map (name_at schema.columns) schema.key) key ≡ key
 key-again schema key again differ size =
-    ap (λ (places : List Place). filter_map (λ (place : Place). lookup (nat_eq place) (zip places key)) schema.key) again ∙ looked-up schema.key key differ size
+    ap (λ (places : List Place). filter_map
+    (λ (place : Place). lookup (nat_eq place) (zip places key)) schema.key) again
+    ∙ looked-up schema.key key differ size
 
-delete-reads : (columns : List Column) (places : List Place) (table : Name) (key : Key) → is_folded_name table ≡ true → 0 < length places → length places ≡ length key →
-    list_all (pair_fits columns) (zip places key) ≡ true → ReadsAs (delete_text columns places table key) (stmt.Delete table (map (name_at columns) places) key)
+pub delete-reads : (columns : List Column) (places : List Place) (table : Name) (key : Key)
+    → is_folded_name table ≡ true → 0 < length places → length places ≡ length key →
+    list_all (pair_fits columns) (zip places key) ≡ true
+    → ReadsAs (delete_text columns places table key)
+    (stmt.Delete table (map (name_at columns) places) key)
 delete-reads columns [] table key is some size fit = absurd (omega (arith, some))
 delete-reads columns (place ∷ places) table [] is some size fit = absurd (omega (arith, size))
 delete-reads columns (place ∷ places) table (value ∷ key) is some size fit =
@@ -139,26 +181,37 @@ delete-reads columns (place ∷ places) table (value ∷ key) is some size fit =
     let pairs : List Assigned = zip places key in
     let front : Kinds = Keyword KDelete ∷ Keyword KFrom ∷ Word table ∷ Keyword KWhere ∷ [] in
     let tail : Kinds = pair_said columns pair ++ pairs_later columns pairs [] in
-    let keys : Says text tail = subst (λ (t : Txt). Says t tail) (append-nil text) (pairs-say columns pair pairs [] [] fit (refl, refl) says-nothing) in
+    let keys : Says text tail =
+    subst (λ (t : Txt). Says t tail) (append-nil text)
+    (pairs-say columns pair pairs [] [] fit (refl, refl) says-nothing) in
     let says : Says (delete_text columns (place ∷ places) table (value ∷ key)) (front ++ tail) =
-    says-word (codes "DELETE") (codes "FROM " ++ (table ++ (codes " WHERE " ++ text))) KDelete _ delete-word
+    says-word (codes "DELETE") (codes "FROM " ++ (table ++ (codes " WHERE " ++ text))) KDelete _
+    delete-word
     (says-word (codes "FROM") (table ++ (codes " WHERE " ++ text)) KFrom _ from-word
-    (says-name_first table (codes "WHERE " ++ text) _ is (says-word (codes "WHERE") text KWhere _ where-word keys))) in
-    let calm : list_all is_calm tail ≡ true = pair-calm columns pair (pairs_later columns pairs []) (pairs-calm columns pairs) in
+    (says-name_first table (codes "WHERE " ++ text) _ is
+    (says-word (codes "WHERE") text KWhere _ where-word keys))) in
+    let calm : list_all is_calm tail ≡ true =
+    pair-calm columns pair (pairs_later columns pairs []) (pairs-calm columns pairs) in
     let names = names-of columns (place ∷ places) (value ∷ key) size in
     let kept = values-of columns (place ∷ places) (value ∷ key) size in
-    console-reads _ (front ++ tail) _ says (front-fit front tail 0 refl (omega arith) refl refl calm)
-    (delete (pairs-read columns pair pairs []) (ap (λ (n : List Name). stmt.Delete table n (value ∷ key)) (sym names) ∙ ap (λ (v : Key). stmt.Delete table (columns_of (map (pair_meant columns) (pair ∷ pairs))) v) (sym kept)))
+    console-reads _ (front ++ tail) _ says
+    (front-fit front tail 0 refl (omega arith) refl refl calm)
+    (delete (pairs-read columns pair pairs [])
+    (ap (λ (n : List Name). stmt.Delete table n (value ∷ key)) (sym names)
+    ∙ ap (λ (v : Key). stmt.Delete table (columns_of (map (pair_meant columns) (pair ∷ pairs))) v)
+    (sym kept)))
 
-pub deletes_read_back : DeletesReadBack
+abbrev pub deletes_read_back : DeletesReadBack
 deletes_read_back history schema table key row rule differ is size kept live =
     let named = names_folded schema.columns schema.key rule.columns_named rule.within in
     let again = places_again schema schema.key rule.differ rule.within in
     let names : List Name = map (name_at schema.columns) schema.key in
     record {
       statement = stmt.Delete table names key;
-      reads = delete-reads schema.columns schema.key table key is rule.some size (pairs-fit schema.columns schema.key key named kept);
+      reads = delete-reads schema.columns schema.key table key is rule.some size
+          (pairs-fit schema.columns schema.key key named kept);
       wanted = Remove table key;
-      wants = rw rule.known (ap (λ (k : Key). Some (Remove table k)) (key-again schema key again differ size));
+      wants = rw rule.known
+          (ap (λ (k : Key). Some (Remove table k)) (key-again schema key again differ size));
       comes = rw live refl;
     }

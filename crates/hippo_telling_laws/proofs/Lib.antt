@@ -6,4 +6,9 @@ pub mod RowTheorem
 pub mod NamePlaces
 pub mod RuleTheorem
 pub mod KeyTheorem
+pub mod ChangeTheorem
+pub mod WeightLemmas
+pub mod TableTheorem
 pub mod ReadingTheorem
+pub mod UnrefusedLemmas
+pub mod EntryTheorem

@@ -1,34 +1,40 @@
 -- What is told of acts that name no table reads back.
-use Rattle.std.proofs.Common.{◌≡◌, ℤ, true, false, ◌&&◌, [], ◌∷◌, ◌++◌, Ok, refl, sym, subst, codes}
+use Rattle.std.proofs.Common.{◌≡◌, ℤ, true, false, ◌&&◌, [], ◌∷◌, ◌++◌, Option, Some, Ok, refl, sym, subst, codes}
 use Rattle.std.specs.Fmt.{signed_decimal}
-use Rattle.std.proofs.lemmas.Bool.{and_parts}
+use Rattle.std.proofs.lemmas.Bool.{and_parts, false≢true}
 use Rattle.hippo_values.specs.Moments.{is_signed_number}
 use Rattle.hippo_values.specs.Texts.{Txt}
 use Rattle.hippo_values.specs.declared.names.Name.{Name}
+use Rattle.hippo_values.specs.declared.keywords.Keyword as words
 use Rattle.hippo_values.specs.declared.keywords.Keyword.TheVariants.{KAuthorize, KChoice, KCreate, KDeauthorize, KFor, KIn, KIs, KItem, KNo, KOn, KOpt, KOut, KPurpose, KRecipient, KYes}
 use Rattle.hippo_lexer.specs.Cutting.{outcome_of}
 use Rattle.hippo_lexer.specs.declared.kinds.Symbol.TheVariants.{Comma}
 use Rattle.hippo_lexer.specs.declared.kinds.TokenKind.TheVariants.{Word, Keyword, Number, Symbol}
 use Rattle.hippo_lexer.proofs.RunLemmas.{cut-is}
-use Rattle.hippo_model.specs.declared.entry.Act.TheVariants.{Create, Insert, Update, Delete, Purpose, Recipient, Item, Authorize, Deauthorize, Allow, Revoke, Choice, Asked}
-use Rattle.hippo_model.specs.declared.entry.Act.TheVariants as acts
+use Rattle.hippo_model.specs.declared.entry.Act.{Act}
+use Rattle.hippo_model.specs.declared.entry.Act.TheVariants.{Purpose, Recipient, Item, Authorize, Deauthorize, Choice}
 use Rattle.hippo_model.specs.declared.entry.ItemKind.TheVariants.{OptIn, OptOut}
+use Rattle.hippo_model.specs.declared.schema.Schema.{Schema}
 use Rattle.hippo_model.specs.declared.statement.Stmt.{Stmt}
 use Rattle.hippo_model.specs.declared.statement.Stmt.TheVariants as stmt
 use Rattle.hippo_model.specs.declared.statement.Wanted.TheVariants.{Ready}
 use Rattle.hippo_model.specs.Keepable.{is_folded_name}
+use Rattle.hippo_model.specs.Terms.{History}
 use Rattle.hippo_spj_reader.specs.Front.{Kinds}
 use Rattle.hippo_stmt_reader.specs.StatementGrammar.{IsConsole, create_purpose, create_recipient, create_opt_in, create_opt_out, authorize, deauthorize, choice_yes, choice_no, nothing, console}
 use Rattle.hippo_stmt_reader.proofs.StatementTheorem.{complete}
+use Rattle.hippo_catalog.specs.Catalogs.{known_at}
+use Rattle.hippo_catalog.specs.ChangesWanted.{wanted_by}
 use Rattle.hippo_reading_laws.proofs.FitWords.{AreFit, words-fit}
 use Rattle.hippo_telling_laws.proofs.FitLemmas.{flat-fit}
-use Rattle.hippo_telling.specs.Telling.{item_text, grant_text, choice_text}
-use Rattle.hippo_telling_laws.specs.TellingLaws.{ReadsAs, NamesReadBack}
-use Rattle.hippo_telling_laws.proofs.SayingLemmas.{Says, says-blank, says-word, says-last_word, says-name, says-name_first, says-last_name}
+use Rattle.hippo_telling.specs.Telling.{grant_text, told_act}
+use Rattle.hippo_telling_laws.specs.TellingLaws.{ReadsAs, ReadsBack, NamesReadBack}
+use Rattle.hippo_telling_laws.proofs.SayingLemmas.{Says, Spells, says-blank, says-word, says-last_word, says-name, says-name_first, says-last_name}
 use Rattle.hippo_telling_laws.proofs.SpellingLemmas.{says-number_first, says-comma, authorize-word, choice-word, create-word, deauthorize-word, for-word, in-word, is-word, item-word, no-word, on-word, opt-word, out-word, purpose-word, recipient-word, yes-word}
 
 -- a text that says a statement of the console is read as it
-pub console-reads : (text : Txt) (said : Kinds) (s : Stmt) → Says text said → AreFit said → IsConsole said s [] → ReadsAs text s
+pub console-reads : (text : Txt) (said : Kinds) (s : Stmt) → Says text said → AreFit said
+    → IsConsole said s [] → ReadsAs text s
 unfolding outcome_of
 console-reads text said s says fit is =
     let cut = says 0 in
@@ -36,52 +42,57 @@ console-reads text said s says fit is =
       tokens = cut.0;
       cut = cut-is 0 text (Ok cut.0) cut.1;
       words = words-fit cut.0 (subst AreFit (sym cut.2) fit);
-      found = complete cut.0 s (console (subst (λ (k : Kinds). IsConsole k s []) (sym cut.2) is) nothing);
+      found = complete cut.0 s
+          (console (subst (λ (k : Kinds). IsConsole k s []) (sym cut.2) is) nothing);
     }
 
-purpose-reads : (purpose : Name) → is_folded_name purpose ≡ true → ReadsAs (codes "CREATE PURPOSE " ++ purpose) (stmt.CreatePurpose purpose)
-purpose-reads purpose is =
-    let said : Kinds = Keyword KCreate ∷ Keyword KPurpose ∷ Word purpose ∷ [] in
-    let says : Says (codes "CREATE PURPOSE " ++ purpose) said =
-    says-word (codes "CREATE") (codes "PURPOSE " ++ purpose) KCreate _ create-word
-    (says-word (codes "PURPOSE") purpose KPurpose _ purpose-word (says-last_name purpose is)) in
-    console-reads _ said _ says (flat-fit said refl refl refl) create_purpose
+-- CREATE, what is created and its name
+abbrev created_said : words.Keyword → Name → Kinds
+created_said keyword name = Keyword KCreate ∷ Keyword keyword ∷ Word name ∷ []
 
-recipient-reads : (recipient : Name) → is_folded_name recipient ≡ true → ReadsAs (codes "CREATE RECIPIENT " ++ recipient) (stmt.CreateRecipient recipient)
-recipient-reads recipient is =
-    let said : Kinds = Keyword KCreate ∷ Keyword KRecipient ∷ Word recipient ∷ [] in
-    let says : Says (codes "CREATE RECIPIENT " ++ recipient) said =
-    says-word (codes "CREATE") (codes "RECIPIENT " ++ recipient) KCreate _ create-word
-    (says-word (codes "RECIPIENT") recipient KRecipient _ recipient-word (says-last_name recipient is)) in
-    console-reads _ said _ says (flat-fit said refl refl refl) create_recipient
+pub created-reads : (word : Txt) (keyword : words.Keyword) (name : Name) (s : Stmt)
+    → Spells word keyword
+    → is_folded_name name ≡ true → AreFit (created_said keyword name)
+    → IsConsole (created_said keyword name) s []
+    → ReadsAs (codes "CREATE " ++ (word ++ 32 ∷ name)) s
+created-reads word keyword name s spells is fit grammatical =
+    let says : Says (codes "CREATE " ++ (word ++ 32 ∷ name)) (created_said keyword name) =
+    says-word (codes "CREATE") (word ++ 32 ∷ name) KCreate _ create-word
+    (says-word word name keyword _ spells (says-last_name name is)) in
+    console-reads _ (created_said keyword name) s says fit grammatical
 
-opt_in-reads : (item : Name) → is_folded_name item ≡ true → ReadsAs (item_text item OptIn) (stmt.CreateItem item OptIn)
-opt_in-reads item is =
-    let said : Kinds = Keyword KCreate ∷ Keyword KItem ∷ Word item ∷ Keyword KOpt ∷ Keyword KIn ∷ [] in
-    let says : Says (item_text item OptIn) said =
-    says-word (codes "CREATE") (codes "ITEM " ++ (item ++ codes " OPT IN")) KCreate _ create-word
-    (says-word (codes "ITEM") (item ++ codes " OPT IN") KItem _ item-word
-    (says-name_first item (codes "OPT IN") _ is (says-word (codes "OPT") (codes "IN") KOpt _ opt-word (says-last_word (codes "IN") KIn in-word)))) in
-    console-reads _ said _ says (flat-fit said refl refl refl) create_opt_in
+-- an item, and how silence on it is read
+abbrev item_said : Name → words.Keyword → Kinds
+item_said item keyword =
+    Keyword KCreate ∷ Keyword KItem ∷ Word item ∷ Keyword KOpt ∷ Keyword keyword ∷ []
 
-opt_out-reads : (item : Name) → is_folded_name item ≡ true → ReadsAs (item_text item OptOut) (stmt.CreateItem item OptOut)
-opt_out-reads item is =
-    let said : Kinds = Keyword KCreate ∷ Keyword KItem ∷ Word item ∷ Keyword KOpt ∷ Keyword KOut ∷ [] in
-    let says : Says (item_text item OptOut) said =
-    says-word (codes "CREATE") (codes "ITEM " ++ (item ++ codes " OPT OUT")) KCreate _ create-word
-    (says-word (codes "ITEM") (item ++ codes " OPT OUT") KItem _ item-word
-    (says-name_first item (codes "OPT OUT") _ is (says-word (codes "OPT") (codes "OUT") KOpt _ opt-word (says-last_word (codes "OUT") KOut out-word)))) in
-    console-reads _ said _ says (flat-fit said refl refl refl) create_opt_out
+pub item-reads : (item : Name) (word : Txt) (keyword : words.Keyword) (s : Stmt)
+    → Spells word keyword
+    → is_folded_name item ≡ true → AreFit (item_said item keyword)
+    → IsConsole (item_said item keyword) s []
+    → ReadsAs (codes "CREATE ITEM " ++ (item ++ (codes " OPT " ++ word))) s
+item-reads item word keyword s spells is fit grammatical =
+    let says : Says (codes "CREATE ITEM " ++ (item ++ (codes " OPT " ++ word)))
+    (item_said item keyword) =
+    says-word (codes "CREATE") (codes "ITEM " ++ (item ++ (codes " OPT " ++ word))) KCreate _
+    create-word
+    (says-word (codes "ITEM") (item ++ (codes " OPT " ++ word)) KItem _ item-word
+    (says-name_first item (codes "OPT " ++ word) _ is
+    (says-word (codes "OPT") word KOpt _ opt-word (says-last_word word keyword spells)))) in
+    console-reads _ (item_said item keyword) s says fit grammatical
 
 -- three names in lower case
-pub three-names : (a b c : Name) → (is_folded_name a && is_folded_name b && is_folded_name c) ≡ true → (is_folded_name a ≡ true) × (is_folded_name b ≡ true) × (is_folded_name c ≡ true)
+pub three-names : (a b c : Name) → (is_folded_name a && is_folded_name b && is_folded_name c) ≡ true
+    → (is_folded_name a ≡ true) × (is_folded_name b ≡ true) × (is_folded_name c ≡ true)
 three-names a b c are =
     let two = and_parts (is_folded_name a && is_folded_name b) (is_folded_name c) are in
     let one = and_parts (is_folded_name a) (is_folded_name b) two.0 in
     (one.0, one.1, two.1)
 
-grant-says : (user purpose recipient : Name) → (is_folded_name user && is_folded_name purpose && is_folded_name recipient) ≡ true →
-    Says (grant_text user purpose recipient) (Word user ∷ Keyword KFor ∷ Word purpose ∷ Symbol Comma ∷ Word recipient ∷ [])
+grant-says : (user purpose recipient : Name)
+    → (is_folded_name user && is_folded_name purpose && is_folded_name recipient) ≡ true →
+    Says (grant_text user purpose recipient)
+    (Word user ∷ Keyword KFor ∷ Word purpose ∷ Symbol Comma ∷ Word recipient ∷ [])
 grant-says user purpose recipient are =
     let named = three-names user purpose recipient are in
     says-name_first user (codes "FOR " ++ (purpose ++ (codes ", " ++ recipient))) _ named.0
@@ -89,53 +100,93 @@ grant-says user purpose recipient are =
     (says-name purpose (codes ", " ++ recipient) _ named.1 refl
     (says-comma (32 ∷ recipient) _ (says-blank recipient _ (says-last_name recipient named.2)))))
 
-authorize-reads : (user purpose recipient : Name) → (is_folded_name user && is_folded_name purpose && is_folded_name recipient) ≡ true →
-    ReadsAs (codes "AUTHORIZE " ++ grant_text user purpose recipient) (stmt.Authorize user purpose recipient)
-authorize-reads user purpose recipient are =
-    let said : Kinds = Keyword KAuthorize ∷ Word user ∷ Keyword KFor ∷ Word purpose ∷ Symbol Comma ∷ Word recipient ∷ [] in
-    let says : Says (codes "AUTHORIZE " ++ grant_text user purpose recipient) said =
-    says-word (codes "AUTHORIZE") (grant_text user purpose recipient) KAuthorize _ authorize-word (grant-says user purpose recipient are) in
-    console-reads _ said _ says (flat-fit said refl refl refl) authorize
+abbrev grant_said : words.Keyword → Name → Name → Name → Kinds
+grant_said keyword user purpose recipient =
+    Keyword keyword ∷ Word user ∷ Keyword KFor ∷ Word purpose ∷ Symbol Comma ∷ Word recipient ∷ []
 
-deauthorize-reads : (user purpose recipient : Name) → (is_folded_name user && is_folded_name purpose && is_folded_name recipient) ≡ true →
-    ReadsAs (codes "DEAUTHORIZE " ++ grant_text user purpose recipient) (stmt.Deauthorize user purpose recipient)
-deauthorize-reads user purpose recipient are =
-    let said : Kinds = Keyword KDeauthorize ∷ Word user ∷ Keyword KFor ∷ Word purpose ∷ Symbol Comma ∷ Word recipient ∷ [] in
-    let says : Says (codes "DEAUTHORIZE " ++ grant_text user purpose recipient) said =
-    says-word (codes "DEAUTHORIZE") (grant_text user purpose recipient) KDeauthorize _ deauthorize-word (grant-says user purpose recipient are) in
-    console-reads _ said _ says (flat-fit said refl refl refl) deauthorize
+pub grant-reads : (word : Txt) (keyword : words.Keyword) (user purpose recipient : Name) (s : Stmt)
+    → Spells word keyword
+    → (is_folded_name user && is_folded_name purpose && is_folded_name recipient) ≡ true
+    → AreFit (grant_said keyword user purpose recipient)
+    → IsConsole (grant_said keyword user purpose recipient) s []
+    → ReadsAs (word ++ 32 ∷ grant_text user purpose recipient) s
+grant-reads word keyword user purpose recipient s spells are fit grammatical =
+    let said : Kinds = grant_said keyword user purpose recipient in
+    let says : Says (word ++ 32 ∷ grant_text user purpose recipient) said =
+    says-word word (grant_text user purpose recipient) keyword _ spells
+    (grant-says user purpose recipient are) in
+    console-reads _ said s says fit grammatical
 
-yes-reads : (subject : ℤ) (item : Name) → is_signed_number subject ≡ true → is_folded_name item ≡ true → ReadsAs (choice_text subject item true) (stmt.Choice subject item true)
-yes-reads subject item fits is =
-    let said : Kinds = Keyword KChoice ∷ Number subject ∷ Keyword KOn ∷ Word item ∷ Keyword KIs ∷ Keyword KYes ∷ [] in
-    let says : Says (choice_text subject item true) said =
-    says-word (codes "CHOICE") (signed_decimal subject ++ (codes " ON " ++ (item ++ codes " IS YES"))) KChoice _ choice-word
-    (says-number_first subject (codes "ON " ++ (item ++ codes " IS YES")) _ fits
-    (says-word (codes "ON") (item ++ codes " IS YES") KOn _ on-word
-    (says-name_first item (codes "IS YES") _ is (says-word (codes "IS") (codes "YES") KIs _ is-word (says-last_word (codes "YES") KYes yes-word))))) in
-    console-reads _ said _ says (flat-fit said refl refl refl) choice_yes
+-- a patient's answer
+abbrev choice_said : ℤ → Name → words.Keyword → Kinds
+choice_said subject item answer =
+    Keyword KChoice ∷ Number subject ∷ Keyword KOn ∷ Word item ∷ Keyword KIs ∷ Keyword answer ∷ []
 
-no-reads : (subject : ℤ) (item : Name) → is_signed_number subject ≡ true → is_folded_name item ≡ true → ReadsAs (choice_text subject item false) (stmt.Choice subject item false)
-no-reads subject item fits is =
-    let said : Kinds = Keyword KChoice ∷ Number subject ∷ Keyword KOn ∷ Word item ∷ Keyword KIs ∷ Keyword KNo ∷ [] in
-    let says : Says (choice_text subject item false) said =
-    says-word (codes "CHOICE") (signed_decimal subject ++ (codes " ON " ++ (item ++ codes " IS NO"))) KChoice _ choice-word
-    (says-number_first subject (codes "ON " ++ (item ++ codes " IS NO")) _ fits
-    (says-word (codes "ON") (item ++ codes " IS NO") KOn _ on-word
-    (says-name_first item (codes "IS NO") _ is (says-word (codes "IS") (codes "NO") KIs _ is-word (says-last_word (codes "NO") KNo no-word))))) in
-    console-reads _ said _ says (flat-fit said refl refl refl) choice_no
+pub choice-reads : (subject : ℤ) (item : Name) (word : Txt) (answer : words.Keyword) (s : Stmt)
+    → Spells word answer
+    → is_signed_number subject ≡ true → is_folded_name item ≡ true
+    → AreFit (choice_said subject item answer)
+    → IsConsole (choice_said subject item answer) s []
+    → ReadsAs (codes
+    "CHOICE " ++ (signed_decimal subject ++ (codes " ON " ++ (item ++ (codes " IS " ++ word))))) s
+choice-reads subject item word answer s spells fits is fit grammatical =
+    let said : Kinds = choice_said subject item answer in
+    let behind : Txt = item ++ (codes " IS " ++ word) in
+    let says : Says (codes "CHOICE " ++ (signed_decimal subject ++ (codes " ON " ++ behind))) said =
+    says-word (codes "CHOICE") (signed_decimal subject ++ (codes " ON " ++ behind)) KChoice _
+    choice-word
+    (says-number_first subject (codes "ON " ++ behind) _ fits
+    (says-word (codes "ON") behind KOn _ on-word
+    (says-name_first item (codes "IS " ++ word) _ is
+    (says-word (codes "IS") word KIs _ is-word (says-last_word word answer spells))))) in
+    console-reads _ said s says fit grammatical
 
-pub names_read_back : NamesReadBack
-names_read_back history schema (Purpose purpose) is kept = record { statement = stmt.CreatePurpose purpose; reads = purpose-reads purpose kept; wanted = Ready (acts.Purpose purpose); wants = refl; comes = refl }
-names_read_back history schema (Recipient recipient) is kept = record { statement = stmt.CreateRecipient recipient; reads = recipient-reads recipient kept; wanted = Ready (acts.Recipient recipient); wants = refl; comes = refl }
-names_read_back history schema (Item item OptIn) is kept = record { statement = stmt.CreateItem item OptIn; reads = opt_in-reads item kept; wanted = Ready (acts.Item item OptIn); wants = refl; comes = refl }
-names_read_back history schema (Item item OptOut) is kept = record { statement = stmt.CreateItem item OptOut; reads = opt_out-reads item kept; wanted = Ready (acts.Item item OptOut); wants = refl; comes = refl }
-names_read_back history schema (Authorize user purpose recipient) is kept = record { statement = stmt.Authorize user purpose recipient; reads = authorize-reads user purpose recipient kept; wanted = Ready (acts.Authorize user purpose recipient); wants = refl; comes = refl }
-names_read_back history schema (Deauthorize user purpose recipient) is kept = record { statement = stmt.Deauthorize user purpose recipient; reads = deauthorize-reads user purpose recipient kept; wanted = Ready (acts.Deauthorize user purpose recipient); wants = refl; comes = refl }
+-- a statement that asks for an act as it stands
+abbrev pub ready : (history : History) (schema : Option Schema) (act : Act) (s : Stmt)
+    → ReadsAs (told_act schema act) s
+    → wanted_by (known_at history) s ≡ Some (Ready act) → ReadsBack history schema act
+ready history schema act s reads wants = record {
+  statement = s;
+  reads = reads;
+  wanted = Ready act;
+  wants = wants;
+  comes = refl;
+}
+
+abbrev pub names_read_back : NamesReadBack
+names_read_back history schema (Purpose purpose) is kept =
+    ready history schema (Purpose purpose) (stmt.CreatePurpose purpose)
+    (created-reads (codes "PURPOSE") KPurpose purpose _ purpose-word kept
+    (flat-fit (created_said KPurpose purpose) refl refl refl) create_purpose) refl
+names_read_back history schema (Recipient recipient) is kept =
+    ready history schema (Recipient recipient) (stmt.CreateRecipient recipient)
+    (created-reads (codes "RECIPIENT") KRecipient recipient _ recipient-word kept
+    (flat-fit (created_said KRecipient recipient) refl refl refl) create_recipient) refl
+names_read_back history schema (Item item OptIn) is kept =
+    ready history schema (Item item OptIn) (stmt.CreateItem item OptIn)
+    (item-reads item (codes "IN") KIn _ in-word kept (flat-fit (item_said item KIn) refl refl refl)
+    create_opt_in) refl
+names_read_back history schema (Item item OptOut) is kept =
+    ready history schema (Item item OptOut) (stmt.CreateItem item OptOut)
+    (item-reads item (codes "OUT") KOut _ out-word kept
+    (flat-fit (item_said item KOut) refl refl refl) create_opt_out) refl
+names_read_back history schema (Authorize user purpose recipient) is kept =
+    ready history schema (Authorize user purpose recipient) (stmt.Authorize user purpose recipient)
+    (grant-reads (codes "AUTHORIZE") KAuthorize user purpose recipient _ authorize-word kept
+    (flat-fit (grant_said KAuthorize user purpose recipient) refl refl refl) authorize) refl
+names_read_back history schema (Deauthorize user purpose recipient) is kept =
+    ready history schema (Deauthorize user purpose recipient)
+    (stmt.Deauthorize user purpose recipient)
+    (grant-reads (codes "DEAUTHORIZE") KDeauthorize user purpose recipient _ deauthorize-word kept
+    (flat-fit (grant_said KDeauthorize user purpose recipient) refl refl refl) deauthorize) refl
 names_read_back history schema (Choice subject item true) is kept =
     let parts = and_parts (is_signed_number subject) (is_folded_name item) kept in
-    record { statement = stmt.Choice subject item true; reads = yes-reads subject item parts.0 parts.1; wanted = Ready (acts.Choice subject item true); wants = refl; comes = refl }
+    ready history schema (Choice subject item true) (stmt.Choice subject item true)
+    (choice-reads subject item (codes "YES") KYes _ yes-word parts.0 parts.1
+    (flat-fit (choice_said subject item KYes) refl refl refl) choice_yes) refl
 names_read_back history schema (Choice subject item false) is kept =
     let parts = and_parts (is_signed_number subject) (is_folded_name item) kept in
-    record { statement = stmt.Choice subject item false; reads = no-reads subject item parts.0 parts.1; wanted = Ready (acts.Choice subject item false); wants = refl; comes = refl }
-names_read_back history schema act is kept = absurd cc
+    ready history schema (Choice subject item false) (stmt.Choice subject item false)
+    (choice-reads subject item (codes "NO") KNo _ no-word parts.0 parts.1
+    (flat-fit (choice_said subject item KNo) refl refl refl) choice_no) refl
+names_read_back history schema act is kept = absurd (false≢true is)

@@ -35,7 +35,9 @@ map-same (value ∷ row) = ap (λ (rest : Row). value ∷ rest) (map-same row)
 
 -- what the literals behind the first say, and then `)`
 abbrev others : Row → Kinds
-others row = later_said literal_text literal_said same value_is_keepable EndsLiteral comma (Symbol Comma) row (Symbol RightParen ∷ [])
+others row =
+    later_said literal_text literal_said same value_is_keepable EndsLiteral comma (Symbol Comma) row
+    (Symbol RightParen ∷ [])
 
 pub literal-calm : (value : Value) → list_all is_calm (literal_said value) ≡ true
 literal-calm values.Null = refl
@@ -45,33 +47,45 @@ literal-calm (values.Day day) = refl
 
 others-calm : (row : Row) → list_all is_calm (others row) ≡ true
 others-calm [] = refl
-others-calm (value ∷ row) = calm-append (literal_said value) (others row) (literal-calm value) (others-calm row)
+others-calm (value ∷ row) =
+    calm-append (literal_said value) (others row) (literal-calm value) (others-calm row)
 
-row-says : (value : Value) (row : Row) → list_all value_is_keepable (value ∷ row) ≡ true → Says (literals_text (value ∷ row) ++ codes ")") (literal_said value ++ others row)
+row-says : (value : Value) (row : Row) → list_all value_is_keepable (value ∷ row) ≡ true
+    → Says (literals_text (value ∷ row) ++ codes ")") (literal_said value ++ others row)
 row-says value row kept =
     says-joined literal_text literal_said same value_is_keepable EndsLiteral comma (Symbol Comma)
-    says-literal (λ rest said more. says-comma (32 ∷ rest) said (says-blank rest said more)) (λ rest. (refl, refl))
-    value row (codes ")") (Symbol RightParen ∷ []) kept (refl, refl) (says-closing [] [] says-nothing)
+    says-literal (λ rest said more. says-comma (32 ∷ rest) said (says-blank rest said more))
+    (λ rest. (refl, refl))
+    value row (codes ")") (Symbol RightParen ∷ []) kept (refl, refl)
+    (says-closing [] [] says-nothing)
 
-pub insert-reads : (table : Name) (row : Row) → is_folded_name table ≡ true → 0 < length row → list_all value_is_keepable row ≡ true → ReadsAs (insert_text table row) (stmt.Insert table row)
+pub insert-reads : (table : Name) (row : Row) → is_folded_name table ≡ true → 0 < length row
+    → list_all value_is_keepable row ≡ true
+    → ReadsAs (insert_text table row) (stmt.Insert table row)
 insert-reads table [] is some kept = absurd (omega (arith, some))
 insert-reads table (value ∷ row) is some kept =
-    let front : Kinds = Keyword KInsert ∷ Keyword KInto ∷ Word table ∷ Keyword KValues ∷ Symbol LeftParen ∷ [] in
+    let front : Kinds =
+    Keyword KInsert ∷ Keyword KInto ∷ Word table ∷ Keyword KValues ∷ Symbol LeftParen ∷ [] in
     let inside : Txt = literals_text (value ∷ row) ++ codes ")" in
     let tail : Kinds = literal_said value ++ others row in
     let says : Says (insert_text table (value ∷ row)) (front ++ tail) =
-    says-word (codes "INSERT") (codes "INTO " ++ (table ++ (codes " VALUES (" ++ inside))) KInsert _ insert-word
+    says-word (codes "INSERT") (codes "INTO " ++ (table ++ (codes " VALUES (" ++ inside))) KInsert _
+    insert-word
     (says-word (codes "INTO") (table ++ (codes " VALUES (" ++ inside)) KInto _ into-word
     (says-name_first table (codes "VALUES (" ++ inside) _ is
     (says-word (codes "VALUES") (codes "(" ++ inside) KValues _ values-word
     (says-opening inside tail (row-says value row kept))))) in
-    let calm : list_all is_calm tail ≡ true = calm-append (literal_said value) (others row) (literal-calm value) (others-calm row) in
+    let calm : list_all is_calm tail ≡ true =
+    calm-append (literal_said value) (others row) (literal-calm value) (others-calm row) in
     let read : IsListOf IsLiteral (Symbol Comma) tail (value ∷ row) (Symbol RightParen ∷ []) =
-    subst (λ (r : Row). IsListOf IsLiteral (Symbol Comma) tail r (Symbol RightParen ∷ [])) (map-same (value ∷ row))
-    (list-read literal_text literal_said same value_is_keepable EndsLiteral comma (Symbol Comma) IsLiteral literal-is value row (Symbol RightParen ∷ [])) in
-    console-reads _ (front ++ tail) _ says (front-fit front tail 1 refl (omega arith) refl refl calm) (insert read)
+    subst (λ (r : Row). IsListOf IsLiteral (Symbol Comma) tail r (Symbol RightParen ∷ []))
+    (map-same (value ∷ row))
+    (list-read literal_text literal_said same value_is_keepable EndsLiteral comma
+    (Symbol Comma) IsLiteral literal-is value row (Symbol RightParen ∷ [])) in
+    console-reads _ (front ++ tail) _ says
+    (front-fit front tail 1 refl (omega arith) refl refl calm) (insert read)
 
-pub inserts_read_back : InsertsReadBack
+abbrev pub inserts_read_back : InsertsReadBack
 inserts_read_back history schema table row known free is some kept = record {
   statement = stmt.Insert table row;
   reads = insert-reads table row is some kept;

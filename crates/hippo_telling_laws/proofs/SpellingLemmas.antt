@@ -36,42 +36,54 @@ digits_pass (digit ∷ digits) are =
     let first : is_ascii_digit digit ≡ true = grind (arith, nat_tests) in
     and_from _ _ first (digits_pass digits are.1)
 
-decimal_digits : (n : ℕ) → n < 2 ^ 64 → AreDigits (decimal n)
-decimal_digits n small = let numeral = (decimal_is_IsNumeral n small).0 in (numeral.0, digits_pass (decimal n) numeral.1)
+pub decimal_digits : (n : ℕ) → n < 2 ^ 64 → AreDigits (decimal n)
+decimal_digits n small = let numeral = (decimal_is_IsNumeral n small).0 in
+    (numeral.0, digits_pass (decimal n) numeral.1)
 
 written_number : (number : ℤ) → IsSignedNumber number → IsNumber (signed_decimal number) number
 written_number (pos n) fits =
     let small : n < 2 ^ 64 = omega (arith, ints, fits.0, fits.1) in
-    plain (decimal n) (pos n) (decimal_digits n small) (ap pos (sym (decimal_is_IsNumeral n small).1))
+    plain (decimal n) (pos n) (decimal_digits n small)
+    (ap pos (sym (decimal_is_IsNumeral n small).1))
 written_number (negsuc n) fits =
     let small : suc n < 2 ^ 64 = omega (arith, ints, fits.0, fits.1) in
     negative (45 ∷ decimal (suc n)) (decimal (suc n)) (negsuc n) (decimal_digits (suc n) small) refl
     (ap (λ (m : ℕ). neg_ℤ (pos m)) (sym (decimal_is_IsNumeral (suc n) small).1))
 
-pub says-number : (number : ℤ) (rest : Txt) (said : Kinds) → is_signed_number number ≡ true → EndsWord rest → Says rest said → Says (signed_decimal number ++ rest) (Number number ∷ said)
+pub says-number : (number : ℤ) (rest : Txt) (said : Kinds) → is_signed_number number ≡ true
+    → EndsWord rest → Says rest said → Says (signed_decimal number ++ rest) (Number number ∷ said)
 says-number number rest said is ends more =
     let fits = fits-signed number is in
-    says-token (signed_decimal number) rest (Number number) said (a_number (signed_decimal number) rest number (written_number number fits) fits ends) more
+    says-token (signed_decimal number) rest (Number number) said
+    (a_number (signed_decimal number) rest number (written_number number fits) fits ends) more
 
-pub says-number_first : (number : ℤ) (rest : Txt) (said : Kinds) → is_signed_number number ≡ true → Says rest said → Says (signed_decimal number ++ 32 ∷ rest) (Number number ∷ said)
-says-number_first number rest said is more = says-number number (32 ∷ rest) said is refl (says-blank rest said more)
+pub says-number_first : (number : ℤ) (rest : Txt) (said : Kinds) → is_signed_number number ≡ true
+    → Says rest said → Says (signed_decimal number ++ 32 ∷ rest) (Number number ∷ said)
+says-number_first number rest said is more =
+    says-number number (32 ∷ rest) said is refl (says-blank rest said more)
 
 -- the signs
-pub says-comma : (rest : Txt) (said : Kinds) → Says rest said → Says (44 ∷ rest) (Symbol Comma ∷ said)
+pub says-comma : (rest : Txt) (said : Kinds) → Says rest said
+    → Says (44 ∷ rest) (Symbol Comma ∷ said)
 unfolding sign_table sign_of
 says-comma rest said more = says-sign (44 ∷ []) rest Comma said refl (λ byte behind is. refl) more
 
-pub says-equal : (rest : Txt) (said : Kinds) → Says rest said → Says (61 ∷ rest) (Symbol Equal ∷ said)
+pub says-equal : (rest : Txt) (said : Kinds) → Says rest said
+    → Says (61 ∷ rest) (Symbol Equal ∷ said)
 unfolding sign_table sign_of
 says-equal rest said more = says-sign (61 ∷ []) rest Equal said refl (λ byte behind is. refl) more
 
-pub says-opening : (rest : Txt) (said : Kinds) → Says rest said → Says (40 ∷ rest) (Symbol LeftParen ∷ said)
+pub says-opening : (rest : Txt) (said : Kinds) → Says rest said
+    → Says (40 ∷ rest) (Symbol LeftParen ∷ said)
 unfolding sign_table sign_of
-says-opening rest said more = says-sign (40 ∷ []) rest LeftParen said refl (λ byte behind is. refl) more
+says-opening rest said more =
+    says-sign (40 ∷ []) rest LeftParen said refl (λ byte behind is. refl) more
 
-pub says-closing : (rest : Txt) (said : Kinds) → Says rest said → Says (41 ∷ rest) (Symbol RightParen ∷ said)
+pub says-closing : (rest : Txt) (said : Kinds) → Says rest said
+    → Says (41 ∷ rest) (Symbol RightParen ∷ said)
 unfolding sign_table sign_of
-says-closing rest said more = says-sign (41 ∷ []) rest RightParen said refl (λ byte behind is. refl) more
+says-closing rest said more =
+    says-sign (41 ∷ []) rest RightParen said refl (λ byte behind is. refl) more
 
 -- digits are no quotes
 unquoted : (n : ℕ) → is_quote (48 + n) ≡ false
@@ -79,7 +91,17 @@ unquoted n = ne_eqb (48 + n) 39 (λ same. absurd (omega arith))
 
 date-plain : (y m d : ℕ) → doubled (date_text y m d) ≡ date_text y m d
 date-plain y m d =
-    rw (unquoted (y / 100 / 10), unquoted (y / 100 % 10), unquoted (y % 100 / 10), unquoted (y % 100 % 10), unquoted (m / 10), unquoted (m % 10), unquoted (d / 10), unquoted (d % 10))
+    rw (
+      unquoted (y / 100 / 10),
+      unquoted (y / 100 % 10),
+      unquoted (y % 100 / 10),
+      unquoted
+          (y % 100 % 10),
+      unquoted (m / 10),
+      unquoted (m % 10),
+      unquoted (d / 10),
+      unquoted (d % 10),
+    )
     refl
 
 day-plain : (day : ℤ) → doubled (day_text day) ≡ day_text day
@@ -87,9 +109,12 @@ unfolding day_text
 day-plain day = date-plain (year_of day) (month_of day) (day_of_month day)
 
 day-fits : (day : ℤ) → is_day day ≡ true → IsDayNumber day
-day-fits day fits = let parts = and_parts (int_le first_day day) (int_le day last_day) fits in grind (arith, ints)
+day-fits day fits = let parts = and_parts (int_le first_day day) (int_le day last_day) fits in
+    grind (arith, ints)
 
-pub says-day : (day : ℤ) (rest : Txt) (said : Kinds) → is_day day ≡ true → begins_with is_quote rest ≡ false → Says rest said → Says ((codes "DATE '" ++ (day_text day ++ codes "'")) ++ rest) (Day day ∷ said)
+pub says-day : (day : ℤ) (rest : Txt) (said : Kinds) → is_day day ≡ true → begins_with is_quote rest
+    ≡ false → Says rest said → Says ((codes "DATE '" ++ (day_text day ++ codes "'")) ++ rest)
+    (Day day ∷ said)
 unfolding keywords
 says-day day rest said fits ends more =
     let text : Txt = day_text day in
@@ -100,8 +125,11 @@ says-day day rest said fits ends more =
       date = refl;
       quotation = record { gap = refl; parts = refl; ends = ends };
     } in
-    let spelled : written ≡ codes "DATE" ++ (32 ∷ quoted text) = ap (λ (t : Txt). codes "DATE '" ++ (t ++ codes "'")) (sym (day-plain day)) in
-    says-token written rest (Day day) said (a_day written (codes "DATE") behind (32 ∷ []) text rest day opens (day-fits day fits, refl) spelled) more
+    let spelled : written ≡ codes "DATE" ++ (32 ∷ quoted text) =
+    ap (λ (t : Txt). codes "DATE '" ++ (t ++ codes "'")) (sym (day-plain day)) in
+    says-token written rest (Day day) said
+    (a_day written (codes "DATE") behind (32 ∷ []) text rest day opens (day-fits day fits, refl)
+    spelled) more
 
 -- the words
 pub allow-word : Spells (codes "ALLOW") KAllow
@@ -258,9 +286,13 @@ literal_said (values.Day day) = Day day ∷ []
 abbrev pub EndsLiteral : Txt → Type 0
 EndsLiteral rest = EndsWord rest × (begins_with is_quote rest ≡ false)
 
-pub says-literal : (value : Value) (rest : Txt) (said : Kinds) → value_is_keepable value ≡ true → EndsLiteral rest → Says rest said → Says (literal_text value ++ rest) (literal_said value ++ said)
-says-literal values.Null rest said fits ends more = says-keyword (codes "NULL") rest KNull said null-word ends.0 more
-says-literal (values.Int number) rest said fits ends more = says-number number rest said fits ends.0 more
+pub says-literal : (value : Value) (rest : Txt) (said : Kinds) → value_is_keepable value ≡ true
+    → EndsLiteral rest → Says rest said
+    → Says (literal_text value ++ rest) (literal_said value ++ said)
+says-literal values.Null rest said fits ends more =
+    says-keyword (codes "NULL") rest KNull said null-word ends.0 more
+says-literal (values.Int number) rest said fits ends more =
+    says-number number rest said fits ends.0 more
 says-literal (values.Text text) rest said fits ends more = says-quoted text rest said ends.1 more
 says-literal (values.Day day) rest said fits ends more = says-day day rest said fits ends.1 more
 
