@@ -1,7 +1,7 @@
 //! What a statement that changes something asks for, or why it is refused.
 ghost use Rattle.std.specs.Prelude.{◌≡◌, false, if◌then◌else◌, Some, Err};
 ghost use Rattle.hippo_model.specs.declared.name_fault.NameFault.TheVariants as faults;
-ghost use Rattle.hippo_model.specs.declared.statement.Stmt.TheVariants.{Choice, Insert};
+ghost use Rattle.hippo_model.specs.declared.statement.Stmt.TheVariants.{CreatePurpose, CreateRecipient, CreateItem, Choice, Insert};
 ghost use Rattle.hippo_model.specs.declared.statement.Wanted.TheVariants.{Ready};
 ghost use Rattle.hippo_model.specs.declared.entry.Act.TheVariants as acts;
 ghost use Rattle.hippo_catalog.specs.Refusals.{Resolves, unknown_pair};
@@ -11,11 +11,11 @@ ghost use Rattle.hippo_changes.specs.Checking.{Checks};
 
 use crate::keys::{check_delete, check_update};
 use crate::names::{check_item, check_new, known_table};
-use crate::rules::{RuleNames, check_allow, check_revoke};
-use crate::tables::{Draft, check_create_table};
+use crate::rules::{check_allow, check_revoke};
+use crate::tables::check_create_table;
 use crate::values::{check_new_row, key_of};
 use hippo_catalog::{Catalog, check_pair};
-use hippo_model::{Act, Cells, NameFault, Stmt, Wanted};
+use hippo_model::{Act, Cells, ItemKind, NameFault, Stmt, Wanted};
 use hippo_values::{Duplicate, Name};
 use std::alloc::Global;
 
@@ -99,12 +99,77 @@ fn check_insert(
     Ok(Wanted::Add { table, row, key })
 }
 
-// INSERT, UPDATE and DELETE.
-fn check_row_change(alloc: Global, catalog: &Catalog, change: &Stmt) -> Result<Wanted, NameFault>
-    ensures answer { Checks catalog.now.names change.now result }
-    ensures other { changes_something change.now ≡ false → result ≡ Err faults.Memory }
+fn check_purpose(alloc: Global, catalog: &Catalog, name: &Name) -> Result<Wanted, NameFault>
+    ensures { Checks catalog.now.names (CreatePurpose name.now) result }
 {
-    match change {
+    let purpose = new_name(alloc, catalog.has_purpose(name), name)?;
+    Ok(Wanted::Ready(Act::Purpose(purpose)))
+}
+
+fn check_recipient(alloc: Global, catalog: &Catalog, name: &Name) -> Result<Wanted, NameFault>
+    ensures { Checks catalog.now.names (CreateRecipient name.now) result }
+{
+    let recipient = new_name(alloc, catalog.has_recipient(name), name)?;
+    Ok(Wanted::Ready(Act::Recipient(recipient)))
+}
+
+fn check_new_item(
+    alloc: Global,
+    catalog: &Catalog,
+    item: &Name,
+    kind: ItemKind,
+) -> Result<Wanted, NameFault>
+    ensures { Checks catalog.now.names (CreateItem item.now kind) result }
+{
+    let item = new_name(alloc, catalog.item(item).is_some(), item)?;
+    Ok(Wanted::Ready(Act::Item { item, kind }))
+}
+
+/// What a statement that changes something asks for, or the first refusal that holds: its names and types are right
+/// where a catalog's names stand. What it does may still wait for the rows that are there. A statement that changes
+/// nothing is answered with want of memory; of one that does, any error else is its first refusal.
+pub fn check_change(alloc: Global, catalog: &Catalog, statement: &Stmt) -> Result<Wanted, NameFault>
+    ensures answer { Grants (change_refused catalog.now.names statement.now)
+        (wanted_by catalog.now.names statement.now) result }
+    ensures other { changes_something statement.now ≡ false → result ≡ Err faults.Memory }
+{
+    match statement {
+        Stmt::CreateTable {
+            table,
+            columns,
+            key,
+            subject,
+        } => check_create_table(alloc, catalog, table, columns, key, subject),
+        Stmt::CreatePurpose(name) => check_purpose(alloc, catalog, name),
+        Stmt::CreateRecipient(name) => check_recipient(alloc, catalog, name),
+        Stmt::CreateItem { item, kind } => check_new_item(alloc, catalog, item, *kind),
+        Stmt::Authorize {
+            user,
+            purpose,
+            recipient,
+        } => check_grant(alloc, catalog, true, user, purpose, recipient),
+        Stmt::Deauthorize {
+            user,
+            purpose,
+            recipient,
+        } => check_grant(alloc, catalog, false, user, purpose, recipient),
+        Stmt::Allow {
+            purpose,
+            recipient,
+            table,
+            columns,
+            item,
+            days,
+        } => check_allow(
+            alloc, catalog, purpose, recipient, table, columns, item, *days,
+        ),
+        Stmt::Revoke {
+            purpose,
+            recipient,
+            table,
+            columns,
+        } => check_revoke(alloc, catalog, purpose, recipient, table, columns),
+        Stmt::Choice { subject, item, yes } => check_choice(alloc, catalog, subject, item, *yes),
         Stmt::Insert { table, values } => check_insert(alloc, catalog, table, values),
         Stmt::Update {
             table,
@@ -126,105 +191,9 @@ fn check_row_change(alloc: Global, catalog: &Catalog, change: &Stmt) -> Result<W
             key_columns,
             key_values,
         } => check_delete(alloc, catalog, table, key_columns, key_values),
-        _ => Err(NameFault::Memory),
-    }
-}
-
-// ALLOW, REVOKE and what changes rows.
-fn check_table_change(alloc: Global, catalog: &Catalog, change: &Stmt) -> Result<Wanted, NameFault>
-    ensures answer { Checks catalog.now.names change.now result }
-    ensures other { changes_something change.now ≡ false → result ≡ Err faults.Memory }
-{
-    match change {
-        Stmt::Allow {
-            purpose,
-            recipient,
-            table,
-            columns,
-            item,
-            days,
-        } => {
-            let rule = RuleNames {
-                purpose,
-                recipient,
-                table,
-                columns,
-            };
-            check_allow(alloc, catalog, rule, item, *days)
+        Stmt::Explain(_) | Stmt::Audit(_) | Stmt::BeginAudit(_) | Stmt::Watch(_) => {
+            Err(NameFault::Memory)
         }
-        Stmt::Revoke {
-            purpose,
-            recipient,
-            table,
-            columns,
-        } => {
-            let rule = RuleNames {
-                purpose,
-                recipient,
-                table,
-                columns,
-            };
-            check_revoke(alloc, catalog, rule)
-        }
-        _ => check_row_change(alloc, catalog, change),
-    }
-}
-
-// What makes a purpose, a recipient or an item, or changes tables.
-fn check_creation(alloc: Global, catalog: &Catalog, change: &Stmt) -> Result<Wanted, NameFault>
-    ensures answer { Checks catalog.now.names change.now result }
-    ensures other { changes_something change.now ≡ false → result ≡ Err faults.Memory }
-{
-    match change {
-        Stmt::CreatePurpose(name) => {
-            let purpose = new_name(alloc, catalog.has_purpose(name), name)?;
-            Ok(Wanted::Ready(Act::Purpose(purpose)))
-        }
-        Stmt::CreateRecipient(name) => {
-            let recipient = new_name(alloc, catalog.has_recipient(name), name)?;
-            Ok(Wanted::Ready(Act::Recipient(recipient)))
-        }
-        Stmt::CreateItem { item, kind } => {
-            let item = new_name(alloc, catalog.item(item).is_some(), item)?;
-            Ok(Wanted::Ready(Act::Item { item, kind: *kind }))
-        }
-        _ => check_table_change(alloc, catalog, change),
-    }
-}
-
-/// What a statement that changes something asks for, or the first refusal that holds: its names and types are right
-/// where a catalog's names stand. What it does may still wait for the rows that are there. A statement that changes
-/// nothing is answered with want of memory; of one that does, any error else is its first refusal.
-pub fn check_change(alloc: Global, catalog: &Catalog, statement: &Stmt) -> Result<Wanted, NameFault>
-    ensures answer { Grants (change_refused catalog.now.names statement.now)
-        (wanted_by catalog.now.names statement.now) result }
-    ensures other { changes_something statement.now ≡ false → result ≡ Err faults.Memory }
-{
-    match statement {
-        Stmt::CreateTable {
-            table,
-            columns,
-            key,
-            subject,
-        } => {
-            let draft = Draft {
-                columns,
-                key,
-                subject,
-            };
-            check_create_table(alloc, catalog, table, draft)
-        }
-        Stmt::Authorize {
-            user,
-            purpose,
-            recipient,
-        } => check_grant(alloc, catalog, true, user, purpose, recipient),
-        Stmt::Deauthorize {
-            user,
-            purpose,
-            recipient,
-        } => check_grant(alloc, catalog, false, user, purpose, recipient),
-        Stmt::Choice { subject, item, yes } => check_choice(alloc, catalog, subject, item, *yes),
-        _ => check_creation(alloc, catalog, statement),
+        Stmt::Select { .. } | Stmt::Ask { .. } | Stmt::Extract { .. } => Err(NameFault::Memory),
     }
 }

@@ -14,15 +14,6 @@ use hippo_model::{Act, NameFault, Names, Places, Schema, Wanted};
 use hippo_values::{Duplicate, Memory, Name};
 use std::alloc::Global;
 
-/// What a rule names.
-#[derive(Clone, Copy)]
-pub struct RuleNames<'a> {
-    pub purpose: &'a Name,
-    pub recipient: &'a Name,
-    pub table: &'a Name,
-    pub columns: &'a Names,
-}
-
 // An item wants a table with SUBJECT.
 fn check_subject(alloc: Global, schema: &Schema, item: &Option<Name>) -> Result<(), NameFault>
     ensures { Resolves (item_refused item.now schema.now) tt result }
@@ -44,17 +35,18 @@ fn copied_if_any(alloc: Global, name: &Option<Name>) -> Result<Option<Name>, Mem
 
 fn allow(
     alloc: Global,
-    rule: RuleNames,
+    purpose: &Name,
+    recipient: &Name,
+    table: &Name,
     columns: Places,
     item: &Option<Name>,
     days: Option<u32>,
 ) -> Result<Wanted, Memory>
-    ensures { IfOk result (λ made. made ≡ Ready (acts.Allow rule.entry.purpose.now rule.entry.recipient.now
-        rule.entry.table.now columns item.now days)) }
+    ensures { IfOk result (λ made. made ≡ Ready (acts.Allow purpose.now recipient.now table.now columns item.now days)) }
 {
-    let purpose = rule.purpose.copy(alloc)?;
-    let recipient = rule.recipient.copy(alloc)?;
-    let table = rule.table.copy(alloc)?;
+    let purpose = purpose.copy(alloc)?;
+    let recipient = recipient.copy(alloc)?;
+    let table = table.copy(alloc)?;
     let item = copied_if_any(alloc, item)?;
     Ok(Wanted::Ready(Act::Allow {
         purpose,
@@ -66,13 +58,18 @@ fn allow(
     }))
 }
 
-fn revoke(alloc: Global, rule: RuleNames, columns: Places) -> Result<Wanted, Memory>
-    ensures { IfOk result (λ made. made ≡ Ready (acts.Revoke rule.entry.purpose.now rule.entry.recipient.now
-        rule.entry.table.now columns)) }
+fn revoke(
+    alloc: Global,
+    purpose: &Name,
+    recipient: &Name,
+    table: &Name,
+    columns: Places,
+) -> Result<Wanted, Memory>
+    ensures { IfOk result (λ made. made ≡ Ready (acts.Revoke purpose.now recipient.now table.now columns)) }
 {
-    let purpose = rule.purpose.copy(alloc)?;
-    let recipient = rule.recipient.copy(alloc)?;
-    let table = rule.table.copy(alloc)?;
+    let purpose = purpose.copy(alloc)?;
+    let recipient = recipient.copy(alloc)?;
+    let table = table.copy(alloc)?;
     Ok(Wanted::Ready(Act::Revoke {
         purpose,
         recipient,
@@ -85,28 +82,37 @@ fn revoke(alloc: Global, rule: RuleNames, columns: Places) -> Result<Wanted, Mem
 pub fn check_allow(
     alloc: Global,
     catalog: &Catalog,
-    rule: RuleNames,
+    purpose: &Name,
+    recipient: &Name,
+    table: &Name,
+    columns: &Names,
     item: &Option<Name>,
     days: Option<u32>,
 ) -> Result<Wanted, NameFault>
-    ensures { Checks catalog.now.names (Allow rule.entry.purpose.now rule.entry.recipient.now
-        rule.entry.table.now rule.entry.columns.now item.now days) result }
+    ensures { Checks catalog.now.names
+        (Allow purpose.now recipient.now table.now columns.now item.now days) result }
 {
-    let table = known_table(alloc, catalog, rule.table)?;
-    check_pair(alloc, catalog, rule.purpose, rule.recipient)?;
+    let found = known_table(alloc, catalog, table)?;
+    check_pair(alloc, catalog, purpose, recipient)?;
     check_item_if_any(alloc, catalog, item)?;
-    let columns = distinct_places(alloc, table, rule.columns.as_slice())?;
-    check_subject(alloc, table.schema(), item)?;
-    Ok(allow(alloc, rule, columns, item, days)?)
+    let columns = distinct_places(alloc, found, columns.as_slice())?;
+    check_subject(alloc, found.schema(), item)?;
+    Ok(allow(alloc, purpose, recipient, table, columns, item, days)?)
 }
 
 /// REVOKE: the columns that a rule no longer shows.
-pub fn check_revoke(alloc: Global, catalog: &Catalog, rule: RuleNames) -> Result<Wanted, NameFault>
-    ensures { Checks catalog.now.names (Revoke rule.entry.purpose.now rule.entry.recipient.now
-        rule.entry.table.now rule.entry.columns.now) result }
+pub fn check_revoke(
+    alloc: Global,
+    catalog: &Catalog,
+    purpose: &Name,
+    recipient: &Name,
+    table: &Name,
+    columns: &Names,
+) -> Result<Wanted, NameFault>
+    ensures { Checks catalog.now.names (Revoke purpose.now recipient.now table.now columns.now) result }
 {
-    let table = known_table(alloc, catalog, rule.table)?;
-    check_pair(alloc, catalog, rule.purpose, rule.recipient)?;
-    let columns = distinct_places(alloc, table, rule.columns.as_slice())?;
-    Ok(revoke(alloc, rule, columns)?)
+    let found = known_table(alloc, catalog, table)?;
+    check_pair(alloc, catalog, purpose, recipient)?;
+    let columns = distinct_places(alloc, found, columns.as_slice())?;
+    Ok(revoke(alloc, purpose, recipient, table, columns)?)
 }

@@ -80,12 +80,12 @@ fn key_places(
     Ok(KeyPlaces { key, subject })
 }
 
-/// What CREATE TABLE says of a table, beside its name.
+// What CREATE TABLE says of a table, beside its name.
 #[derive(Clone, Copy)]
-pub struct Draft<'a> {
-    pub columns: &'a Columns,
-    pub key: &'a Names,
-    pub subject: &'a Option<Name>,
+struct Draft<'a> {
+    columns: &'a Columns,
+    key: &'a Names,
+    subject: &'a Option<Name>,
 }
 
 // Its names: the columns differ, and so do those of the key, which has to be among them.
@@ -200,18 +200,19 @@ pub fn check_create_table(
     alloc: Global,
     catalog: &Catalog,
     table: &Name,
-    draft: Draft,
+    columns: &Columns,
+    key: &Names,
+    subject: &Option<Name>,
 ) -> Result<Wanted, NameFault>
-    ensures { Checks catalog.now.names
-        (CreateTable table.now draft.entry.columns.now draft.entry.key.now draft.entry.subject.now) result }
+    ensures { Checks catalog.now.names (CreateTable table.now columns.now key.now subject.now) result }
 {
+    let draft = Draft {
+        columns,
+        key,
+        subject,
+    };
     let places = check_table(alloc, catalog, table, draft)?;
-    let columns = columns_made(
-        alloc,
-        draft.key.as_slice(),
-        draft.subject,
-        draft.columns.as_slice(),
-    )?;
+    let columns = columns_made(alloc, key.as_slice(), subject, columns.as_slice())?;
     let name = table.copy(alloc)?;
     let KeyPlaces { key, subject } = places;
     Ok(Wanted::Ready(Act::Create(Schema {
