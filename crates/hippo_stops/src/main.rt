@@ -48,8 +48,9 @@ fn main(rt: HostRuntime) -> io::Result<()> {
     let alloc = rt.alloc();
     let mut script = Script::new(alloc);
     for line in rt.lines(alloc) {
-        let written = carry_out(alloc, &mut script, line?.as_str())
-            .map_err(|_| io::ErrorKind::OutOfMemory)?;
+        let written = carry_out(alloc, &mut script, line?.as_str()).map_err(
+            |_| io::ErrorKind::OutOfMemory,
+        )?;
         let Some(written) = written else {
             return Err(io::ErrorKind::InvalidInput.into());
         };

@@ -70,10 +70,11 @@ fn are_found(
     let counted = called(alloc, "check", &[], disks(alloc, log, file)?)?;
     let line = format!(in alloc; "entries {count}\n")?;
     let fits = count == replied || count == replied.saturating_add(1);
-    Ok(fits
-        && whole.get(..count) == Some(kept.as_slice())
-        && counted.status == 0
-        && counted.output.as_slice() == line.as_bytes())
+    Ok(
+        fits && whole.get(..count) == Some(kept.as_slice())
+            && counted.status == 0
+            && counted.output.as_slice() == line.as_bytes(),
+    )
 }
 
 // Whether that holds of all that the disks may hold.
