@@ -36,8 +36,8 @@ fn common(left: &[u8], right: &[u8]) -> usize {
 // The front of one content up to a place, and the other one from there on.
 fn joined(alloc: Global, front: &[u8], back: &[u8], place: usize) -> Result<Vec<u8>, NoMemory> {
     let mut bytes = Vec::new(alloc);
-    bytes.extend_from_slice(front.get(..place).unwrap_or(front))?;
-    bytes.extend_from_slice(back.get(place..).unwrap_or(&[]))?;
+    bytes.extend_from_slice(&front[..place.min(front.len())])?;
+    bytes.extend_from_slice(&back[place.min(back.len())..])?;
     Ok(bytes)
 }
 
@@ -56,6 +56,11 @@ impl Left {
             synced,
             half,
         })
+    }
+
+    /// All that was written.
+    pub fn written(&self) -> &[u8] {
+        self.written.as_slice()
     }
 
     /// The contents that are looked at.

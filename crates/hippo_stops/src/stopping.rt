@@ -63,11 +63,13 @@ fn are_found(
     whole: &[StoredEntry],
     replied: usize,
 ) -> Result<bool, NoMemory> {
-    let Ok(kept) = kept_on(alloc, disks(alloc, log, file)?) else {
+    let files = disks(alloc, log, file)?;
+    let Ok(kept) = kept_on(alloc, files) else {
         return Ok(false);
     };
     let count = kept.len();
-    let counted = called(alloc, "check", &[], disks(alloc, log, file)?)?;
+    let files = disks(alloc, log, file)?;
+    let counted = called(alloc, "check", &[], files)?;
     let line = format!(in alloc; "entries {count}\n")?;
     let fits = count == replied || count == replied.saturating_add(1);
     Ok(
@@ -97,9 +99,8 @@ fn are_all_found(
 // The whole history of a script, which no disk stops; none where it is not carried out whole.
 fn whole_history(alloc: Global, script: &Script) -> Result<Option<StoredList>, NoMemory> {
     let it = stopped(alloc, script, (u64::MAX, u64::MAX))?;
-    let [log, _, _] = it.log.contents();
-    let [file, _, _] = it.file.contents();
-    let Ok(kept) = kept_on(alloc, disks(alloc, log, file)?) else {
+    let files = disks(alloc, it.log.written(), it.file.written())?;
+    let Ok(kept) = kept_on(alloc, files) else {
         return Ok(None);
     };
     let is_whole = it.called.status == 0 && kept.len() == script.all_entries();
