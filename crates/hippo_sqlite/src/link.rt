@@ -1,5 +1,5 @@
 //! A keeper's connection to its store.
-ghost use Rattle.std.specs.Prelude.{◌≡◌, ℕ, ◌^◌, ◌<◌, ◌≤◌, false, List, [], map, length, if◌then◌else◌, IfOk};
+ghost use Rattle.std.specs.Prelude.{◌≡◌, ℕ, ◌^◌, ◌<◌, ◌≤◌, true, false, Err, List, [], map, length, if◌then◌else◌, IfOk};
 ghost use Rattle.sqlite.specs.State.{HasCleanDisk, Survives, CommitsShowing, Opens, IsLive};
 ghost use Rattle.sqlite.specs.Held.{state};
 ghost use Rattle.hippo_keeper.specs.Answering.{has_failed};
@@ -102,6 +102,7 @@ impl<S: Alter + Drop> Linked<S> {
             → Opens (state S.Store connection) × IsLive (state S.Store connection) }
         ensures linked { IfOk result (λ it. IsLinked (state S.Store connection) (linked_contents S.Store it)) }
         ensures own { IfOk result (λ it. is_foreign (state S.Store connection).now.schema ≡ false) }
+        ensures foreign { is_foreign (state S.Store connection).now.schema ≡ true → result ≡ Err KeeperFault.Failed }
     {
         if is_foreign(connection.schema()) {
             return Err(KeeperFault::Failed);
@@ -189,6 +190,7 @@ impl<S: Alter + Drop> Link<S> {
             → Opens (state S.Store connection) × IsLive (state S.Store connection) }
         ensures linked { IfOk result (λ link. IsLinked (state S.Store connection) (link_contents S.Store link)) }
         ensures own { IfOk result (λ link. is_foreign (state S.Store connection).now.schema ≡ false) }
+        ensures foreign { is_foreign (state S.Store connection).now.schema ≡ true → result ≡ Err KeeperFault.Failed }
     {
         match Linked::new(connection) {
             Ok(linked) => Ok(Link::Opened(linked)),

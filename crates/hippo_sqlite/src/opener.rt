@@ -74,6 +74,7 @@ impl Opener for FileOpener {
 }
 
 /// Opens the database that two disks hold, a log and a file, whatever the name is.
+#[derive(Drop)]
 pub struct DisksOpener<F> {
     files: Option<F>,
 }
