@@ -1,5 +1,5 @@
 -- A script is cut into its lines.
-use Rattle.std.proofs.Common.{◌≡◌, ◌∙◌, ℕ, zero, suc, ◌+◌, ◌-◌, ◌/◌, ◌%◌, ◌<◌, Bool, true, false, not, ◌&&◌, List, [], ◌∷◌, ◌++◌, flat_map, length, map, Option, Some, None, refl, sym, ap, subst, arith, codes}
+use Rattle.std.proofs.Common.{◌≡◌, ◌∙◌, ℕ, zero, suc, ◌+◌, ◌-◌, ◌/◌, ◌%◌, ◌<◌, Bool, true, false, not, ◌&&◌, List, [], ◌∷◌, ◌++◌, filter, flat_map, length, map, Option, Some, None, refl, sym, ap, subst, arith, codes}
 use Rattle.std.specs.Prelude.{◌==◌, if◌then◌else◌, nat_le, nat_lt, option_and_then, slice_index}
 use Rattle.std.specs.Io.BufRead.{ends_with_byte, strip_last}
 use Rattle.std.specs.List.{list_all}
@@ -15,22 +15,23 @@ use Rattle.hippo_values.specs.Texts.{Txt}
 use Rattle.hippo_values.specs.declared.moments.Moment.{Moment}
 use Rattle.hippo_values.proofs.MomentTextLemmas.{IsDayNumber-of_moment, day_of, second_of}
 use Rattle.hippo_io.specs.Lines.{line_of, lines, pieces, text_line, text_or_not, too_long_line, with_first}
+use Rattle.hippo_model.specs.declared.entry.Entry.{Entry}
 use Rattle.hippo_model.specs.declared.schema.Schema.{Schema}
 use Rattle.hippo_model.specs.Histories.{schema_at}
 use Rattle.hippo_model.specs.Terms.{History, Place}
 use Rattle.hippo_model.specs.Validity.{is_valid}
-use Rattle.hippo_laws.proofs.ValidFronts.{front_is_valid}
-use Rattle.hippo_catalog.specs.Catalogs.{KnownNames, known_at}
+use Rattle.hippo_laws.proofs.ValidFronts.{entries_before, front_is_valid}
 use Rattle.hippo_typing.specs.Meanings.{meaning}
 use Rattle.hippo_following.proofs.HistoryLemmas.{acceptable, keepable}
-use Rattle.hippo_telling.specs.Telling.{table_named, told_act}
+use Rattle.hippo_telling.specs.Telling.{schema_before, table_named, told_act}
 use Rattle.hippo_telling_laws.specs.TellingLaws.{is_stated}
-use Rattle.hippo_showing.specs.Showing.{schema_named, shown, stands_at}
+use Rattle.hippo_showing.specs.declared.asking.View.TheVariants.{Entries}
+use Rattle.hippo_showing.specs.Showing.{is_told, shown, stands_at}
 use Rattle.hippo_script_laws.specs.ScriptLaws.{ScriptsRunAgain, are_stated, ruled, script_lines, statement_line}
 use Rattle.hippo_script_laws.proofs.InnerLemmas.{AreInner, both, inner-day, inner-digit, is_inner, is_simple, said}
 use Rattle.hippo_script_laws.proofs.LineLemmas.{moment-fits}
 use Rattle.hippo_script_laws.proofs.LinesTheorem.{fed, scripts_are_lines}
-use Rattle.hippo_script_laws.proofs.ScriptTheorem.{follows, may, named, scripts_make_histories}
+use Rattle.hippo_script_laws.proofs.ScriptTheorem.{follows, may, scripts_make_histories}
 use Rattle.hippo_script_laws.proofs.ToldTheorem.{told-inner}
 
 -- in a moment no line ends
@@ -132,40 +133,38 @@ whole-lines (line ∷ written) inner fit =
 
 -- in a script's lines no line ends
 module _ (whole : History) (valid : is_valid meaning whole ≡ true) where
-  abbrev names : KnownNames
-  names = known_at whole
-
   inner-lines : (later before : History) (clock : Option Moment) → whole ≡ before ++ later
-      → are_stated names later ≡ true → list_all is_inner_line (script_lines names clock later)
+      → are_stated whole later ≡ true → list_all is_inner_line (script_lines whole clock later)
       ≡ true
   inner-lines [] before clock parts stated = refl
   inner-lines (entry ∷ later) before clock parts stated =
-      let each = and_parts (is_stated (schema_named names entry.act) entry.act)
-      (are_stated names later) stated in
+      let each = and_parts (is_stated (schema_before whole entry) entry.act)
+      (are_stated whole later) stated in
       let here : is_valid meaning (before ++ entry ∷ later) ≡ true =
       ap (is_valid meaning) (sym parts) ∙ valid in
       let next = may before later entry here in
       let first = front_is_valid meaning before (entry ∷ later) here in
       let fit = acceptable meaning before entry next in
-      let schema : schema_named names entry.act
+      let schema : schema_before whole entry
       ≡ option_and_then (schema_at before) (table_named entry.act) =
-      ap (λ (h : History). schema_named (known_at h) entry.act) parts
-      ∙ named before later entry here entry.act fit in
-      let told : AreInner (told_act (schema_named names entry.act) entry.act) =
+      ap (λ (h : History). schema_before h entry) parts
+      ∙ ap (λ (h : History). option_and_then (schema_at h) (table_named entry.act))
+      (entries_before meaning before entry next later) in
+      let told : AreInner (told_act (schema_before whole entry) entry.act) =
       subst (λ (s : Option Schema). is_stated s entry.act ≡ true → AreInner (told_act s entry.act))
       (sym schema)
       (told-inner meaning before first entry.act (keepable meaning before entry next) fit)
       each.0 in
-      let statement : AreInner (statement_line names entry.act) =
-      both (codes "0 ") (told_act (schema_named names entry.act) entry.act) (said refl) told in
+      let statement : AreInner (statement_line whole entry) =
+      both (codes "0 ") (told_act (schema_before whole entry) entry.act) (said refl) told in
       let regrouped : whole ≡ (before ++ entry ∷ []) ++ later =
       parts ∙ sym (append_assoc before (entry ∷ []) later) in
       let rest : list_all is_inner_line
-      (statement_line names entry.act ∷ script_lines names (Some entry.moment) later) ≡ true =
+      (statement_line whole entry ∷ script_lines whole (Some entry.moment) later) ≡ true =
       and_from _ _ (inner-line _ statement)
       (inner-lines later (before ++ entry ∷ []) (Some entry.moment) regrouped each.1) in
       by_test (stands_at clock entry.moment) entry.moment (follows before entry next).moment_fits
-      (statement_line names entry.act ∷ script_lines names (Some entry.moment) later) rest
+      (statement_line whole entry ∷ script_lines whole (Some entry.moment) later) rest
     where
       by_test : (test : Bool) (moment : Moment) → is_moment moment ≡ true → (more : List Txt)
           → list_all is_inner_line more ≡ true
@@ -177,13 +176,25 @@ module _ (whole : History) (valid : is_valid meaning whole ≡ true) where
           both (codes "at ") (moment_text moment) (said refl) (inner-moment moment fits) in
           and_from _ _ (inner-line _ clock) all
 
+-- where all are asked for, none is left out
+all-told : (test : Entry → Bool) (entries : History) → list_all test entries ≡ true
+    → filter test entries ≡ entries
+all-told test [] all = refl
+all-told test (entry ∷ later) all =
+    let parts = and_parts (test entry) (list_all test later) all in
+    rw parts.0 (ap (λ (rest : History). entry ∷ rest) (all-told test later parts.1))
+
 pub scripts_run_again : ScriptsRunAgain
 scripts_run_again history excerpt world valid stated is_script all room starts texts =
-    let written : List Txt = script_lines (known_at history) None history in
+    let written : List Txt = script_lines history None history in
+    let told : filter (is_told history excerpt) history ≡ history =
+    all-told (is_told history excerpt) history all in
+    let spelled : shown (Entries excerpt) history ≡ flat_map fed written =
+    subst (λ (entries : History). are_stated history entries ≡ true
+    → shown (Entries excerpt) history ≡ flat_map fed (script_lines history None entries)) told
+    (scripts_are_lines history excerpt None history is_script) stated in
     let inner = inner-lines history valid history [] None refl stated in
-    let spelled : shown excerpt history ≡ flat_map fed written =
-    scripts_are_lines (known_at history) excerpt None history is_script all stated in
-    let cut : lines (shown excerpt history) ≡ map text_line written =
+    let cut : lines (shown (Entries excerpt) history) ≡ map text_line written =
     ap lines spelled ∙ ap (map line_of) (cut-lines written inner)
     ∙ whole-lines written inner texts in
     ap (ruled [] world) cut ∙ scripts_make_histories history world valid stated room starts

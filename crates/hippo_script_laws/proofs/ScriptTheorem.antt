@@ -1,6 +1,6 @@
 -- The lines of a valid history's script make it again.
 use Rattle.std.proofs.Common.{◌≡◌, ◌∙◌, ℕ, suc, ◌+◌, ◌≤◌, ◌<◌, true, false, not, ◌&&◌, List, [], ◌∷◌, ◌++◌, length, map, Option, Some, None, refl, sym, ap, subst, arith, codes}
-use Rattle.std.specs.Prelude.{◌==◌, if◌then◌else◌, int_le, nat_lt, option_and_then}
+use Rattle.std.specs.Prelude.{◌==◌, if◌then◌else◌, int_le, nat_lt}
 use Rattle.std.specs.List.{filter, list_all, slice_split}
 use Rattle.std.specs.Option.{option_map_or}
 use Rattle.std.proofs.lemmas.Bool.{and_parts, not-true}
@@ -10,23 +10,19 @@ use Rattle.hippo_values.specs.Dates.{moment_text}
 use Rattle.hippo_values.specs.Moments.{is_moment}
 use Rattle.hippo_values.specs.Texts.{Txt}
 use Rattle.hippo_values.specs.declared.moments.Moment.{Moment}
-use Rattle.hippo_values.specs.declared.names.Name.{Name}
 use Rattle.hippo_io.specs.Lines.{LineText, text_line}
 use Rattle.hippo_model.specs.declared.entry.Act.{Act}
 use Rattle.hippo_model.specs.declared.entry.Act.TheVariants.{Create, Insert, Update, Delete, Purpose, Recipient, Item, Authorize, Deauthorize, Allow, Revoke, Choice, Asked}
 use Rattle.hippo_model.specs.declared.entry.Entry.{Entry}
 use Rattle.hippo_model.specs.declared.entry.ItemKind.TheVariants.{OptIn, OptOut}
 use Rattle.hippo_model.specs.declared.schema.Schema.{Schema}
-use Rattle.hippo_model.specs.Histories.{last_word, schema_at}
+use Rattle.hippo_model.specs.Histories.{last_word}
 use Rattle.hippo_model.specs.Keepable.{act_is_keepable, is_keepable}
 use Rattle.hippo_model.specs.Terms.{History}
-use Rattle.hippo_model.specs.Validity.{days_fit, has_columns, is_acceptable, is_valid, item_fits, keeps_order, may_follow, pair_exists, rule_fits, table_passes}
-use Rattle.hippo_model.specs.Versions.{version_fits}
+use Rattle.hippo_model.specs.Validity.{is_acceptable, is_valid, keeps_order, may_follow}
 use Rattle.hippo_model.proofs.LastWords.{last_word-append}
-use Rattle.hippo_laws.proofs.ValidFronts.{entries_before, next_number}
-use Rattle.hippo_catalog.specs.Catalogs.{KnownNames, known_at, table_of}
+use Rattle.hippo_laws.proofs.ValidFronts.{next_number}
 use Rattle.hippo_typing.specs.Meanings.{meaning}
-use Rattle.hippo_typing.proofs.CatalogTheorem.{valid_names}
 use Rattle.hippo_report.specs.Notices.{done_line, number_line}
 use Rattle.hippo_lines.specs.Words.{is_filled, is_space, words_of}
 use Rattle.hippo_lines.specs.Forms.{short_word_of}
@@ -34,11 +30,11 @@ use Rattle.hippo_world.specs.Worlds.{World}
 use Rattle.hippo_commands.specs.Commands.{command_of}
 use Rattle.hippo_judging.specs.Deeds.{next_entry}
 use Rattle.hippo_engine.specs.Effects.{Effect, carried_out, effect_of, only_reply}
-use Rattle.hippo_following.proofs.HistoryLemmas.{acceptable, followed, passes_so, schemas_last}
-use Rattle.hippo_telling.specs.Telling.{schema_before, table_named, told_act}
+use Rattle.hippo_following.proofs.HistoryLemmas.{followed}
+use Rattle.hippo_telling.specs.Telling.{schema_before, told_act}
 use Rattle.hippo_telling_laws.specs.TellingLaws.{MakesAgain, is_stated}
 use Rattle.hippo_telling_laws.proofs.EntryTheorem.{entries_are_made_again}
-use Rattle.hippo_showing.specs.Showing.{schema_named, stands_at}
+use Rattle.hippo_showing.specs.Showing.{stands_at}
 use Rattle.hippo_script_laws.specs.ScriptLaws.{ScriptsMakeHistories, are_stated, ruled, script_lines, starts_before, statement_line}
 use Rattle.hippo_script_laws.proofs.LineLemmas.{sets-it, states-it}
 use Rattle.hippo_script_laws.proofs.JudgingLemmas.{change-judged, clock-judged}
@@ -120,54 +116,8 @@ module _ (before later : History) (entry : Entry)
   abbrev whole : History
   whole = before ++ entry ∷ later
 
-  abbrev known : KnownNames
-  known = known_at whole
-
   pub may : may_follow meaning before entry ≡ true
   may = followed meaning before entry later valid
-
-  -- a table that was there has the schema that it had
-  there : (table : Name) (schema : Schema) → schema_at before table ≡ Some schema
-      → table_of known table ≡ schema_at before table
-  there table schema is =
-      (valid_names meaning whole valid).tables table
-      ∙ schemas_last meaning before (entry ∷ later) table schema valid is ∙ sym is
-
-  pub named : (act : Act) → is_acceptable meaning before act ≡ true → schema_named known act
-      ≡ option_and_then (schema_at before) (table_named act)
-  named (Insert table row) fit =
-      let made = passes_so (λ (schema : Schema). version_fits schema before (Insert table row))
-      (schema_at before table) fit in there table made.what made.is
-  named (Update table row) fit =
-      let made = passes_so (λ (schema : Schema). version_fits schema before (Update table row))
-      (schema_at before table) fit in there table made.what made.is
-  named (Delete table key) fit =
-      let made = passes_so (λ (schema : Schema). version_fits schema before (Delete table key))
-      (schema_at before table) fit in there table made.what made.is
-  named (Allow purpose recipient table places item days) fit =
-      let outer =
-      and_parts (rule_fits before purpose recipient table places && item_fits before table item)
-      (days_fit days) fit in
-      let rule = (and_parts (rule_fits before purpose recipient table places)
-      (item_fits before table item) outer.0).0 in
-      let passes =
-      (and_parts (pair_exists before purpose recipient)
-      (table_passes before (has_columns places) table) rule).1 in
-      let made = passes_so (has_columns places) (schema_at before table) passes in
-      there table made.what made.is
-  named (Revoke purpose recipient table places) fit =
-      let passes =
-      (and_parts (pair_exists before purpose recipient)
-      (table_passes before (has_columns places) table) fit).1 in
-      let made = passes_so (has_columns places) (schema_at before table) passes in
-      there table made.what made.is
-  named act fit = refl
-
-  schema-same : schema_named known entry.act ≡ schema_before whole entry
-  schema-same =
-      named entry.act (acceptable meaning before entry may)
-      ∙ sym (ap (λ (h : History). option_and_then (schema_at h) (table_named entry.act))
-      (entries_before meaning before entry may later))
 
   -- the entry as the line makes it
   made-entry : (world : World) → world.clock ≡ entry.moment → next_entry before world entry.act
@@ -185,15 +135,15 @@ module _ (before later : History) (entry : Entry)
       }
 
   line-makes : (world : World) → world.clock ≡ entry.moment → length before < world.limit
-      → is_stated (schema_named known entry.act) entry.act ≡ true
-      → effect_of before world (command_of (text_line (statement_line known entry.act)))
+      → is_stated (schema_before whole entry) entry.act ≡ true
+      → effect_of before world (command_of (text_line (statement_line whole entry)))
       ≡ made_effect world
   line-makes world clock room stated =
-      let again : MakesAgain before (schema_named known entry.act) entry.act =
-      subst (λ (s : Option Schema). is_stated s entry.act ≡ true → MakesAgain before s entry.act)
-      (sym schema-same) (entries_are_made_again meaning before later entry valid) stated in
-      let text : Txt = told_act (schema_named known entry.act) entry.act in
-      let begins = told-begins (schema_named known entry.act) entry.act stated in
+      let schema : Option Schema = schema_before whole entry in
+      let again : MakesAgain before schema entry.act =
+      entries_are_made_again meaning before later entry valid stated in
+      let text : Txt = told_act schema entry.act in
+      let begins = told-begins schema entry.act stated in
       let commands =
       states-it text begins.word begins.words again.back.statement begins.are begins.plain
       again.back.reads in
@@ -256,22 +206,18 @@ next-stands before (next ∷ rest) entry world valid clock =
     }
 
 module _ (whole : History) (valid : is_valid meaning whole ≡ true) where
-  abbrev names : KnownNames
-  names = known_at whole
-
   script-runs : (later before : History) (clock : Option Moment) (world : World) → whole
-      ≡ before ++ later → are_stated names later ≡ true → length whole ≤ world.limit
+      ≡ before ++ later → are_stated whole later ≡ true → length whole ≤ world.limit
       → Stands clock world later
-      → ruled before world (map text_line (script_lines names clock later)) ≡ before ++ later
+      → ruled before world (map text_line (script_lines whole clock later)) ≡ before ++ later
   script-runs [] before clock world parts stated room stands = sym (append-nil before)
   script-runs (entry ∷ later) before clock world parts stated room stands =
-      let each = and_parts (is_stated (schema_named names entry.act) entry.act)
-      (are_stated names later) stated in
+      let each = and_parts (is_stated (schema_before whole entry) entry.act)
+      (are_stated whole later) stated in
       let here : is_valid meaning (before ++ entry ∷ later) ≡ true =
       ap (is_valid meaning) (sym parts) ∙ valid in
-      let known_here : names ≡ known_at (before ++ entry ∷ later) = ap known_at parts in
-      let more : List LineText = map text_line (script_lines names (Some entry.moment) later) in
-      let statement : LineText = text_line (statement_line names entry.act) in
+      let more : List LineText = map text_line (script_lines whole (Some entry.moment) later) in
+      let statement : LineText = text_line (statement_line whole entry) in
       let size : length whole ≡ length before + suc (length later) =
       ap length parts ∙ length-append before (entry ∷ later) in
       let makes : (w : World) → w.clock ≡ entry.moment → w.limit ≡ world.limit
@@ -279,10 +225,10 @@ module _ (whole : History) (valid : is_valid meaning whole ≡ true) where
       let small : length before < w.limit = omega (arith, size, room, same) in
       let effect : effect_of before w (command_of statement)
       ≡ made_effect before later entry here w =
-      subst (λ (k : KnownNames). is_stated (schema_named k entry.act) entry.act ≡ true
-      → effect_of before w (command_of (text_line (statement_line k entry.act)))
+      subst (λ (h : History). is_stated (schema_before h entry) entry.act ≡ true
+      → effect_of before w (command_of (text_line (statement_line h entry)))
       ≡ made_effect before later entry here w)
-      (sym known_here) (line-makes before later entry here w at small) each.0 in
+      (sym parts) (line-makes before later entry here w at small) each.0 in
       let room_left : length whole ≤ w.limit = omega (arith, room, same) in
       let regrouped : whole ≡ (before ++ entry ∷ []) ++ later =
       parts ∙ sym (append_assoc before (entry ∷ []) later) in
@@ -294,7 +240,7 @@ module _ (whole : History) (valid : is_valid meaning whole ≡ true) where
       → ruled before world
       (map text_line
       ((if test then [] else (codes "at " ++ moment_text entry.moment) ∷ [])
-      ++ (statement_line names entry.act ∷ script_lines names (Some entry.moment) later)))
+      ++ (statement_line whole entry ∷ script_lines whole (Some entry.moment) later)))
       ≡ before ++ entry ∷ later) [
         | true ↦ λ is. makes world (stands-so clock entry.moment world.clock stands.set is) refl
         | false ↦ λ is.

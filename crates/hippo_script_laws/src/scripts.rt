@@ -1,8 +1,8 @@
 //! Laws on what the script of a history makes.
 ghost use Rattle.hippo_script_laws.specs.ScriptLaws.{ScriptsAreLines, ScriptsMakeHistories, ScriptsRunAgain};
 
-/// The script of entries that are told as statements is the lines of a script, each with its line
-/// feed.
+/// What is shown as a script is a script's lines, each with its line feed: those of the entries that
+/// are asked for, where each of these is told as a statement.
 pub fn scripts_are_lines()
     ensures { ScriptsAreLines }
 {}
@@ -14,8 +14,8 @@ pub fn scripts_make_histories()
     ensures { ScriptsMakeHistories }
 {}
 
-/// Where no line of that script is longer than a line may be, the script is cut into just these
-/// lines, so what is shown makes the history again.
+/// Where all entries are asked for and no line of that script is longer than a line may be, what is
+/// shown is cut into just these lines, so it makes the history again.
 pub fn scripts_run_again()
     ensures { ScriptsRunAgain }
 {}
