@@ -7,11 +7,13 @@ pub answered-answer-requires : goal.answered-answer-requires
 answered-answer-requires g c =
     let kept = c.requires.answerable.tables in
     let same = c.order_for.ensures.tables in
-    record { tables = record {
-      history = kept.history;
-      stands = record { kept = λ name. same.kept name ∙ kept.stands.kept name };
-      created = kept.created;
-    } }
+    record {
+      tables = record {
+        history = kept.history;
+        stands = record { kept = λ name. same.kept name ∙ kept.stands.kept name };
+        created = kept.created;
+      };
+    }
 
 pub returns-in-Ok : goal.returns-in-Ok
 returns-in-Ok g c =
