@@ -21,7 +21,7 @@ fn fits(schema: &Schema, table: &Name, row: &Cells) -> bool
     *table == schema.name && row_fits(schema, row)
 }
 
-// The same of a key.
+// Whether a table's name is that of the schema, and a key fits it.
 fn fits_key(schema: &Schema, table: &Name, key: &Cells) -> bool
     ensures { result ≡ (bytes_eq table.now schema.now.name && key_fits schema.now key.now) }
 {

@@ -26,7 +26,7 @@ pub enum ListFault {
     Memory,
 }
 
-/// The same, where rows are read.
+/// Why the denied cells of a question are not listed, where those of its rows are not.
 pub(crate) fn fault_of(fault: ListFault) -> DenialsFault
     ensures { result ≡ fault_of fault }
 {

@@ -57,7 +57,7 @@ fn reading(alloc: Global, rule: &str, text: &str) -> Result<String, AllocError> 
     }
 }
 
-// The same of a text that is written in parts.
+// What a text that is written in parts is read as, in short, behind how many bytes it has.
 fn long_reading(alloc: Global, rule: &str, row: &str) -> Result<String, AllocError> {
     let (text, counted) = long::long_text(alloc, row)?;
     let reading = reading(alloc, rule, text.as_str())?;

@@ -5,7 +5,7 @@ ghost use Rattle.hippo_model.specs.Bags.{same_cell, same_row, occurrences, same_
 
 use hippo_model::{Cell, CellRow};
 
-// The same value shown, or denied by the same rule.
+// Whether two cells show one value, or are denied by one rule.
 fn same_cell(cell: &Cell, other: &Cell) -> bool
     ensures { result ≡ same_cell cell.now other.now }
 {

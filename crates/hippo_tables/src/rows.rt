@@ -53,7 +53,7 @@ pub fn row_fits(schema: &Schema, row: &Cells) -> bool
     columns.len() == values.len()
 }
 
-/// The same of a key and the columns of a table's key.
+/// Whether a key has as many values as a table's key has columns, and each fits.
 pub fn key_fits(schema: &Schema, key: &Cells) -> bool
     ensures { result ≡ key_fits schema.now key.now }
 {

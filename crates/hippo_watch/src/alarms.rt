@@ -61,7 +61,7 @@ fn first_kept(
     )
 }
 
-// The same of any tables; none where one of them is not there.
+// The first virtual tuple that serves over the rows of today; none where a table is not there.
 fn first_now(
     alloc: Global,
     past: &Past<'_>,
