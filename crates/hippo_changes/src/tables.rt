@@ -12,9 +12,9 @@ ghost use Rattle.hippo_changes.specs.Checking.{Checks, draft_refused};
 
 use crate::columns::{NamedColumns, place_if_any, places};
 use crate::names::check_new;
-use hippo_catalog::{COLUMN_LIMIT, Catalog, TABLE_LIMIT, check_repeats, name_faults};
+use hippo_catalog::{Catalog, check_repeats, name_faults};
 use hippo_model::{Act, Column, ColumnKind, Columns, NameFault, Names, Places, Schema, Wanted};
-use hippo_values::{Duplicate, Memory, Name, Sequence};
+use hippo_values::{COLUMN_LIMIT, Duplicate, Memory, Name, Sequence, TABLE_LIMIT};
 use indexmap::IndexSet;
 use std::alloc::Global;
 

@@ -10,13 +10,12 @@ ghost use Rattle.hippo_entry.specs.Names.{names_are_keepable};
 
 use crate::names::three_names;
 use hippo_model::{Act, Cells, Column, Columns, Entry, Places, Schema};
-use hippo_values::{DayNumber, LINE_LIMIT, Moment, Name, Sequence, TEXT_LIMIT, Txt, Value};
+use hippo_values::{
+    COLUMN_LIMIT, DayNumber, LINE_LIMIT, Moment, Name, Sequence, TEXT_LIMIT, Txt, Value,
+};
 
 // A list has as many members as one byte counts.
 const COUNT_LIMIT: usize = 255;
-
-// The most columns of a table, and of its key.
-const COLUMN_LIMIT: usize = 64;
 
 /// A part of an entry for which a stored form may have no room.
 pub trait Keepable {

@@ -2,7 +2,6 @@
 #![tactic(auto)]
 
 mod forms;
-mod limits;
 mod lines;
 mod numbers;
 mod requests;
@@ -11,6 +10,5 @@ mod words;
 mod written_name;
 
 pub use forms::{LineForm, RequestForm};
-pub use limits::{CURSOR_LIMIT, FETCH_LIMIT, JOB_LIMIT, SESSION_LIMIT, STEP_LIMIT, WATCH_LIMIT};
 pub use lines::line_form;
 pub use written_name::WrittenName;

@@ -5,11 +5,11 @@ ghost use Rattle.hippo_lines.specs.Forms.{login_of, logout_of, one_number, two_n
 ghost use Rattle.hippo_lines.specs.Lent.{request};
 
 use crate::forms::RequestForm;
-use crate::limits::{CURSOR_LIMIT, FETCH_LIMIT, JOB_LIMIT, STEP_LIMIT, WATCH_LIMIT};
 use crate::numbers::{number, small_number};
 use crate::short_words::ShortWord;
 use crate::words::{around_space, first_word, only_word, three_words, trimmed, two_words};
 use crate::written_name::WrittenName;
+use hippo_values::{CURSOR_LIMIT, FETCH_LIMIT, JOB_LIMIT, STEP_LIMIT, WATCH_LIMIT};
 
 fn login_of(arguments: &str) -> Option<RequestForm<'_>>
     ensures { option_map request result ≡ login_of (words_of arguments.now) }

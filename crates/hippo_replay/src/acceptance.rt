@@ -17,11 +17,11 @@ ghost use Rattle.hippo_replay.specs.NamedPairs.{named_pair_exists};
 
 use crate::schemas::{days_fit, has_columns, is_well_formed};
 use crate::state::State;
-use hippo_catalog::{Catalog, TABLE_LIMIT};
+use hippo_catalog::Catalog;
 use hippo_model::{Act, Authorization, Cells, Entry, Places, Schema};
 use hippo_tables::{key_fits, row_fits};
 use hippo_typing::read_meaning;
-use hippo_values::{Memory, Moment, Name, Txt};
+use hippo_values::{Memory, Moment, Name, TABLE_LIMIT, Txt};
 use std::alloc::Global;
 
 // Whether something was found, which falls here.

@@ -17,11 +17,10 @@ use crate::pairs::paired;
 use crate::parts::check_count;
 use crate::tables::tables_of;
 use hippo_catalog::{
-    Catalog, FROM_LIMIT, ITEM_LIMIT, PAIR_LIMIT, Period, StatementTables, check_kinds, check_pair,
-    check_repeats, check_texts,
+    Catalog, Period, StatementTables, check_kinds, check_pair, check_repeats, check_texts,
 };
 use hippo_model::{Audit, CondOf, NameFault, Names, Operand, Pairs, RawAudit, Refs};
-use hippo_values::{Duplicate, Moment, Txt, read_moment};
+use hippo_values::{Duplicate, FROM_LIMIT, ITEM_LIMIT, Moment, PAIR_LIMIT, Txt, read_moment};
 use std::alloc::Global;
 
 /// An audit expression's columns, as they are found.

@@ -18,12 +18,12 @@ use crate::items::found_items;
 use crate::pairs::paired;
 use crate::parts::check_count;
 use crate::tables::found_tables;
-use hippo_catalog::{Catalog, FROM_LIMIT, ITEM_LIMIT, StatementTables, check_kinds, check_texts};
+use hippo_catalog::{Catalog, StatementTables, check_kinds, check_texts};
 use hippo_model::{
     CondOf, Form, NameFault, Names, Operand, Query, RawColumn, RawForm, RawOut, RawOuts, RawSelect,
     Refs, Shape,
 };
-use hippo_values::{Duplicate, Memory, Sequence};
+use hippo_values::{Duplicate, FROM_LIMIT, ITEM_LIMIT, Memory, Sequence};
 use std::alloc::Global;
 
 /// The columns of a select's list: those of its items or, where it is grouped, its members with theirs.

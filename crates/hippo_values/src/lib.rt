@@ -19,7 +19,11 @@ mod words;
 pub use boxed::Boxed;
 pub use dates::{day_text, moment_text, read_day, read_moment};
 pub use keywords::{Keyword, Reserved, reserved_of};
-pub use limits::{DEPTH_LIMIT, LINE_LIMIT, NAME_LIMIT, RETENTION_LIMIT, TEXT_LIMIT};
+pub use limits::{
+    COLUMN_LIMIT, CURSOR_LIMIT, DEPTH_LIMIT, FETCH_LIMIT, FROM_LIMIT, ITEM_LIMIT, JOB_LIMIT,
+    LINE_LIMIT, NAME_LIMIT, PAIR_LIMIT, RETENTION_LIMIT, SESSION_LIMIT, STEP_LIMIT, TABLE_LIMIT,
+    TEXT_LIMIT, WATCH_LIMIT,
+};
 pub use memory::{Duplicate, Memory};
 pub use moments::{DayNumber, Moment};
 pub use names::{Name, is_name};

@@ -5,9 +5,8 @@ ghost use Rattle.hippo_world.specs.Worlds.{at_number, new_session, with_cursor, 
 
 use crate::cursors::Cursor;
 use crate::numbered::Numbered;
-use hippo_lines::CURSOR_LIMIT;
 use hippo_model::Pair;
-use hippo_values::{Memory, Name};
+use hippo_values::{CURSOR_LIMIT, Memory, Name};
 use std::alloc::Global;
 
 /// An open session: who asks, for which purpose and recipient, and its cursors.

@@ -10,10 +10,9 @@ use crate::cursors::Cursor;
 use crate::numbered::Numbered;
 use crate::sessions::Session;
 use crate::watches::Watch;
-use hippo_lines::{JOB_LIMIT, SESSION_LIMIT, WATCH_LIMIT};
 use hippo_model::{Answer, Pair};
 use hippo_report::Format;
-use hippo_values::{Memory, Moment, Name};
+use hippo_values::{JOB_LIMIT, Memory, Moment, Name, SESSION_LIMIT, WATCH_LIMIT};
 use std::alloc::Global;
 
 /// The clock, how many entries the history may have, the format of flags, and the open sessions, audit jobs and watches.
