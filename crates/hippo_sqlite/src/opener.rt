@@ -9,7 +9,7 @@ ghost use Rattle.hippo_sqlite.specs.Openings.{IsFoundIn};
 
 use crate::standing::fault_of;
 use hippo_keeper::KeeperFault;
-use sqlite::{Alter, Connection, FileFrom, FileStore, Files, Options, Start, Wary};
+use sqlite::{Alter, Connection, FileFrom, FileStore, Files, Options, Start, Unknown};
 use sqlite_disk::Disk;
 use std::alloc::Global;
 use std::rt::HostRuntime;
@@ -34,7 +34,8 @@ pub trait Opener {
             → finds self.old name.now (state Self.Base.Store c).committed.trees) };
 }
 
-/// Opens the file with a name, or makes it.
+/// Opens the file with a name, or makes it. Of a disk it is supposed that a write which a power cut breaks off leaves each byte
+/// of its range old or new, and all others as they were; so most commits sync once.
 #[derive(Debug, Drop)]
 pub struct FileOpener {
     runtime: HostRuntime,
@@ -54,19 +55,19 @@ impl FileOpener {
 }
 
 impl Opener for FileOpener {
-    type Base = FileStore<FileFrom<Wary>>;
+    type Base = FileStore<FileFrom<Unknown>>;
 
     ghost used = { λ opener. opener.used };
 
-    ghost finds = { λ opener name trees. IsFoundIn (image_at ⟦<Wary as Start>⟧) trees };
+    ghost finds = { λ opener name trees. IsFoundIn (image_at ⟦<Unknown as Start>⟧) trees };
 
     fn connect(
         &mut self,
         _alloc: Global,
         name: &str,
-    ) -> Result<Connection<FileStore<FileFrom<Wary>>>, KeeperFault> {
+    ) -> Result<Connection<FileStore<FileFrom<Unknown>>>, KeeperFault> {
         self.used = true;
-        match Connection::open_from(&self.runtime, name, false, Wary) {
+        match Connection::open_from(&self.runtime, name, false, Unknown) {
             Ok(connection) => Ok(connection),
             Err((error, _)) => Err(fault_of(error)),
         }
