@@ -1,5 +1,5 @@
 -- The lines of a question make it again.
-use Rattle.std.proofs.Common.{◌≡◌, ◌∙◌, ℕ, ◌-◌, ◌<◌, true, false, not, ◌&&◌, List, [], ◌∷◌, ◌++◌, length, map, Option, Some, None, Ok, refl, ap, codes}
+use Rattle.std.proofs.Common.{◌≡◌, ◌∙◌, ℕ, ◌<◌, true, false, not, ◌&&◌, List, [], ◌∷◌, ◌++◌, length, map, Option, Some, None, refl, ap, codes}
 use Rattle.std.specs.Prelude.{◌==◌, is_some}
 use Rattle.std.specs.List.{last_or, list_all}
 use Rattle.std.specs.Option.{option_map_or}
@@ -16,7 +16,6 @@ use Rattle.hippo_model.specs.declared.entry.Act.TheVariants.{Asked}
 use Rattle.hippo_model.specs.declared.entry.Entry.{Entry}
 use Rattle.hippo_model.specs.declared.policy.Authorization.{Authorization}
 use Rattle.hippo_model.specs.declared.policy.Authorization.TheVariants.{Yes, No}
-use Rattle.hippo_model.specs.declared.query.Query.{Query}
 use Rattle.hippo_model.specs.declared.statement.RawSelect.{RawSelect}
 use Rattle.hippo_model.specs.declared.statement.Stmt.TheVariants as stmt
 use Rattle.hippo_model.specs.Keepable.{act_is_keepable, is_folded_name, question_is_keepable}
@@ -24,20 +23,19 @@ use Rattle.hippo_model.specs.Rules.{authorized_at}
 use Rattle.hippo_model.specs.Terms.{History}
 use Rattle.hippo_model.specs.Validity.{is_acceptable, is_authorized}
 use Rattle.hippo_catalog.specs.Catalogs.{known_at}
-use Rattle.hippo_typing.specs.Meanings.{Means, meaning, meaning_in}
+use Rattle.hippo_typing.specs.Meanings.{Means, meaning}
 use Rattle.hippo_typing.proofs.MeaningTheorem.{Means-found}
 use Rattle.hippo_report.specs.Notices.{done_line}
 use Rattle.hippo_world.specs.Worlds.{World, with_session}
-use Rattle.hippo_commands.specs.Commands.{command_of, state}
+use Rattle.hippo_commands.specs.Commands.{command_of}
 use Rattle.hippo_judging.specs.declared.asking.Handing.TheVariants.{Rows}
-use Rattle.hippo_judging.specs.Deeds as deeds
-use Rattle.hippo_judging.specs.Deeds.{Question, next_entry}
-use Rattle.hippo_judging.specs.Judging.{judged, judged_question, text_between}
-use Rattle.hippo_engine.specs.Effects.{Effect, carried_out, done, effect_of, only_reply}
+use Rattle.hippo_judging.specs.Deeds.{next_entry}
+use Rattle.hippo_judging.specs.Judging.{judged_question, text_between}
+use Rattle.hippo_engine.specs.Effects.{Effect, carried_out, effect_of, only_reply}
 use Rattle.hippo_telling_laws.proofs.ReadingTheorem.{three-names}
 use Rattle.hippo_script_laws.specs.ScriptLaws.{ends_with, is_bare, is_free, is_lost, is_unfed, login_line, question_lines, ruled}
 use Rattle.hippo_script_laws.proofs.LineLemmas.{asks-it, logs-in-it, logs-out-it}
-use Rattle.hippo_script_laws.proofs.JudgingLemmas.{ended-again, logged, login-judged, logout-judged, question-judged, question_so}
+use Rattle.hippo_script_laws.proofs.JudgingLemmas.{ended-again, logged, login-judged, logout-judged, question-judged}
 use Rattle.hippo_script_laws.proofs.QuestionLemmas.{asks-itself}
 
 -- what is around a bare text

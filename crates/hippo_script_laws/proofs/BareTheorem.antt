@@ -1,9 +1,8 @@
 -- The text of a question that a run keeps is bare.
-use Rattle.std.proofs.Common.{◌≡◌, ◌∙◌, ℕ, zero, suc, ◌+◌, ◌-◌, ◌<◌, ◌≤◌, Bool, true, false, not, ◌&&◌, List, [], ◌∷◌, ◌++◌, drop, length, take, Option, Some, None, Ok, refl, sym, ap, subst, inl, inr, arith, ℤ, bytes_eq}
-use Rattle.std.specs.Prelude.{◌==◌, ◌||◌, slice_get, slice_range}
+use Rattle.std.proofs.Common.{◌≡◌, ◌∙◌, ℕ, suc, ◌+◌, ◌-◌, ◌≤◌, Bool, true, false, not, List, [], ◌∷◌, ◌++◌, drop, length, Option, Some, None, Ok, refl, sym, ap, subst, inl, inr, arith, ℤ, bytes_eq}
+use Rattle.std.specs.Prelude.{◌==◌, slice_get, slice_range}
 use Rattle.std.specs.Char.{is_ascii_digit}
 use Rattle.std.specs.List.{last_or, list_all}
-use Rattle.std.specs.Map.{lookup}
 use Rattle.std.specs.Option.{option_map_or}
 use Rattle.std.proofs.lemmas.Bool.{and_from, and_parts, both_ways, cases_Bool, eqb-true, not-true, not_from_false, or_from}
 use Rattle.std.proofs.lemmas.List.{append_assoc, drop_at, length-append, take_at}

@@ -27,11 +27,11 @@ use Rattle.hippo_catalog.specs.Selects.{query_of, select_refused}
 use Rattle.hippo_tables.specs.Finished.{finished}
 use Rattle.hippo_report.specs.declared.refusal.Refusal.TheVariants.{BadSyntax, HistoryFull, MomentBack, NoSession, SessionOpen}
 use Rattle.hippo_world.specs.declared.sessions.Session.{Session}
-use Rattle.hippo_world.specs.Worlds.{World, new_session, session_at, with_session}
+use Rattle.hippo_world.specs.Worlds.{World, new_session, with_session}
 use Rattle.hippo_judging.specs.declared.asking.Handing.TheVariants.{Rows}
 use Rattle.hippo_judging.specs.Checks.{◌>>=◌, Checked, act_made, allowed_by, authorized, has_room, meant, open_session, refused_if}
 use Rattle.hippo_judging.specs.Deeds as deeds
-use Rattle.hippo_judging.specs.Deeds.{Deed, Question}
+use Rattle.hippo_judging.specs.Deeds.{Question}
 use Rattle.hippo_judging.specs.Judging.{deed_for, delivery_for, judged_change, judged_clock, judged_login, judged_logout, judged_question, judged_statement, judged_wanted, question_in}
 use Rattle.hippo_script_laws.specs.ScriptLaws.{is_free}
 

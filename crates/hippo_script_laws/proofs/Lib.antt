@@ -8,3 +8,4 @@ pub mod InnerLemmas
 pub mod ToldTheorem
 pub mod CutTheorem
 pub mod BareTheorem
+pub mod ScriptExamples

@@ -1,5 +1,5 @@
 -- What the lines of a script command.
-use Rattle.std.proofs.Common.{◌≡◌, ◌∙◌, ℕ, suc, ◌+◌, ◌/◌, ◌%◌, ◌<◌, Bool, true, false, not, ◌&&◌, List, [], ◌∷◌, ◌++◌, length, Option, Some, None, Ok, refl, subst, ap, arith, ℤ, pos, codes, bytes_eq}
+use Rattle.std.proofs.Common.{◌≡◌, ◌∙◌, ℕ, suc, ◌+◌, ◌/◌, ◌%◌, ◌<◌, Bool, true, false, not, List, [], ◌∷◌, ◌++◌, length, Option, Some, None, Ok, refl, subst, ap, arith, ℤ, pos, codes, bytes_eq}
 use Rattle.std.specs.Prelude.{if◌then◌else◌, int_le, nat_lt, ok_or, option_and_then, option_map, unsigned_abs}
 use Rattle.std.specs.Int.{int_div_euclid, int_rem_euclid}
 use Rattle.std.specs.List.{filter, list_all, slice_split}
@@ -17,7 +17,7 @@ use Rattle.hippo_model.specs.declared.statement.Stmt.{Stmt}
 use Rattle.hippo_model.specs.Keepable.{is_folded_name}
 use Rattle.hippo_report.specs.declared.refusal.Refusal.TheVariants.{BadSyntax}
 use Rattle.hippo_lines.specs.Words.{is_filled, is_space, words_of, only}
-use Rattle.hippo_lines.specs.Forms.{◌>>=◌, Form, asks, logs_in, logs_out, sets_clock, states, short_word_of, form_with, line_form}
+use Rattle.hippo_lines.specs.Forms.{◌>>=◌, asks, logs_in, logs_out, sets_clock, states, short_word_of, form_with, line_form}
 use Rattle.hippo_commands.specs.Commands.{ask, state, set_clock, command_of, command_by, clock_command, state_command, statement_among, statement_by, statement_in}
 use Rattle.hippo_commands.proofs.MomentLemmas.{moments_are_read}
 use Rattle.hippo_telling_laws.specs.TellingLaws.{ReadsAs}

@@ -1,6 +1,6 @@
 -- A text that means something, and around which nothing is lost, is by itself the question that its line asks.
-use Rattle.std.proofs.Common.{◌≡◌, ◌∙◌, ℕ, zero, suc, ◌+◌, ◌-◌, Bool, true, false, not, ◌&&◌, List, [], ◌∷◌, ◌++◌, length, map, Option, Some, None, Result, Ok, Err, refl, sym, ap, subst, inl, inr, arith, codes, bytes_eq}
-use Rattle.std.specs.Prelude.{◌==◌, ◌||◌, slice_get}
+use Rattle.std.proofs.Common.{◌≡◌, ◌∙◌, ℕ, suc, ◌+◌, ◌-◌, Bool, true, false, not, List, [], ◌∷◌, ◌++◌, length, Option, Some, None, Result, Ok, Err, refl, sym, ap, subst, inl, inr, arith, codes, bytes_eq}
+use Rattle.std.specs.Prelude.{◌||◌, slice_get}
 use Rattle.std.specs.Char.{to_ascii_lowercase}
 use Rattle.std.specs.List.{filter, last_or, list_all, slice_split}
 use Rattle.std.specs.Map.{lookup}
@@ -20,10 +20,9 @@ use Rattle.hippo_lexer.specs.declared.kinds.TokenKind.TheVariants.{Keyword}
 use Rattle.hippo_lexer.specs.Grammar.{IsCut, IsOutcome, IsToken, a_keyword, at_blank, at_end, at_fault, at_token, with_first}
 use Rattle.hippo_lexer.specs.Spelling.{begins_with, is_blank}
 use Rattle.hippo_lexer.specs.Words.{words_check}
-use Rattle.hippo_lines.specs.Forms.{short_word_of, short_words}
+use Rattle.hippo_lines.specs.Forms.{short_words}
 use Rattle.hippo_lines.specs.Words.{is_filled, is_space, words_of}
 use Rattle.hippo_model.specs.declared.statement.RawSelect.{RawSelect}
-use Rattle.hippo_model.specs.declared.statement.Stmt.{Stmt}
 use Rattle.hippo_model.specs.declared.statement.Stmt.TheVariants as stmt
 use Rattle.hippo_spj_reader.specs.Front.{Kinds, kinds, same_keyword}
 use Rattle.hippo_spj_reader.specs.SelectGrammar as selects
