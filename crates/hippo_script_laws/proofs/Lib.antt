@@ -1,7 +1,11 @@
 pub mod LineLemmas
 pub mod JudgingLemmas
+pub mod QuestionLemmas
+pub mod AskingTheorem
 pub mod LinesTheorem
 pub mod ScriptTheorem
 pub mod InnerLemmas
 pub mod ToldTheorem
 pub mod CutTheorem
+pub mod BareTheorem
+pub mod ScriptExamples

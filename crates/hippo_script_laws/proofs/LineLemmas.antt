@@ -1,21 +1,27 @@
 -- What the lines of a script command.
-use Rattle.std.proofs.Common.{◌≡◌, ◌∙◌, ℕ, suc, ◌+◌, ◌/◌, ◌%◌, ◌<◌, true, false, List, [], ◌∷◌, ◌++◌, length, Option, Some, None, Ok, refl, ap, arith, ℤ, pos, codes}
-use Rattle.std.specs.Prelude.{int_le, nat_lt, ok_or, option_and_then, unsigned_abs}
+use Rattle.std.proofs.Common.{◌≡◌, ◌∙◌, ℕ, suc, ◌+◌, ◌/◌, ◌%◌, ◌<◌, Bool, true, false, not, List, [], ◌∷◌, ◌++◌, length, Option, Some, None, Ok, refl, subst, ap, arith, ℤ, pos, codes, bytes_eq}
+use Rattle.std.specs.Prelude.{if◌then◌else◌, int_le, nat_lt, ok_or, option_and_then, option_map, unsigned_abs}
 use Rattle.std.specs.Int.{int_div_euclid, int_rem_euclid}
-use Rattle.std.proofs.lemmas.Bool.{and_parts, lt-ltb, ne_eqb}
+use Rattle.std.specs.List.{filter, list_all, slice_split}
+use Rattle.std.proofs.lemmas.Bool.{and_from, and_parts, both_ways, lt-ltb, ne_eqb, not_from_false, not-true}
 use Rattle.std.proofs.lemmas.Int.{ints}
+use Rattle.std.proofs.lemmas.Slice.Eq.{bytes_eq-Decides}
 use Rattle.hippo_values.specs.Dates.{clock_text, date_text, day_of_month, day_text, moment_text, month_of, time_text, year_of}
 use Rattle.hippo_values.specs.Moments.{IsMoment, day_seconds, first_moment, is_moment, last_moment}
+use Rattle.hippo_values.specs.Names.{begins_with_letter, folded, is_name, is_word_byte, name_of}
 use Rattle.hippo_values.specs.Texts.{Txt}
 use Rattle.hippo_values.specs.declared.moments.Moment.{Moment}
+use Rattle.hippo_values.specs.declared.names.Name.{Name}
 use Rattle.hippo_io.specs.Lines.{text_line}
 use Rattle.hippo_model.specs.declared.statement.Stmt.{Stmt}
+use Rattle.hippo_model.specs.Keepable.{is_folded_name}
 use Rattle.hippo_report.specs.declared.refusal.Refusal.TheVariants.{BadSyntax}
-use Rattle.hippo_lines.specs.Words.{is_space, words_of, only}
-use Rattle.hippo_lines.specs.Forms.{sets_clock, states, short_word_of, form_with, line_form}
-use Rattle.hippo_commands.specs.Commands.{state, set_clock, command_of, command_by, clock_command, state_command, statement_among, statement_by, statement_in}
+use Rattle.hippo_lines.specs.Words.{is_filled, is_space, words_of, only}
+use Rattle.hippo_lines.specs.Forms.{◌>>=◌, asks, logs_in, logs_out, sets_clock, states, short_word_of, form_with, line_form}
+use Rattle.hippo_commands.specs.Commands.{ask, state, set_clock, command_of, command_by, clock_command, state_command, statement_among, statement_by, statement_in}
 use Rattle.hippo_commands.proofs.MomentLemmas.{moments_are_read}
 use Rattle.hippo_telling_laws.specs.TellingLaws.{ReadsAs}
+use Rattle.hippo_script_laws.specs.ScriptLaws.{login_line}
 
 -- a text that is read as a statement is that statement
 pub statement-is : (text : Txt) (statement : Stmt) → ReadsAs text statement → statement_in text
@@ -98,3 +104,124 @@ sets-it moment fits =
     ap command_by (clock_form (moment_text moment) (moment-words moment))
     ∙ ap clock_command
     ((moments_are_read (moment_text moment) moment).1 (moment-fits moment fits, refl))
+
+-- a text begins with a word that is no short one
+pub record Begins (text : Txt) : Type 0 where
+  pub word : Txt
+  pub words : List Txt
+  pub are : words_of text ≡ word ∷ words
+  pub plain : short_word_of word ≡ None
+
+-- no space stands in a word
+abbrev pub is_whole : Txt → Bool
+is_whole word = list_all (λ byte. not (is_space byte)) word
+
+-- a word with a space behind it is the first, and one with nothing behind it is the last
+pub split-word : (word rest : Txt) → is_whole word ≡ true
+    → slice_split is_space (word ++ 32 ∷ rest) ≡ word ∷ slice_split is_space rest
+split-word [] rest one = refl
+split-word (byte ∷ word) rest one =
+    let parts = and_parts (not (is_space byte)) (is_whole word) one in
+    rw (not-true (is_space byte) parts.0) (rw (split-word word rest parts.1) refl)
+
+split-last : (word : Txt) → is_whole word ≡ true → slice_split is_space word ≡ word ∷ []
+split-last [] one = refl
+split-last (byte ∷ word) one =
+    let parts = and_parts (not (is_space byte)) (is_whole word) one in
+    rw (not-true (is_space byte) parts.0) (rw (split-last word parts.1) refl)
+
+-- a name in lower case is one word, and is read as itself
+record IsWord (name : Name) : Type 0 where
+  filled : is_filled name ≡ true
+  one : is_whole name ≡ true
+  named : name_of name ≡ Some name
+
+no_space : (byte : ℕ) → is_word_byte byte ≡ true → not (is_space byte) ≡ true
+no_space byte is =
+    not_from_false _ (ne_eqb byte 32 (λ same. both_ways (is_word_byte 32) refl
+    (subst (λ (b : ℕ). is_word_byte b ≡ true) same is)))
+
+no_spaces : (word : Txt) → list_all is_word_byte word ≡ true → is_whole word ≡ true
+no_spaces [] all = refl
+no_spaces (byte ∷ word) all =
+    let parts = and_parts (is_word_byte byte) (list_all is_word_byte word) all in
+    and_from _ _ (no_space byte parts.0) (no_spaces word parts.1)
+
+some_letter : (word : Txt) → begins_with_letter word ≡ true → is_filled word ≡ true
+some_letter [] begins = absurd cc
+some_letter (byte ∷ word) begins = refl
+
+name-word : (name : Name) → is_folded_name name ≡ true → IsWord name
+name-word name is =
+    let parts = and_parts (is_name name) (bytes_eq (folded name) name) is in
+    let form = (and_parts _ _ (and_parts _ _ parts.0).0).0 in
+    let word = and_parts (begins_with_letter name) (list_all is_word_byte name) form in
+    let same : folded name ≡ name = (bytes_eq-Decides (folded name) name).0 parts.1 in
+    record {
+      filled = some_letter name word.0;
+      one = no_spaces name word.1;
+      named = ap (λ (test : Bool). if test then Some (folded name) else None) parts.0
+          ∙ ap Some same;
+    }
+
+-- the form of a line of session 1
+session-form : (text : Txt) → line_form (codes "1 " ++ text) ≡ form_with 1 text (words_of text)
+session-form text =
+    let more : 1 < suc (suc (length text)) = omega arith in
+    let within : nat_lt 1 (length (codes "1 " ++ text)) ≡ true =
+    lt-ltb 1 (suc (suc (length text))) more in
+    rw within refl
+
+-- what it commands where its text is read as a statement
+pub asks-it : (text : Txt) (statement : Stmt) → Begins text → statement_in text ≡ Ok statement
+    → command_of (text_line (codes "1 " ++ text)) ≡ state 1 statement text
+asks-it text statement begins is =
+    let stated : form_with 1 text (begins.word ∷ begins.words) ≡ Some (states 1 text) =
+    rw begins.plain refl in
+    let form : line_form (codes "1 " ++ text) ≡ Some (states 1 text) =
+    session-form text ∙ ap (form_with 1 text) begins.are ∙ stated in
+    ap command_by form ∙ ap (state_command 1 text) is
+
+-- the lines that open and end it
+login-words : (user purpose recipient : Name) → IsWord user → IsWord purpose → IsWord recipient
+    → words_of (codes "login " ++ (user ++ (codes " " ++ (purpose ++ (codes " " ++ recipient)))))
+    ≡ codes "login" ∷ user ∷ purpose ∷ recipient ∷ []
+unfolding words_of
+login-words user purpose recipient who why whom =
+    let all : slice_split is_space (user ++ 32 ∷ (purpose ++ 32 ∷ recipient))
+    ≡ user ∷ purpose ∷ recipient ∷ [] =
+    split-word user (purpose ++ 32 ∷ recipient) who.one
+    ∙ ap (λ (later : List Txt). user ∷ later) (split-word purpose recipient why.one)
+    ∙ ap (λ (later : List Txt). user ∷ purpose ∷ later) (split-last recipient whom.one) in
+    ap (λ (later : List Txt). filter is_filled (codes "login" ∷ later)) all
+    ∙ rw (who.filled, why.filled, whom.filled) refl
+
+login-asks : (user purpose recipient : Name) (text : Txt) → IsWord user → IsWord purpose
+    → IsWord recipient → form_with 1 text (codes "login" ∷ user ∷ purpose ∷ recipient ∷ [])
+    ≡ Some (asks 1 (logs_in user purpose recipient))
+login-asks user purpose recipient text who why whom =
+    ap (λ (name : Option Name). option_map (asks 1) (name >>= λ u. (name_of purpose >>= λ p.
+    (name_of recipient >>= λ r. Some (logs_in u p r))))) who.named
+    ∙ ap (λ (name : Option Name). option_map (asks 1) (name >>= λ p. (name_of recipient >>= λ r.
+    Some (logs_in user p r)))) why.named
+    ∙ ap (λ (name : Option Name). option_map (asks 1) (name >>= λ r.
+    Some (logs_in user purpose r))) whom.named
+
+pub logs-in-it : (user purpose recipient : Name) → is_folded_name user ≡ true
+    → is_folded_name purpose ≡ true → is_folded_name recipient ≡ true
+    → command_of (text_line (login_line user purpose recipient))
+    ≡ ask 1 (logs_in user purpose recipient)
+logs-in-it user purpose recipient is_user is_purpose is_recipient =
+    let who = name-word user is_user in
+    let why = name-word purpose is_purpose in
+    let whom = name-word recipient is_recipient in
+    let text : Txt =
+    codes "login " ++ (user ++ (codes " " ++ (purpose ++ (codes " " ++ recipient)))) in
+    let form : line_form (codes "1 " ++ text) ≡ Some (asks 1 (logs_in user purpose recipient)) =
+    session-form text ∙ ap (form_with 1 text) (login-words user purpose recipient who why whom)
+    ∙ login-asks user purpose recipient text who why whom in
+    ap command_by form
+
+pub logs-out-it : command_of (text_line (codes "1 logout")) ≡ ask 1 logs_out
+unfolding words_of
+logs-out-it = refl

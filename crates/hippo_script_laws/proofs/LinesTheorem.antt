@@ -1,7 +1,6 @@
 -- What is shown as a script is its lines.
 use Rattle.std.proofs.Common.{◌≡◌, ◌∙◌, Bool, true, false, List, [], ◌∷◌, ◌++◌, filter, flat_map, Option, Some, refl, sym, ap, codes}
 use Rattle.std.specs.Prelude.{if◌then◌else◌}
-use Rattle.std.proofs.lemmas.Bool.{and_parts}
 use Rattle.std.proofs.lemmas.List.{append-nil, append_assoc}
 use Rattle.std.proofs.lemmas.List.Concat.{flat_map-append}
 use Rattle.hippo_values.specs.Dates.{moment_text}
@@ -13,21 +12,36 @@ use Rattle.hippo_model.specs.declared.entry.Entry.{Entry}
 use Rattle.hippo_model.specs.declared.schema.Schema.{Schema}
 use Rattle.hippo_model.specs.Terms.{History}
 use Rattle.hippo_telling.specs.Telling.{schema_before, told_act}
-use Rattle.hippo_telling_laws.specs.TellingLaws.{is_stated}
 use Rattle.hippo_showing.specs.declared.asking.Excerpt.{Excerpt}
 use Rattle.hippo_showing.specs.declared.asking.Form.{Form}
 use Rattle.hippo_showing.specs.declared.asking.Form.TheVariants.{Script}
-use Rattle.hippo_showing.specs.Showing.{stands_at, clock_line, act_lines, told_as, is_told, entries_told}
-use Rattle.hippo_script_laws.specs.ScriptLaws.{ScriptsAreLines, are_stated, clock_lines, script_lines, statement_line}
+use Rattle.hippo_showing.specs.Showing.{stands_at, clock_line, act_lines, session_lines, told_as, is_told, entries_told}
+use Rattle.hippo_script_laws.specs.ScriptLaws.{ScriptsAreLines, act_script, clock_lines, entry_lines, question_lines, script_lines}
 
 abbrev pub fed : Txt → Txt
 fed line = line ++ codes "\n"
 
--- a statement is a line of the console
-act-line : (schema : Option Schema) (act : Act) → is_stated schema act ≡ true
-    → act_lines schema act ≡ fed (codes "0 " ++ told_act schema act)
-act-line schema (Asked user purpose recipient text) stated = absurd cc
-act-line schema act stated = refl
+-- a question's lines are a session, and any other act's line stands at the console
+three_words : (one second third rest : Txt)
+    → ((one ++ 32 ∷ (second ++ 32 ∷ third)) ++ 10 ∷ []) ++ rest
+    ≡ one ++ 32 ∷ (second ++ 32 ∷ (third ++ 10 ∷ rest))
+three_words one second third rest =
+    append_assoc (one ++ 32 ∷ (second ++ 32 ∷ third)) (10 ∷ []) rest
+    ∙ append_assoc one (32 ∷ (second ++ 32 ∷ third)) (10 ∷ rest)
+    ∙ ap (λ (t : Txt). one ++ 32 ∷ t) (append_assoc second (32 ∷ third) (10 ∷ rest))
+
+session-lines : (user purpose recipient text : Txt) → session_lines user purpose recipient text
+    ≡ flat_map fed (question_lines user purpose recipient text)
+session-lines user purpose recipient text =
+    let asked : Txt = codes "1 " ++ ((text ++ 10 ∷ []) ++ codes "1 logout\n") in
+    sym (ap (λ (t : Txt). codes "1 login " ++ t) (three_words user purpose recipient asked)
+    ∙ ap (λ (t : Txt). codes "1 login " ++ (user ++ 32 ∷ (purpose ++ 32 ∷ (recipient
+    ++ (codes "\n1 " ++ t))))) (append_assoc text (10 ∷ []) (codes "1 logout\n")))
+
+act-lines : (schema : Option Schema) (act : Act) → act_lines schema act
+    ≡ flat_map fed (act_script schema act)
+act-lines schema (Asked user purpose recipient text) = session-lines user purpose recipient text
+act-lines schema act = sym (append-nil (codes "0 " ++ (told_act schema act ++ codes "\n")))
 
 clock-line : (clock : Option Moment) (moment : Moment) → clock_line clock moment
     ≡ flat_map fed (clock_lines clock moment)
@@ -47,49 +61,43 @@ module _ (history : History) (excerpt : Excerpt) (is_script : excerpt.form ≡ S
 
   -- an entry that is told, and the lines of those behind it
   entry-lines : (clock : Option Moment) (entry : Entry) (later : History)
-      → is_stated (schema_before history entry) entry.act ≡ true → Spells (Some entry.moment) later
+      → Spells (Some entry.moment) later
       → told_as history excerpt.form clock entry
       ++ entries_told history excerpt (Some entry.moment) later
       ≡ flat_map fed
       (script_lines history clock (entry ∷ filter (is_told history excerpt) later))
-  entry-lines clock entry later stated behind =
+  entry-lines clock entry later behind =
       let told : History = filter (is_told history excerpt) later in
       let rest : List Txt = script_lines history (Some entry.moment) told in
-      let statement : Txt = statement_line history entry in
+      let first : List Txt = clock_lines clock entry.moment in
+      let written : List Txt = entry_lines history entry in
       let schema : Option Schema = schema_before history entry in
       let here : told_as history excerpt.form clock entry
       ≡ clock_line clock entry.moment ++ act_lines schema entry.act =
       ap (λ (form : Form). told_as history form clock entry) is_script in
       let spelled : told_as history excerpt.form clock entry
-      ≡ flat_map fed (clock_lines clock entry.moment) ++ fed statement =
-      here ∙ (λ i. clock-line clock entry.moment i ++ act-line schema entry.act stated i) in
+      ≡ flat_map fed first ++ flat_map fed written =
+      here ∙ (λ i. clock-line clock entry.moment i ++ act-lines schema entry.act i) in
       (λ i. spelled i ++ behind i)
-      ∙ append_assoc (flat_map fed (clock_lines clock entry.moment)) (fed statement)
-      (flat_map fed rest)
-      ∙ sym (flat_map-append fed (clock_lines clock entry.moment) (statement ∷ rest))
+      ∙ append_assoc (flat_map fed first) (flat_map fed written) (flat_map fed rest)
+      ∙ ap (λ (text : Txt). flat_map fed first ++ text) (sym (flat_map-append fed written rest))
+      ∙ sym (flat_map-append fed first (written ++ rest))
 
-  entries-lines : (clock : Option Moment) (entries : History)
-      → are_stated history (filter (is_told history excerpt) entries) ≡ true
-      → Spells clock entries
-  entries-lines clock [] stated = refl
-  entries-lines clock (entry ∷ later) stated =
-      by_test (is_told history excerpt entry) (λ after. entries-lines after later) stated
+  entries-lines : (clock : Option Moment) (entries : History) → Spells clock entries
+  entries-lines clock [] = refl
+  entries-lines clock (entry ∷ later) =
+      by_test (is_told history excerpt entry) (λ after. entries-lines after later)
     where
       told : History
       told = filter (is_told history excerpt) later
 
-      by_test : (test : Bool)
-          → ((after : Option Moment) → are_stated history told ≡ true → Spells after later)
-          → are_stated history (if test then entry ∷ told else told) ≡ true
+      by_test : (test : Bool) → ((after : Option Moment) → Spells after later)
           → (if test then told_as history excerpt.form clock entry else [])
           ++ entries_told history excerpt (if test then Some entry.moment else clock) later
           ≡ flat_map fed (script_lines history clock (if test then entry ∷ told else told))
-      by_test true behind stated =
-          let each = and_parts (is_stated (schema_before history entry) entry.act)
-          (are_stated history told) stated in
-          entry-lines clock entry later each.0 (behind (Some entry.moment) each.1)
-      by_test false behind stated = behind clock stated
+      by_test true behind = entry-lines clock entry later (behind (Some entry.moment))
+      by_test false behind = behind clock
 
 pub scripts_are_lines : ScriptsAreLines
-scripts_are_lines history excerpt clock entries is_script stated =
-    entries-lines history excerpt is_script clock entries stated
+scripts_are_lines history excerpt clock entries is_script =
+    entries-lines history excerpt is_script clock entries

@@ -1,15 +1,16 @@
 -- The lines of a valid history's script make it again.
-use Rattle.std.proofs.Common.{◌≡◌, ◌∙◌, ℕ, suc, ◌+◌, ◌≤◌, ◌<◌, true, false, not, ◌&&◌, List, [], ◌∷◌, ◌++◌, length, map, Option, Some, None, refl, sym, ap, subst, arith, codes}
-use Rattle.std.specs.Prelude.{◌==◌, if◌then◌else◌, int_le, nat_lt}
-use Rattle.std.specs.List.{filter, list_all, slice_split}
+use Rattle.std.proofs.Common.{◌≡◌, ◌⊎◌, ◌∙◌, suc, ◌+◌, ◌≤◌, ◌<◌, true, false, not, ◌&&◌, List, [], ◌∷◌, ◌++◌, length, map, Option, Some, None, refl, sym, ap, subst, inl, inr, arith, codes}
+use Rattle.std.specs.Prelude.{◌==◌, ◌||◌, if◌then◌else◌, int_le, nat_lt}
+use Rattle.std.specs.List.{filter}
 use Rattle.std.specs.Option.{option_map_or}
-use Rattle.std.proofs.lemmas.Bool.{and_parts, not-true}
+use Rattle.std.proofs.lemmas.Bool.{and_from, and_parts, or_right}
 use Rattle.std.proofs.lemmas.Bool.Decides.{Decides-int_eq}
-use Rattle.std.proofs.lemmas.List.{append-nil, append_assoc, length-append}
+use Rattle.std.proofs.lemmas.List.{append-nil, append_assoc, length-append, map-append}
 use Rattle.hippo_values.specs.Dates.{moment_text}
 use Rattle.hippo_values.specs.Moments.{is_moment}
 use Rattle.hippo_values.specs.Texts.{Txt}
 use Rattle.hippo_values.specs.declared.moments.Moment.{Moment}
+use Rattle.hippo_values.specs.declared.names.Name.{Name}
 use Rattle.hippo_io.specs.Lines.{LineText, text_line}
 use Rattle.hippo_model.specs.declared.entry.Act.{Act}
 use Rattle.hippo_model.specs.declared.entry.Act.TheVariants.{Create, Insert, Update, Delete, Purpose, Recipient, Item, Authorize, Deauthorize, Allow, Revoke, Choice, Asked}
@@ -24,40 +25,26 @@ use Rattle.hippo_model.proofs.LastWords.{last_word-append}
 use Rattle.hippo_laws.proofs.ValidFronts.{next_number}
 use Rattle.hippo_typing.specs.Meanings.{meaning}
 use Rattle.hippo_report.specs.Notices.{done_line, number_line}
-use Rattle.hippo_lines.specs.Words.{is_filled, is_space, words_of}
+use Rattle.hippo_lines.specs.Words.{is_filled, words_of}
 use Rattle.hippo_lines.specs.Forms.{short_word_of}
-use Rattle.hippo_world.specs.Worlds.{World}
+use Rattle.hippo_world.specs.Worlds.{World, opening}
 use Rattle.hippo_commands.specs.Commands.{command_of}
+use Rattle.hippo_judging.specs.Checks.{is_question}
 use Rattle.hippo_judging.specs.Deeds.{next_entry}
 use Rattle.hippo_engine.specs.Effects.{Effect, carried_out, effect_of, only_reply}
-use Rattle.hippo_following.proofs.HistoryLemmas.{followed}
+use Rattle.hippo_following.proofs.HistoryLemmas.{acceptable, followed, keepable}
 use Rattle.hippo_telling.specs.Telling.{schema_before, told_act}
 use Rattle.hippo_telling_laws.specs.TellingLaws.{MakesAgain, is_stated}
 use Rattle.hippo_telling_laws.proofs.EntryTheorem.{entries_are_made_again}
 use Rattle.hippo_showing.specs.Showing.{stands_at}
-use Rattle.hippo_script_laws.specs.ScriptLaws.{ScriptsMakeHistories, are_stated, ruled, script_lines, starts_before, statement_line}
-use Rattle.hippo_script_laws.proofs.LineLemmas.{sets-it, states-it}
+use Rattle.hippo_script_laws.specs.ScriptLaws.{RunsBeginFree, ScriptsMakeHistories, act_script, are_scripted, entry_lines, is_bare, is_free, is_scripted, ruled, script_lines, serves, starts_before}
+use Rattle.hippo_script_laws.proofs.LineLemmas.{Begins, is_whole, sets-it, split-word, states-it}
 use Rattle.hippo_script_laws.proofs.JudgingLemmas.{change-judged, clock-judged}
+use Rattle.hippo_script_laws.proofs.AskingTheorem.{question-makes}
 
--- a text begins with a word that is no short one
-record Begins (text : Txt) : Type 0 where
-  word : Txt
-  words : List Txt
-  are : words_of text ≡ word ∷ words
-  plain : short_word_of word ≡ None
-
--- a word with a space behind it is the first
-split-word : (word rest : Txt) → list_all (λ (byte : ℕ). not (is_space byte)) word ≡ true
-    → slice_split is_space (word ++ 32 ∷ rest) ≡ word ∷ slice_split is_space rest
-split-word [] rest one = refl
-split-word (byte ∷ word) rest one =
-    let parts =
-    and_parts (not (is_space byte)) (list_all (λ (byte : ℕ). not (is_space byte)) word) one in
-    rw (not-true (is_space byte) parts.0) (rw (split-word word rest parts.1) refl)
-
+-- a statement begins with a word that is no short one
 begins : (word rest : Txt) → is_filled word ≡ true
-    → list_all (λ (byte : ℕ). not (is_space byte)) word ≡ true → short_word_of word ≡ None
-    → Begins (word ++ 32 ∷ rest)
+    → is_whole word ≡ true → short_word_of word ≡ None → Begins (word ++ 32 ∷ rest)
 unfolding words_of
 begins word rest filled one plain = record {
   word = word;
@@ -86,6 +73,32 @@ told-begins schema (Revoke purpose recipient table places) stated =
     begins (codes "REVOKE") _ refl refl refl
 told-begins schema (Choice subject item agreed) stated = begins (codes "CHOICE") _ refl refl refl
 told-begins schema (Asked user purpose recipient text) stated = absurd cc
+
+-- an act that a script makes again is a statement, or a question
+pub record IsAsked (act : Act) : Type 0 where
+  pub user : Name
+  pub purpose : Name
+  pub recipient : Name
+  pub text : Txt
+  pub is : act ≡ Asked user purpose recipient text
+  pub bare : is_bare text ≡ true
+
+pub scripted-so : (schema : Option Schema) (act : Act) → is_scripted schema act ≡ true
+    → (is_stated schema act ≡ true) ⊎ IsAsked act
+scripted-so schema (Asked user purpose recipient text) scripted = inr (record {
+  user = user;
+  purpose = purpose;
+  recipient = recipient;
+  text = text;
+  is = refl;
+  bare = scripted;
+})
+scripted-so schema act scripted = inl scripted
+
+pub stated-lines : (schema : Option Schema) (act : Act) → is_stated schema act ≡ true
+    → act_script schema act ≡ (codes "0 " ++ told_act schema act) ∷ []
+stated-lines schema (Asked user purpose recipient text) stated = absurd cc
+stated-lines schema act stated = refl
 
 -- the parts of what lets an entry follow
 pub record Follows (before : History) (entry : Entry) : Type 0 where
@@ -136,7 +149,8 @@ module _ (before later : History) (entry : Entry)
 
   line-makes : (world : World) → world.clock ≡ entry.moment → length before < world.limit
       → is_stated (schema_before whole entry) entry.act ≡ true
-      → effect_of before world (command_of (text_line (statement_line whole entry)))
+      → effect_of before world
+      (command_of (text_line (codes "0 " ++ told_act (schema_before whole entry) entry.act)))
       ≡ made_effect world
   line-makes world clock room stated =
       let schema : Option Schema = schema_before whole entry in
@@ -162,6 +176,38 @@ module _ (before later : History) (entry : Entry)
             added = made ∷ [];
             world = world;
           }
+
+  -- its lines make it, whatever lines come behind them
+  entry-makes : (world : World) → world.clock ≡ entry.moment → length before < world.limit
+      → is_scripted (schema_before whole entry) entry.act ≡ true
+      → (not (is_question entry.act) || is_free world) ≡ true → (more : List LineText)
+      → ruled before world (map text_line (entry_lines whole entry) ++ more)
+      ≡ ruled (before ++ entry ∷ []) world more
+  entry-makes world clock room scripted served more =
+      let schema : Option Schema = schema_before whole entry in
+      elim (scripted-so schema entry.act scripted) [
+        | inl stated ↦
+            ap (λ (written : List Txt). ruled before world (map text_line written ++ more))
+            (stated-lines schema entry.act stated)
+            ∙ ap (λ (e : Effect). ruled (before ++ e.added) e.world more)
+            (line-makes world clock room stated)
+        | inr asked ↦
+            let act : entry.act ≡ Asked asked.user asked.purpose asked.recipient asked.text =
+            asked.is in
+            let free : is_free world ≡ true =
+            subst (λ (a : Act). (not (is_question a) || is_free world) ≡ true) act served in
+            let kept = subst (λ (a : Act). act_is_keepable a ≡ true) act
+            (keepable meaning before entry may) in
+            let fit = subst (λ (a : Act). is_acceptable meaning before a ≡ true) act
+            (acceptable meaning before entry may) in
+            ap (λ (a : Act). ruled before world (map text_line (act_script schema a) ++ more)) act
+            ∙ question-makes before world asked.user asked.purpose asked.recipient asked.text free
+            kept fit asked.bare room more
+            ∙ ap (λ (a : Act). ruled (before ++ next_entry before world a ∷ []) world more)
+            (sym act)
+            ∙ ap (λ (made : Entry). ruled (before ++ made ∷ []) world more)
+            (made-entry world clock)
+      ]
 
   clock-moves : (world : World) → int_le world.clock entry.moment ≡ true
       → effect_of before world (command_of (text_line (codes "at " ++ moment_text entry.moment)))
@@ -207,51 +253,65 @@ next-stands before (next ∷ rest) entry world valid clock =
 
 module _ (whole : History) (valid : is_valid meaning whole ≡ true) where
   script-runs : (later before : History) (clock : Option Moment) (world : World) → whole
-      ≡ before ++ later → are_stated whole later ≡ true → length whole ≤ world.limit
-      → Stands clock world later
+      ≡ before ++ later → are_scripted whole later ≡ true → length whole ≤ world.limit
+      → serves world later ≡ true → Stands clock world later
       → ruled before world (map text_line (script_lines whole clock later)) ≡ before ++ later
-  script-runs [] before clock world parts stated room stands = sym (append-nil before)
-  script-runs (entry ∷ later) before clock world parts stated room stands =
-      let each = and_parts (is_stated (schema_before whole entry) entry.act)
-      (are_stated whole later) stated in
+  script-runs [] before clock world parts scripted room served stands = sym (append-nil before)
+  script-runs (entry ∷ later) before clock world parts scripted room served stands =
+      let each = and_parts (is_scripted (schema_before whole entry) entry.act)
+      (are_scripted whole later) scripted in
       let here : is_valid meaning (before ++ entry ∷ later) ≡ true =
       ap (is_valid meaning) (sym parts) ∙ valid in
-      let more : List LineText = map text_line (script_lines whole (Some entry.moment) later) in
-      let statement : LineText = text_line (statement_line whole entry) in
+      let rest : List Txt = script_lines whole (Some entry.moment) later in
+      let more : List LineText = map text_line rest in
+      let written : List Txt = entry_lines whole entry in
       let size : length whole ≡ length before + suc (length later) =
       ap length parts ∙ length-append before (entry ∷ later) in
       let makes : (w : World) → w.clock ≡ entry.moment → w.limit ≡ world.limit
-      → ruled before w (statement ∷ more) ≡ before ++ entry ∷ later = λ w at same.
+      → serves w (entry ∷ later) ≡ true
+      → ruled before w (map text_line (written ++ rest)) ≡ before ++ entry ∷ later =
+      λ w at same free.
       let small : length before < w.limit = omega (arith, size, room, same) in
-      let effect : effect_of before w (command_of statement)
-      ≡ made_effect before later entry here w =
-      subst (λ (h : History). is_stated (schema_before h entry) entry.act ≡ true
-      → effect_of before w (command_of (text_line (statement_line h entry)))
-      ≡ made_effect before later entry here w)
-      (sym parts) (line-makes before later entry here w at small) each.0 in
+      let wants = and_parts (not (is_question entry.act) || is_free w) (serves w later) free in
+      let made : ruled before w (map text_line written ++ more)
+      ≡ ruled (before ++ entry ∷ []) w more =
+      subst (λ (h : History). is_scripted (schema_before h entry) entry.act ≡ true
+      → ruled before w (map text_line (entry_lines h entry) ++ more)
+      ≡ ruled (before ++ entry ∷ []) w more)
+      (sym parts)
+      (λ told. entry-makes before later entry here w at small told wants.0 more) each.0 in
       let room_left : length whole ≤ w.limit = omega (arith, room, same) in
       let regrouped : whole ≡ (before ++ entry ∷ []) ++ later =
       parts ∙ sym (append_assoc before (entry ∷ []) later) in
-      ap (λ (e : Effect). ruled (before ++ e.added) e.world more) effect
+      ap (ruled before w) (map-append text_line written rest) ∙ made
       ∙ script-runs later (before ++ entry ∷ []) (Some entry.moment) w regrouped each.1
-      room_left (next-stands before later entry w here at)
+      room_left wants.1 (next-stands before later entry w here at)
       ∙ append_assoc before (entry ∷ []) later in
       elim (stands_at clock entry.moment) as (λ test. stands_at clock entry.moment ≡ test
       → ruled before world
       (map text_line
       ((if test then [] else (codes "at " ++ moment_text entry.moment) ∷ [])
-      ++ (statement_line whole entry ∷ script_lines whole (Some entry.moment) later)))
+      ++ (written ++ rest)))
       ≡ before ++ entry ∷ later) [
-        | true ↦ λ is. makes world (stands-so clock entry.moment world.clock stands.set is) refl
+        | true ↦ λ is.
+            makes world (stands-so clock entry.moment world.clock stands.set is) refl served
         | false ↦ λ is.
             let set : World = record world { clock = entry.moment } in
-            ap (λ (e : Effect). ruled (before ++ e.added) e.world (statement ∷ more))
+            let behind : List LineText = map text_line (written ++ rest) in
+            ap (λ (e : Effect). ruled (before ++ e.added) e.world behind)
             (clock-moves before later entry here world stands.no_later)
-            ∙ ap (λ (h : History). ruled h set (statement ∷ more)) (append-nil before)
-            ∙ makes set refl refl
+            ∙ ap (λ (h : History). ruled h set behind) (append-nil before)
+            ∙ makes set refl refl served
       ] refl
 
 pub scripts_make_histories : ScriptsMakeHistories
-scripts_make_histories history world valid stated room starts =
-    script-runs history valid history [] None world refl stated room
+scripts_make_histories history world valid scripted room starts served =
+    script-runs history valid history [] None world refl scripted room served
     (record { set = λ moment is. absurd cc; no_later = starts })
+
+-- a run begins with no session open
+pub runs_begin_free : RunsBeginFree
+runs_begin_free clock limit format [] = refl
+runs_begin_free clock limit format (entry ∷ later) =
+    and_from _ _ (or_right (not (is_question entry.act)) (is_free (opening clock limit format)) refl)
+    (runs_begin_free clock limit format later)
