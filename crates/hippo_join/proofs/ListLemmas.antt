@@ -1,5 +1,5 @@
 -- Lists of literals that have the value of a column.
-use Rattle.std.proofs.Common.{◌≡◌, ℕ, zero, suc, ◌+◌, ◌<◌, ◌≤◌, ◌⊎◌, inl, inr, Bool, true, false, List, [], ◌∷◌, map, length, get_or, refl, sym, ap, subst, ◌∙◌, Some, arith}
+use Rattle.std.proofs.Common.{◌≡◌, ℕ, zero, suc, ◌+◌, ◌<◌, ◌≤◌, ◌⊎◌, inl, inr, true, false, List, [], ◌∷◌, map, length, get_or, refl, sym, ap, subst, ◌∙◌, Some, arith}
 use Rattle.std.specs.List.{list_all, Contains}
 use Rattle.std.proofs.lemmas.Bool.{and_parts, cases_lt, false≢true}
 use Rattle.hippo_values.specs.declared.values.Value.{Value}
@@ -14,7 +14,7 @@ use Rattle.hippo_model.specs.declared.query.Ref.{Ref}
 use Rattle.hippo_model.specs.Terms.{Combination, Place}
 use Rattle.hippo_model.specs.RowSets.{KeyedRows}
 use Rattle.hippo_model.specs.Conditions.{greatest, is_true, is_null}
-use Rattle.hippo_model.specs.Masking.{Choices, raw_value}
+use Rattle.hippo_model.specs.Masking.{Choices}
 use Rattle.hippo_model.proofs.Truths.{truth-Among}
 use Rattle.hippo_eval.specs.MaskedTruth.{masked_value}
 use Rattle.hippo_join.specs.Lists.{is_literal, IsListedBy}

@@ -1,5 +1,5 @@
 -- Rows that are found by a column.
-use Rattle.std.proofs.Common.{◌≡◌, ◌<◌, true, false, List, length, sym, ap, subst, ◌∙◌, Option, Some, None}
+use Rattle.std.proofs.Common.{◌≡◌, ◌<◌, true, false, List, length, sym, subst, Option, Some, None}
 use Rattle.std.specs.Prelude.{slice_get, replicate, IfSome}
 use Rattle.std.specs.List.{Contains}
 use Rattle.hippo_values.specs.declared.values.Value.{Value}

@@ -1,5 +1,5 @@
 -- The row of a combination that counts has a value within the bounds.
-use Rattle.std.proofs.Common.{◌≡◌, ◌<◌, false, true, length, Some}
+use Rattle.std.proofs.Common.{◌<◌, false, true, length, Some}
 use Rattle.std.specs.Option.{IfSome}
 use Rattle.std.specs.List.{Contains}
 use Rattle.std.proofs.lemmas.Option.{IfSome_then}
