@@ -165,8 +165,8 @@ impl<'a, C: ChoiceView> Side<'a, C> {
         best
     }
 
-    // The places of a table's rows that are within the bounds which the condition says of a column, if rows are found by
-    // it.
+    // The places of a table's rows that are within the bounds which the condition says of a column, if rows are found
+    // by it.
     fn bounded_places(
         &self,
         alloc: Global,
@@ -189,8 +189,8 @@ impl<'a, C: ChoiceView> Side<'a, C> {
             .places_within(alloc, column, Some(low), high)
     }
 
-    // The places of a table's rows that have a value of a list which the condition says of a column, if rows are found by
-    // it.
+    // The places of a table's rows that have a value of a list which the condition says of a column, if rows are found
+    // by it.
     fn listed_places(
         &self,
         alloc: Global,

@@ -1,5 +1,5 @@
 -- The rows within two bounds of a column are those whose entries stand between two places.
-use Rattle.std.proofs.Common.{◌≡◌, true, false, ℕ, zero, suc, ◌+◌, ◌<◌, ◌≤◌, nat_lt, List, [], ◌∷◌, ◌++◌, map, length, Option, Some, None, IfSome, slice_get, inl, inr, sym, ap, ◌∙◌, refl, subst, arith, ltb-true, ltb-false}
+use Rattle.std.proofs.Common.{◌≡◌, true, false, ℕ, zero, suc, ◌+◌, ◌<◌, ◌≤◌, List, [], ◌∷◌, ◌++◌, map, length, Option, Some, None, IfSome, slice_get, inl, inr, sym, ap, ◌∙◌, refl, subst, arith, ltb-true, ltb-false}
 use Rattle.std.specs.Prelude.{option_map, unwrap_or}
 use Rattle.std.specs.List.{Contains}
 use Rattle.std.proofs.lemmas.Bool.{cases_lt}

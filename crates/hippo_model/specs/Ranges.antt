@@ -1,5 +1,6 @@
--- Rows that stand between two ends in the order of their keys, by the first values of the key and by what bounds the next.
-use Rattle.std.specs.Prelude.{◌≡◌, ◌<◌, Bool, true, false, not, nat_lt, List, [], ◌∷◌, length, take, Option, IfSome}
+-- Rows that stand between two ends in the order of their keys, by the first values of the key and by what bounds the
+-- next.
+use Rattle.std.specs.Prelude.{◌≡◌, ◌<◌, Bool, true, false, not, nat_lt, [], ◌∷◌, length, take, Option, IfSome}
 use Rattle.std.specs.Ordering.{is_lt, is_le, ordering_then}
 use Rattle.std.specs.declared.cmp.Ordering.{Ordering}
 use Rattle.std.specs.declared.cmp.Ordering.TheVariants.{Equal}

@@ -111,8 +111,8 @@ impl RowSet {
         }
     }
 
-    /// The places of rows, each in the set, among them all whose value in a column is within two bounds; none where rows
-    /// are not found by the column.
+    /// The places of rows, each in the set, among them all whose value in a column is within two bounds; none where
+    /// rows are not found by the column.
     pub fn places_within(
         &self,
         alloc: Global,

@@ -112,9 +112,9 @@ impl Tables {
     }
 
     /// Keeps, from now on, orders of the rows of a query's tables by the columns that it compares with `=`, with a
-    /// literal or with a column of another table, that it bounds by a literal, or that are to be in a list of literals, so
-    /// that such rows are found by halves. Of a table that has no more than 256 rows none is kept. The tables stay what
-    /// they are, and so does every answer.
+    /// literal or with a column of another table, that it bounds by a literal, or that are to be in a list of literals,
+    /// so that such rows are found by halves. Of a table that has no more than 256 rows none is kept. The tables stay
+    /// what they are, and so does every answer.
     pub fn order_for(&mut self, alloc: Global, query: &Query)
         ensures { IsAsBefore self.old self.new }
     {
