@@ -7,6 +7,7 @@ pub mod PartLemmas
 pub mod PruneLemmas
 pub mod KeyLemmas
 pub mod RangeLemmas
+pub mod ListLemmas
 pub mod ReachLemmas
 pub mod SeekingLemmas
 pub mod FindingLemmas

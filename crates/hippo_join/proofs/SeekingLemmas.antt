@@ -1,33 +1,43 @@
--- Rows that are found by the value of a column.
-use Rattle.std.proofs.Common.{◌≡◌, ◌<◌, true, List, length, sym, subst, ◌∙◌, Option, Some, None}
-use Rattle.std.specs.Prelude.{slice_get, replicate}
+-- Rows that are found by a column.
+use Rattle.std.proofs.Common.{◌≡◌, ◌<◌, true, false, List, length, sym, subst, Option, Some, None}
+use Rattle.std.specs.Prelude.{slice_get, replicate, IfSome}
 use Rattle.std.specs.List.{Contains}
-use Rattle.std.proofs.lemmas.Bool.{false≢true}
 use Rattle.hippo_values.specs.declared.values.Value.{Value}
+use Rattle.hippo_model.specs.declared.query.Expr.{Expr}
+use Rattle.hippo_model.specs.declared.query.Expr.TheVariants.{Literal}
 use Rattle.hippo_model.specs.declared.query.Masked.{Masked}
+use Rattle.hippo_model.specs.declared.ranges.Bound.{Bound}
 use Rattle.hippo_model.specs.Terms.{Place}
 use Rattle.hippo_model.specs.RowSets.{KeyedRows}
-use Rattle.hippo_model.specs.Conditions.{is_null, outer_parts}
+use Rattle.hippo_model.specs.Conditions.{outer_parts}
 use Rattle.hippo_model.specs.Masking.{Choices}
-use Rattle.hippo_join.specs.Places.{Fits}
+use Rattle.hippo_join.specs.Places.{chosen, Fits}
 use Rattle.hippo_join.specs.Lookups.{value_at}
-use Rattle.hippo_join.specs.Keys.{IsToldBy}
+use Rattle.hippo_join.specs.Lists.{IsListedBy}
+use Rattle.hippo_join.specs.Ranges.{bounding, IsBoundedBy, KeepsBound}
 use Rattle.hippo_join.specs.Stages.{Reaches, ReachesFrom}
 use Rattle.hippo_join.proofs.PruneLemmas.{below-rows, in-range, all-hold, long-enough}
+use Rattle.hippo_join.proofs.RangeLemmas.{keeps}
 use Rattle.hippo_join.proofs.SlotLemmas.{Fits-open, raw-at}
 
 module _ (choices : Choices) (query : Masked) (sets : List KeyedRows) where
-  module _ (slots : List (Option Place)) (table column : Place) (value : Value) (told : IsToldBy choices sets slots (outer_parts query.cond) (record { table = table; column = column }) value) where
-    -- nothing counts where the value that is told is null
-    pub null-told : is_null value ≡ true → (some : List Place) → ReachesFrom choices query sets slots table some
-    null-told null some places fits counts place at = absurd (false≢true (sym (told places fits (all-hold choices query sets places counts)).1 ∙ null))
-
-    -- each place that counts has the value that is told
-    pub found-told : (set : KeyedRows) (some : List Place) → slice_get sets table ≡ Some set → ((place : Place) → place < length set.rows → value_at set column place ≡ value → Contains some place)
+  module _ (slots : List (Option Place)) (table column : Place) (set : KeyedRows) (some : List Place) (at_set : slice_get sets table ≡ Some set) where
+    -- each place that counts has a value within the bounds that are said
+    pub found-bounded : (low : Bound) (high : Option Bound) → IsBoundedBy choices sets slots (outer_parts query.cond) (record { table = table; column = column }) (bounding false low.strict) low.value.now
+        → IfSome high (λ bound. IsBoundedBy choices sets slots (outer_parts query.cond) (record { table = table; column = column }) (bounding true bound.strict) bound.value.now)
+        → ((place : Place) → place < length set.rows → KeepsBound false (Some low) (value_at set column place) → KeepsBound true high (value_at set column place) → Contains some place)
         → ReachesFrom choices query sets slots table some
-    found-told set some at_set all places fits counts place at =
+    found-bounded low high of_low of_high all places fits counts place at =
         all place (below-rows sets places table set place (in-range choices query sets places counts) at_set at)
-        (sym (raw-at sets places (record { table = table; column = column }) set place at_set at) ∙ (told places fits (all-hold choices query sets places counts)).0)
+        (keeps choices sets slots query table set column false (Some low) at_set of_low places fits counts place at) (keeps choices sets slots query table set column true high at_set of_high places fits counts place at)
+
+    -- each place that counts has a value of the list that is said
+    pub found-listed : (list : List Expr) → IsListedBy (outer_parts query.cond) (record { table = table; column = column }) list
+        → ((place : Place) → place < length set.rows → Contains list (Literal (value_at set column place)) → Contains some place)
+        → ReachesFrom choices query sets slots table some
+    found-listed list listed all places fits counts place at =
+        all place (below-rows sets places table set place (in-range choices query sets places counts) at_set at)
+        (subst (λ (v : Value). Contains list (Literal v)) (raw-at sets places (record { table = table; column = column }) set place at_set at) (listed choices (chosen sets places) (all-hold choices query sets places counts)))
 
   -- where no row is chosen
   pub reaches-open : (slots : List (Option Place)) (table : Place) (some : List Place) → slots ≡ replicate (length sets) None → ReachesFrom choices query sets slots table some → Reaches choices query sets table some

@@ -4,6 +4,7 @@ pub mod Lookups
 pub mod Ties
 pub mod Keys
 pub mod Ranges
+pub mod Lists
 pub mod Stages
 pub mod Finding
 pub mod Walking

@@ -86,7 +86,7 @@ impl<'a, C: ChoiceView> Side<'a, C> {
             slots.now stage.now.table (followed following)) }
     {
         if stage.is_sought {
-            self.candidates(alloc, stage.table, slots)
+            self.candidates(alloc, stage.table, slots, 1)
         } else {
             Ok(Following::Listed(self.places_of(stage, slots)))
         }

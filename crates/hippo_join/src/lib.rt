@@ -8,6 +8,7 @@ mod gathering;
 mod joins;
 mod keys;
 mod known;
+mod lists;
 mod lookups;
 mod orders;
 mod ranges;

@@ -1,90 +1,22 @@
 //! Rows in a range of keys: the first values of the key are told, and the next one may have bounds.
-ghost use Rattle.std.specs.Prelude.{◌≡◌, ◌∷◌, [], ◌<◌, None, Some, IfOk, IfSome, length, nat_lt, slice_get, take};
+ghost use Rattle.std.specs.Prelude.{◌≡◌, ◌∷◌, [], ◌<◌, true, false, None, Some, IfOk, IfSome, length, slice_get, take};
 ghost use Rattle.hippo_values.specs.Order.{value_cmp};
+ghost use Rattle.hippo_values.specs.Truths.{is_allowed};
+ghost use Rattle.hippo_values.specs.declared.values.Value.{Value as AnyValue};
+ghost use Rattle.hippo_values.specs.declared.values.Value.TheVariants.{Null};
 ghost use Rattle.hippo_model.specs.declared.query.CondOf.TheVariants.{Compare, Between};
-ghost use Rattle.hippo_model.specs.Conditions.{outer_parts};
+ghost use Rattle.hippo_model.specs.Conditions.{outer_parts, is_null};
 ghost use Rattle.hippo_model.specs.RowSets.{KeyedRows};
-ghost use Rattle.hippo_model.specs.Rows.{cell_at, key_of};
-ghost use Rattle.hippo_model.specs.Terms.{Place};
 ghost use Rattle.hippo_join.specs.Keys.{IsKeyTold, IsWithin};
-ghost use Rattle.hippo_join.specs.Ranges.{front_cmp, is_low, is_past, stands_low, bounding, flipped, IsBoundedBy, IsEdge};
+ghost use Rattle.hippo_join.specs.Ranges.{bounding, flipped, IsBoundedBy, IsEdge};
 
 use crate::keys::{Span, shows_column};
+use crate::lookups::is_null;
 use crate::sides::Side;
 use crate::ties::outer_parts;
-use hippo_model::{Cells, ChoiceView, CondOf, Expr, Ref, RowSet};
+use hippo_model::{Bound, Cells, ChoiceView, CondOf, Expr, Ref, RowSet};
 use hippo_values::{CompareOp, Duplicate, Memory, Value};
 use std::alloc::Global;
-use std::cmp::Ordering;
-
-// A value that bounds others, from below or from above, and whether they differ from it.
-#[derive(Clone, Copy)]
-pub(crate) struct Bound<'a> {
-    pub value: &'a Value,
-    pub strict: bool,
-}
-
-fn cell_order(row: &[Value], column: usize, value: &Value) -> Ordering
-    ensures { result ≡ value_cmp (cell_at row.now column) value.now }
-{
-    row.get(column).unwrap_or(&Value::Null).cmp(value)
-}
-
-// A row's key against the first values of one.
-fn front_order(row: &[Value], columns: &[usize], front: &[Value]) -> Ordering
-    ensures { result ≡ front_cmp (key_of columns.now row.now) front.now }
-{
-    for (column, value) in columns.iter().zip(front) {
-        let order = cell_order(row, *column, value);
-        if order.is_ne() {
-            return order;
-        }
-    }
-    Ordering::Equal
-}
-
-// Whether an order is one before an end, where equal ones are passed too or not.
-fn is_low(order: Ordering, past: bool) -> bool
-    ensures { result ≡ is_low past order }
-{
-    if past { order.is_le() } else { order.is_lt() }
-}
-
-fn stands_low(set: &RowSet, front: &[Value], past: bool, place: usize) -> bool
-    requires { place < length set.now.rows }
-    ensures { result ≡ stands_low set.now front.now past place }
-{
-    is_low(
-        front_order(set.row(place).as_slice(), set.key().as_slice(), front),
-        past,
-    )
-}
-
-// Where the rows end that stand before those whose key begins with these values; or these end, where they are passed
-// too. It is found by halves.
-fn split(set: &RowSet, front: &[Value], past: bool) -> usize
-    ensures { (place : Place) → place < length set.now.rows
-        → stands_low set.now front.now past place ≡ nat_lt place result }
-{
-    let mut low = 0;
-    let mut high = set.len();
-    while low < high {
-        let middle = low + (high - low) / 2;
-        if stands_low(set, front, past, middle) {
-            low = middle + 1;
-        } else {
-            high = middle;
-        }
-    }
-    low
-}
-
-// Whether the values that are equal to a bound stand before the end that it makes.
-fn is_past(strict: bool, above: bool) -> bool
-    ensures { result ≡ is_past above strict }
-{
-    if above { !strict } else { strict }
-}
 
 // Where the rows begin, or end, whose key begins with these values.
 fn front_edge(set: &RowSet, front: &[Value], column: usize, above: bool) -> usize
@@ -93,7 +25,7 @@ fn front_edge(set: &RowSet, front: &[Value], column: usize, above: bool) -> usiz
     if front.is_empty() {
         if above { set.len() } else { 0 }
     } else {
-        split(set, front, above)
+        set.split(front, above)
     }
 }
 
@@ -111,7 +43,7 @@ fn bounded_edge(
 {
     let mut values = front.copy(alloc)?;
     values.push(bound.value.copy(alloc)?)?;
-    Ok(split(set, values.as_slice(), is_past(bound.strict, above)))
+    Ok(set.split(values.as_slice(), bound.is_past(above)))
 }
 
 fn edge(
@@ -141,6 +73,32 @@ fn strictness(op: CompareOp, above: bool) -> Option<bool>
         CompareOp::Le if above => Some(false),
         CompareOp::Lt if above => Some(true),
         _ => None,
+    }
+}
+
+// The bound that no null meets.
+fn over_null(null: &Value) -> Bound<'_>
+    requires { null.now ≡ Null }
+    ensures { (value : AnyValue) → is_null value ≡ false
+        → is_allowed (bounding false result.strict) (value_cmp value result.value.now) ≡ true }
+{
+    Bound {
+        value: null,
+        strict: true,
+    }
+}
+
+// A bound from below, which no null meets.
+fn above_null<'b>(bound: Bound<'b>, null: &'b Value) -> Bound<'b>
+    requires { null.now ≡ Null }
+    ensures { (value : AnyValue) → is_null value ≡ false
+        → is_allowed (bounding false bound.entry.strict) (value_cmp value bound.entry.value.now) ≡ true
+        → is_allowed (bounding false result.strict) (value_cmp value result.value.now) ≡ true }
+{
+    if is_null(bound.value) {
+        over_null(null)
+    } else {
+        bound
     }
 }
 
@@ -251,6 +209,59 @@ impl<'a, C: ChoiceView> Side<'a, C> {
             }
         }
         None
+    }
+
+    // The same where an equality says the value of the column.
+    pub(crate) fn told_end(
+        &self,
+        column: Ref,
+        above: bool,
+        slots: &[Option<usize>],
+    ) -> Option<Bound<'a>>
+        ensures { IfSome result (λ bound. IsBoundedBy (C.choices self.now.choices.now) self.now.sets.now slots.now
+            (outer_parts self.now.query.now.cond) column (bounding above bound.strict) bound.value.now) }
+    {
+        match self.told_value(column, slots) {
+            Some(value) => Some(Bound {
+                value,
+                strict: false,
+            }),
+            None => self.told_bound(column, above, slots),
+        }
+    }
+
+    // The bound that no null meets, where the condition bounds a column from above.
+    fn lowest_below<'b>(
+        &'b self,
+        column: Ref,
+        slots: &[Option<usize>],
+        null: &'b Value,
+    ) -> Option<Bound<'b>>
+        requires { null.now ≡ Null }
+        ensures { IfSome result (λ bound. IsBoundedBy (C.choices self.now.choices.now) self.now.sets.now slots.now
+            (outer_parts self.now.query.now.cond) column (bounding false bound.strict) bound.value.now) }
+    {
+        match self.told_end(column, true, slots) {
+            Some(_) => Some(over_null(null)),
+            None => None,
+        }
+    }
+
+    // A bound of a column from below, which no null meets, if the condition bounds the column from either side.
+    pub(crate) fn lowest<'b>(
+        &'b self,
+        column: Ref,
+        slots: &[Option<usize>],
+        null: &'b Value,
+    ) -> Option<Bound<'b>>
+        requires { null.now ≡ Null }
+        ensures { IfSome result (λ bound. IsBoundedBy (C.choices self.now.choices.now) self.now.sets.now slots.now
+            (outer_parts self.now.query.now.cond) column (bounding false bound.strict) bound.value.now) }
+    {
+        match self.told_end(column, false, slots) {
+            Some(bound) => Some(above_null(bound, null)),
+            None => self.lowest_below(column, slots, null),
+        }
     }
 
     // The places of the rows whose key begins with the values that are told, where the next one is not.

@@ -1,4 +1,4 @@
-//! Rows that are found by a column that is no key, where their table has an order by it.
+//! Rows that are found by a column that is no key, where their table has an order by it, or by a list.
 ghost use Rattle.std.specs.Prelude.{◌<◌, IfOk, IfSome, length, replicate, None};
 ghost use Rattle.hippo_join.specs.Stages.{Reaches, ReachesFrom};
 ghost use Rattle.hippo_join.specs.declared.following.Following.TheVariants.{Sought};
@@ -6,22 +6,40 @@ ghost use Rattle.hippo_join.specs.Walking.{followed};
 
 use crate::following::Following;
 use crate::keys::Span;
-use crate::lookups::is_null;
+use crate::lists::{count_listed, find_list, places_listed};
 use crate::reaching::open_slots;
 use crate::sides::Side;
 use crate::ties::{column_of, outer_parts};
 use hippo_model::{ChoiceView, CondOf, Expr, Ref};
-use hippo_values::{CompareOp, Memory};
+use hippo_values::{CompareOp, Memory, Value};
 use std::alloc::Global;
 
 // So many rows are looked at one by one, whatever order there is.
 const FEW: usize = 16;
+
+// A row that an order finds takes as long as so many that are listed and tested one by one.
+const WALKED: usize = 4;
+
+// How rows of a table are found: by the bounds of a column, or by the values that a list has for it.
+#[derive(Clone, Copy)]
+enum Access {
+    Bounds(usize),
+    List(usize),
+}
 
 // The column of a table that an expression shows.
 fn column_in(expr: &Expr, table: usize) -> Option<usize> {
     match column_of(expr) {
         Some(column) if column.table == table => Some(column.column),
         _ => None,
+    }
+}
+
+// A column of a table on either side of a comparison.
+fn column_beside(left: &Expr, right: &Expr, table: usize) -> Option<usize> {
+    match column_in(left, table) {
+        Some(column) => Some(column),
+        None => column_in(right, table),
     }
 }
 
@@ -32,10 +50,31 @@ fn compared_column(part: &CondOf<Expr>, table: usize) -> Option<usize> {
             op: CompareOp::Eq,
             left,
             right,
-        } => match column_in(left, table) {
-            Some(column) => Some(column),
-            None => column_in(right, table),
-        },
+        } => column_beside(left, right, table),
+        _ => None,
+    }
+}
+
+fn bounded_access(column: Option<usize>) -> Option<Access> {
+    match column {
+        Some(column) => Some(Access::Bounds(column)),
+        None => None,
+    }
+}
+
+fn listed_access(column: Option<usize>) -> Option<Access> {
+    match column {
+        Some(column) => Some(Access::List(column)),
+        None => None,
+    }
+}
+
+// How a part of a condition may find rows of a table.
+fn access_by(part: &CondOf<Expr>, table: usize) -> Option<Access> {
+    match part {
+        CondOf::Compare { left, right, .. } => bounded_access(column_beside(left, right, table)),
+        CondOf::Between { value, .. } => bounded_access(column_in(value, table)),
+        CondOf::Among { value, .. } => listed_access(column_in(value, table)),
         _ => None,
     }
 }
@@ -46,32 +85,25 @@ impl<'a, C: ChoiceView> Side<'a, C> {
         self.told_value(column, slots).is_some() && self.told_value(column, &[]).is_none()
     }
 
-    // Whether the condition says the value of a column by which its table has an order; where it is to be joined, by rows
-    // that are chosen alone.
-    fn finds_by(&self, column: Ref, slots: &[Option<usize>], joined: bool) -> bool
+    // Whether rows that are chosen, and no literal, say the value of a column by which its table has an order.
+    fn finds_by(&self, column: Ref, slots: &[Option<usize>]) -> bool
         requires { column.table < length self.now.sets.now }
     {
-        if !self.sets.get(column.table).is_ordered_by(column.column) {
-            return false;
-        }
-        if joined {
-            self.is_joined(column, slots)
-        } else {
-            self.told_value(column, slots).is_some()
-        }
+        self.sets.get(column.table).is_ordered_by(column.column) && self.is_joined(column, slots)
     }
 
-    fn ordered_column(&self, table: usize, slots: &[Option<usize>], joined: bool) -> Option<usize>
+    // The same of some column of a table.
+    fn is_found(&self, table: usize, slots: &[Option<usize>]) -> bool
         requires { table < length self.now.sets.now }
     {
         for part in outer_parts(&self.query.cond) {
             if let Some(column) = compared_column(part, table) {
-                if self.finds_by(Ref { table, column }, slots, joined) {
-                    return Some(column);
+                if self.finds_by(Ref { table, column }, slots) {
+                    return true;
                 }
             }
         }
-        None
+        false
     }
 
     // Whether rows that are chosen, and no literal, say the value of a column by which a table has an order, and looking
@@ -79,51 +111,131 @@ impl<'a, C: ChoiceView> Side<'a, C> {
     pub(crate) fn finds_few(&self, table: usize, slots: &[Option<usize>], before: usize) -> bool
         requires { table < length self.now.sets.now }
     {
-        before < self.sets.get(table).len() / FEW
-            && self.ordered_column(table, slots, true).is_some()
+        before < self.sets.get(table).len() / FEW && self.is_found(table, slots)
     }
 
-    // A column by which a table has an order and of which the condition says the value: one that chosen rows say comes
-    // before one that a literal does.
-    fn sought_column(&self, table: usize, slots: &[Option<usize>]) -> Option<usize>
+    // How many rows of a table are found by the bounds of a column, where it has some and rows are found by it.
+    fn count_bounded(&self, table: usize, column: usize, slots: &[Option<usize>]) -> Option<usize>
         requires { table < length self.now.sets.now }
     {
-        match self.ordered_column(table, slots, true) {
-            Some(column) => Some(column),
-            None => self.ordered_column(table, slots, false),
+        let null = Value::Null;
+        let own = Ref { table, column };
+        let low = self.lowest(own, slots, &null)?;
+        let high = self.told_end(own, true, slots);
+        self.sets.get(table).count_within(column, Some(low), high)
+    }
+
+    // How many are found by a list, where there is one and rows are found by the column.
+    fn count_of_list(&self, table: usize, column: usize) -> Option<usize>
+        requires { table < length self.now.sets.now }
+    {
+        let set = self.sets.get(table);
+        if !set.is_ordered_by(column) {
+            return None;
+        }
+        let list = find_list(outer_parts(&self.query.cond), Ref { table, column })?;
+        Some(count_listed(set, column, list))
+    }
+
+    // How many rows of a table an access finds, where it serves.
+    fn count_by(&self, table: usize, access: Access, slots: &[Option<usize>]) -> Option<usize>
+        requires { table < length self.now.sets.now }
+    {
+        match access {
+            Access::Bounds(column) => self.count_bounded(table, column, slots),
+            Access::List(column) => self.count_of_list(table, column),
         }
     }
 
-    // The places of a table's rows that have the value of a column which the condition says, if an order finds them.
-    fn found_places(
+    // The access that finds the fewest rows of a table, where it finds fewer than so many.
+    fn best_access(&self, table: usize, slots: &[Option<usize>], most: usize) -> Option<Access>
+        requires { table < length self.now.sets.now }
+    {
+        let mut best = None;
+        let mut least = most;
+        for part in outer_parts(&self.query.cond) {
+            if let Some(access) = access_by(part, table) {
+                let count = self.count_by(table, access, slots).unwrap_or(least);
+                if count < least {
+                    best = Some(access);
+                    least = count;
+                }
+            }
+        }
+        best
+    }
+
+    // The places of a table's rows that are within the bounds which the condition says of a column, if rows are found
+    // by it.
+    fn bounded_places(
         &self,
         alloc: Global,
         table: usize,
+        column: usize,
         slots: &[Option<usize>],
     ) -> Result<Option<Vec<usize>>, Memory>
         requires { table < length self.now.sets.now }
         ensures { IfOk result (λ found. IfSome found (λ places. ReachesFrom
             (C.choices self.now.choices.now) self.now.query.now self.now.sets.now slots.now table places.items)) }
     {
-        let Some(column) = self.sought_column(table, slots) else {
+        let null = Value::Null;
+        let own = Ref { table, column };
+        let Some(low) = self.lowest(own, slots, &null) else {
             return Ok(None);
         };
-        let Some(value) = self.told_value(Ref { table, column }, slots) else {
-            return Ok(None);
-        };
-        if is_null(value) {
-            return Ok(Some(Vec::new(alloc)));
-        }
-        self.sets.get(table).places_with(alloc, column, value)
+        let high = self.told_end(own, true, slots);
+        self.sets
+            .get(table)
+            .places_within(alloc, column, Some(low), high)
     }
 
-    // The places that an order finds, where it finds some and these are fewer than those of a span.
+    // The places of a table's rows that have a value of a list which the condition says of a column, if rows are found
+    // by it.
+    fn listed_places(
+        &self,
+        alloc: Global,
+        table: usize,
+        column: usize,
+        slots: &[Option<usize>],
+    ) -> Result<Option<Vec<usize>>, Memory>
+        requires { table < length self.now.sets.now }
+        ensures { IfOk result (λ found. IfSome found (λ places. ReachesFrom
+            (C.choices self.now.choices.now) self.now.query.now self.now.sets.now slots.now table places.items)) }
+    {
+        let own = Ref { table, column };
+        let Some(list) = find_list(outer_parts(&self.query.cond), own) else {
+            return Ok(None);
+        };
+        places_listed(alloc, self.sets.get(table), column, list)
+    }
+
+    // The places of a table's rows that the best access finds, where one finds fewer than so many.
+    fn found_places(
+        &self,
+        alloc: Global,
+        table: usize,
+        slots: &[Option<usize>],
+        most: usize,
+    ) -> Result<Option<Vec<usize>>, Memory>
+        requires { table < length self.now.sets.now }
+        ensures { IfOk result (λ found. IfSome found (λ places. ReachesFrom
+            (C.choices self.now.choices.now) self.now.query.now self.now.sets.now slots.now table places.items)) }
+    {
+        match self.best_access(table, slots, most) {
+            None => Ok(None),
+            Some(Access::Bounds(column)) => self.bounded_places(alloc, table, column, slots),
+            Some(Access::List(column)) => self.listed_places(alloc, table, column, slots),
+        }
+    }
+
+    // The places that an access finds, where one finds fewer than so many; and else those of a span.
     fn fewer_places<'s>(
         &self,
         alloc: Global,
         table: usize,
         slots: &[Option<usize>],
         span: Span,
+        most: usize,
     ) -> Result<Following<'s>, Memory>
         requires table { table < length self.now.sets.now }
         requires span { ReachesFrom (C.choices self.now.choices.now) self.now.query.now self.now.sets.now
@@ -132,31 +244,30 @@ impl<'a, C: ChoiceView> Side<'a, C> {
             (C.choices self.now.choices.now) self.now.query.now self.now.sets.now
             slots.now table (followed following)) }
     {
-        let Some(places) = self.found_places(alloc, table, slots)? else {
-            return Ok(Following::Sought(span));
-        };
-        if places.len() < span.len() {
-            Ok(Following::Found(places))
-        } else {
-            Ok(Following::Sought(span))
+        match self.found_places(alloc, table, slots, most)? {
+            Some(places) => Ok(Following::Found(places)),
+            None => Ok(Following::Sought(span)),
         }
     }
 
-    // The places of a table's rows that may follow those that are chosen: by its key, or by an order of another column.
+    // The places of a table's rows that may follow those that are chosen: by its key, or by the column that finds the
+    // fewest, where a row that is found takes as long as so many of the others.
     pub(crate) fn candidates<'s>(
         &self,
         alloc: Global,
         table: usize,
         slots: &[Option<usize>],
+        walked: usize,
     ) -> Result<Following<'s>, Memory>
-        requires { table < length self.now.sets.now }
+        requires table { table < length self.now.sets.now }
+        requires walked { 0 < walked }
         ensures { IfOk result (λ following. ReachesFrom
             (C.choices self.now.choices.now) self.now.query.now self.now.sets.now
             slots.now table (followed following)) }
     {
         let span = self.span(alloc, table, slots)?;
         if span.len() > FEW {
-            self.fewer_places(alloc, table, slots, span)
+            self.fewer_places(alloc, table, slots, span, span.len() / walked)
         } else {
             Ok(Following::Sought(span))
         }
@@ -173,6 +284,6 @@ impl<'a, C: ChoiceView> Side<'a, C> {
             (C.choices self.now.choices.now) self.now.query.now self.now.sets.now table (followed following)) }
     {
         let slots = open_slots(alloc, self.sets.len())?;
-        self.candidates(alloc, table, &slots)
+        self.candidates(alloc, table, &slots, WALKED)
     }
 }

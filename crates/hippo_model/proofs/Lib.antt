@@ -17,4 +17,5 @@ pub mod PiecesLemmas
 pub mod PieceSearch
 pub mod RowsByKey
 pub mod EntryLemmas
-pub mod PlacesWithLemmas
+pub mod RangeLemmas
+pub mod PlacesWithinLemmas

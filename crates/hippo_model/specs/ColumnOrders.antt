@@ -1,6 +1,7 @@
 -- Orders of a table's rows by a column, beside that of their keys.
-use Rattle.std.specs.Prelude.{◌≡◌, suc, List, ◌∷◌, length, None, Some, IfSome, option_map}
-use Rattle.std.specs.List.{All, range_with_len}
+use Rattle.std.specs.Prelude.{◌≡◌, ◌<◌, ◌≤◌, suc, List, ◌∷◌, length, None, Some, IfSome, option_map, slice_get}
+use Rattle.std.specs.List.{All, Contains, range_with_len}
+use Rattle.hippo_values.specs.declared.values.Value.{Value}
 use Rattle.hippo_model.specs.declared.born_row.BornRow.{BornRow}
 use Rattle.hippo_model.specs.declared.column_order.ColumnOrder.{ColumnOrder}
 use Rattle.hippo_model.specs.Terms.{Key, Place, Row}
@@ -35,3 +36,10 @@ AreReadyFor column kept set entries =
 
 abbrev pub IsReadyFor : BornRow → KeyedRows → ColumnOrder → Type 0
 IsReadyFor kept set order = IfSome order.entries (λ entries. AreReadyFor order.column kept set entries)
+
+-- some places have those of the rows whose entries stand from one place to before another
+abbrev pub AreGathered : KeyedRows → KeyedRows → Place → Place → List Place → Type 0
+AreGathered entries set start end found =
+    (at : Place) → start ≤ at → at < end → (entry : BornRow) → slice_get entries.rows at ≡ Some entry
+    → (cell : Value) (kept : BornRow) (place : Place) → slice_get set.rows place ≡ Some kept
+    → entry.row ≡ cell ∷ key_of set.key kept.row → Contains found place

@@ -6,6 +6,7 @@ pub mod Pieces
 pub mod RowSets
 pub mod Searches
 pub mod ColumnOrders
+pub mod Ranges
 pub mod Versions
 pub mod Changes
 pub mod Rules

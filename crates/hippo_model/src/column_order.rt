@@ -1,5 +1,5 @@
 //! Orders of a table's rows by a column that is not the first of its key.
-ghost use Rattle.std.specs.Prelude.{◌≡◌, ◌<◌, ◌++◌, ◌∷◌, [], ℕ, suc, length, Some, slice_get, IfOk, IfSome, OnOk};
+ghost use Rattle.std.specs.Prelude.{◌≡◌, ◌<◌, ◌≤◌, ◌++◌, ◌∷◌, [], true, false, ℕ, suc, length, Some, slice_get, IfOk, IfSome, OnOk};
 ghost use Rattle.std.specs.List.{All, Contains, range_with_len};
 ghost use Rattle.std.specs.Ordering.{is_eq};
 ghost use Rattle.hippo_values.specs.Order.{value_cmp};
@@ -9,10 +9,12 @@ ghost use Rattle.hippo_model.specs.declared.born_row.BornRow.{BornRow};
 ghost use Rattle.hippo_model.specs.Terms.{Place};
 ghost use Rattle.hippo_model.specs.Rows.{cell_at, key_of};
 ghost use Rattle.hippo_model.specs.RowSets.{KeyedRows, with_row, without_row, find_row, value_at};
-ghost use Rattle.hippo_model.specs.ColumnOrders.{entry_of, HasEntry, AreEntriesOf, IsOrderOf, AreOrdersOf, AreReadyFor, IsReadyFor};
+ghost use Rattle.hippo_model.specs.Ranges.{IsEdge, KeepsBound};
+ghost use Rattle.hippo_model.specs.ColumnOrders.{entry_of, AreEntriesOf, AreGathered, IsOrderOf, AreOrdersOf, AreReadyFor, IsReadyFor};
 
 use crate::cells::Cells;
-use crate::keyed_set::{KeyedSet, cell_order};
+use crate::keyed_set::KeyedSet;
+use crate::ranges::{Bound, ends_within};
 use crate::schema::Places;
 use hippo_values::{Duplicate, Memory, Moment, Value};
 use std::alloc::Global;
@@ -338,47 +340,73 @@ fn add_place(set: &KeyedSet, entry: &[Value], places: &mut Vec<usize>) -> Result
     Ok(())
 }
 
-// Adds the places of the rows whose entries begin with a value.
+// Adds the places of the rows whose entries stand from one place to before another.
 fn add_places(
     entries: &KeyedSet,
     set: &KeyedSet,
-    value: &Value,
+    start: usize,
+    end: usize,
     places: &mut Vec<usize>,
 ) -> Result<(), Memory>
-    requires { (n : ℕ) × (entries.now.key ≡ range_with_len 0 (suc n)) }
+    requires { end ≤ length entries.now.rows }
     ensures range { All (λ place. place < length set.now.rows) places.old.items
         → OnOk result (All (λ place. place < length set.now.rows) places.new.items) }
-    ensures all { OnOk result ((kept : BornRow) → (place : Place) → slice_get set.now.rows place ≡ Some kept
-        → HasEntry entries.now (value.now ∷ key_of set.now.key kept.row) → Contains places.new.items place) }
+    ensures all { OnOk result (AreGathered entries.now set.now start end places.new.items) }
 {
-    let start = entries.first_from(value);
-    for place in start..entries.len() {
-        let entry = entries.row(place).as_slice();
-        if cell_order(entry, 0, value).is_ne() {
-            return Ok(());
-        }
-        add_place(set, entry, places)?;
+    for place in start..end {
+        add_place(set, entries.row(place).as_slice(), places)?;
     }
     Ok(())
 }
 
-// The places of rows that are in the set, among them all with a value in a column.
+// Where the entries begin and end whose value is within two bounds.
+fn entries_within(
+    entries: &KeyedSet,
+    low: Option<Bound<'_>>,
+    high: Option<Bound<'_>>,
+) -> (usize, usize)
+    requires { (n : ℕ) × (entries.now.key ≡ range_with_len 0 (suc n)) }
+    ensures range { result.1 ≤ length entries.now.rows }
+    ensures low { IsEdge entries.now [] 0 false low.entry result.0 }
+    ensures high { IsEdge entries.now [] 0 true high.entry result.1 }
+{
+    ends_within(entries, 0, low, high)
+}
+
+// How many entries there are within two bounds.
+pub(crate) fn count_among(
+    entries: &KeyedSet,
+    column: usize,
+    set: &KeyedSet,
+    low: Option<Bound<'_>>,
+    high: Option<Bound<'_>>,
+) -> usize
+    requires { AreEntriesOf column set.now entries.now }
+{
+    let (start, end) = entries_within(entries, low, high);
+    end.saturating_sub(start)
+}
+
+// The places of rows that are in the set, among them all whose value in a column is within two bounds.
 pub(crate) fn places_among(
     alloc: Global,
     entries: &KeyedSet,
     column: usize,
     set: &KeyedSet,
-    value: &Value,
+    low: Option<Bound<'_>>,
+    high: Option<Bound<'_>>,
 ) -> Result<Vec<usize>, Memory>
     requires { AreEntriesOf column set.now entries.now }
     ensures range { IfOk result (λ places. All (λ place. place < length set.now.rows) places.items) }
     ensures all { IfOk result (λ places. (place : Place) → place < length set.now.rows
-        → value_at set.now column place ≡ value.now → Contains places.items place) }
+        → KeepsBound false low.entry (value_at set.now column place)
+        → KeepsBound true high.entry (value_at set.now column place) → Contains places.items place) }
 {
     let mut places = Vec::new(alloc);
     if set.is_empty() {
         return Ok(places);
     }
-    add_places(entries, set, value, &mut places)?;
+    let (start, end) = entries_within(entries, low, high);
+    add_places(entries, set, start, end, &mut places)?;
     Ok(places)
 }

@@ -1,10 +1,8 @@
 //! A table's rows in the order of their keys.
-ghost use Rattle.std.specs.Prelude.{◌≡◌, ◌<◌, ◌≤◌, ◌↔◌, [], ◌∷◌, nat_lt, length, map, option_map, slice_get, Some, IsTrue, OnOk, OnErr, IsOk, IsSome, IfSome};
+ghost use Rattle.std.specs.Prelude.{◌≡◌, ◌<◌, ◌≤◌, ◌↔◌, [], true, length, map, option_map, slice_get, Some, IsTrue, OnOk, OnErr, IsOk, IsSome, IfSome};
 ghost use Rattle.std.specs.List.Sorted.{IsSearchInRange, IsBinarySearchResult};
-ghost use Rattle.std.specs.Ordering.{is_lt};
 ghost use Rattle.hippo_values.specs.Order.{value_cmp, cells_cmp};
 ghost use Rattle.hippo_model.specs.declared.born_row.BornRow.{BornRow};
-ghost use Rattle.hippo_model.specs.Terms.{Place};
 ghost use Rattle.hippo_model.specs.Rows.{cell_at, key_of};
 ghost use Rattle.hippo_model.specs.Pieces.{begins_low, PartsLow};
 ghost use Rattle.hippo_model.specs.Searches.{sought_order};
@@ -18,7 +16,6 @@ use hippo_values::{Memory, Moment, Value};
 use std::alloc::Global;
 use std::cmp::Ordering;
 use std::marker::Model;
-use std::slice;
 
 // The value in a row's column, which is null past the row's end, against another value.
 pub(crate) fn cell_order(row: &[Value], place: usize, other: &Value) -> Ordering
@@ -199,19 +196,6 @@ impl KeyedSet {
         search(&self.rows, self.key.as_slice(), &Sought::Key(key)).ok()
     }
 
-    // The place of the first row whose key does not stand before a key with this value alone.
-    pub(crate) fn first_from(&self, value: &Value) -> usize
-        ensures range { result ≤ length self.now.rows }
-        ensures low { (place : Place) → (kept : BornRow) → slice_get self.now.rows place ≡ Some kept
-            → is_lt (cells_cmp (key_in self.now.key kept) (value.now ∷ [])) ≡ nat_lt place result }
-    {
-        let key = slice::from_ref(value);
-        match search(&self.rows, self.key.as_slice(), &Sought::Key(key)) {
-            Ok(place) => place,
-            Err(place) => place,
-        }
-    }
-
     // The place of the row that has the same key as this one, none exactly where no row has it.
     pub(crate) fn find_like(&self, row: &Cells) -> Option<usize>
         ensures place { result ≡ find_row self.now.key (key_of self.now.key row.now) self.now.rows }
@@ -245,6 +229,16 @@ impl KeyedSet {
         ensures { result.now ≡ self.now.key }
     {
         &self.key
+    }
+
+    // Whether a column is the first of the key.
+    pub(crate) fn begins_with(&self, column: usize) -> bool
+        ensures { result ≡ true → slice_get self.now.key 0 ≡ Some column }
+    {
+        match self.key.as_slice().first() {
+            Some(first) => *first == column,
+            None => false,
+        }
     }
 
     // The row at a place, counted from 0.

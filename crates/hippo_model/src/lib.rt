@@ -14,6 +14,7 @@ mod operands;
 mod pieces;
 mod policy;
 mod query;
+mod ranges;
 mod row_set;
 mod schema;
 mod statement;
@@ -34,6 +35,7 @@ pub use query::{
     CondOf, Expr, Exprs, Form, Guard, Guards, Masked, Operand, Operands, Out, Outs, Query, Ref,
     Refs, Shape,
 };
+pub use ranges::Bound;
 pub use row_set::RowSet;
 pub use schema::{Column, ColumnKind, Columns, Names, Places, Schema, Schemas};
 pub use statement::{

@@ -1,16 +1,18 @@
 //! A table's rows in the order of their keys, with orders of them by other columns.
-ghost use Rattle.std.specs.Prelude.{◌≡◌, ◌<◌, ◌↔◌, [], length, map, option_map, slice_get, Some, IsTrue, OnOk, OnErr, IsOk, IsSome, IfOk, IfSome};
+ghost use Rattle.std.specs.Prelude.{◌≡◌, ◌<◌, ◌≤◌, ◌↔◌, [], true, false, length, map, nat_lt, option_map, slice_get, Some, IsTrue, OnOk, OnErr, IsOk, IsSome, IfOk, IfSome};
 ghost use Rattle.std.specs.List.{All, Contains};
 ghost use Rattle.hippo_model.specs.Terms.{Place};
 ghost use Rattle.hippo_model.specs.Rows.{key_of};
+ghost use Rattle.hippo_model.specs.Ranges.{stands_low, KeepsBound};
 ghost use Rattle.hippo_model.specs.RowSets.{IsAscending, key_in, with_row, without_row, find_row, value_at};
 
 use crate::cells::Cells;
 use crate::column_order::{
-    ColumnOrder, add_order, entries_by, entries_of, forget_in_orders, free_place, places_among,
-    prepare_orders,
+    ColumnOrder, add_order, count_among, entries_by, entries_of, forget_in_orders, free_place,
+    places_among, prepare_orders,
 };
 use crate::keyed_set::KeyedSet;
+use crate::ranges::{Bound, own_count, own_places, split};
 use crate::schema::Places;
 use hippo_values::{Memory, Moment, Value};
 use std::alloc::Global;
@@ -69,7 +71,7 @@ impl RowSet {
         self.set.take(key);
     }
 
-    /// Keeps, from now on, an order of the rows by a column, so that rows with a value there are found by halves. Does
+    /// Keeps, from now on, an order of the rows by a column, so that rows within bounds there are found by halves. Does
     /// nothing where there is one, where there are eight, where the column is the key's first one, or where memory is
     /// short.
     pub fn order_by(&mut self, alloc: Global, column: usize)
@@ -83,38 +85,68 @@ impl RowSet {
         }
     }
 
-    // Whether an order by a column is not kept, and would be of use.
+    // Whether rows are not found by a column, and an order of them would be kept.
     fn wants_order(&self, column: usize) -> bool {
-        free_place(self.orders.as_slice()) < ORDER_LIMIT
-            && !self.is_ordered_by(column)
-            && self.set.key().as_slice().first() != Some(&column)
+        free_place(self.orders.as_slice()) < ORDER_LIMIT && !self.is_ordered_by(column)
     }
 
-    /// Whether an order by a column is kept.
+    /// Whether rows are found by a column: it is the first of the key, or an order of the rows by it is kept.
     pub fn is_ordered_by(&self, column: usize) -> bool {
-        entries_by(self.orders.as_slice(), column).is_some()
+        self.set.begins_with(column) || entries_by(self.orders.as_slice(), column).is_some()
     }
 
-    /// The places of rows, each in the set, among them all whose column has this value; none where no order of the
-    /// column is kept.
-    pub fn places_with(
+    /// How many rows are found by a column within two bounds; none where rows are not found by it.
+    pub fn count_within(
+        &self,
+        column: usize,
+        low: Option<Bound<'_>>,
+        high: Option<Bound<'_>>,
+    ) -> Option<usize> {
+        if self.set.begins_with(column) {
+            return Some(own_count(&self.set, column, low, high));
+        }
+        match entries_by(self.orders.as_slice(), column) {
+            None => None,
+            Some(entries) => Some(count_among(entries, column, &self.set, low, high)),
+        }
+    }
+
+    /// The places of rows, each in the set, among them all whose value in a column is within two bounds; none where
+    /// rows are not found by the column.
+    pub fn places_within(
         &self,
         alloc: Global,
         column: usize,
-        value: &Value,
+        low: Option<Bound<'_>>,
+        high: Option<Bound<'_>>,
     ) -> Result<Option<Vec<usize>>, Memory>
         ensures range { IfOk result (λ found. IfSome found (λ places.
             All (λ place. place < length self.now.rows) places.items)) }
         ensures all { IfOk result (λ found. IfSome found (λ places. (place : Place) → place < length self.now.rows
-            → value_at self.now column place ≡ value.now → Contains places.items place)) }
+            → KeepsBound false low.entry (value_at self.now column place)
+            → KeepsBound true high.entry (value_at self.now column place) → Contains places.items place)) }
     {
+        if self.set.begins_with(column) {
+            let places = own_places(alloc, &self.set, column, low, high)?;
+            return Ok(Some(places));
+        }
         match entries_by(self.orders.as_slice(), column) {
             None => Ok(None),
             Some(entries) => {
-                let places = places_among(alloc, entries, column, &self.set, value)?;
+                let places = places_among(alloc, entries, column, &self.set, low, high)?;
                 Ok(Some(places))
             }
         }
+    }
+
+    /// How many rows stand before those whose key begins with these values; or how many do not stand behind them, where
+    /// they are passed too. It is found by halves.
+    pub fn split(&self, front: &[Value], past: bool) -> usize
+        ensures range { result ≤ length self.now.rows }
+        ensures parted { (place : Place) → place < length self.now.rows
+            → stands_low self.now front.now past place ≡ nat_lt place result }
+    {
+        split(&self.set, front, past)
     }
 
     /// The place of the row with a key, none exactly where no row has it.

@@ -2,7 +2,7 @@
 ghost use Rattle.hippo_tables.specs.Standing.{IsAsBefore};
 
 use crate::tables::Tables;
-use hippo_model::{CondOf, Names, Operand, Query};
+use hippo_model::{CondOf, Names, Operand, Query, Ref};
 use hippo_values::CompareOp;
 use std::alloc::Global;
 
@@ -22,40 +22,99 @@ fn says_value(operand: &Operand, table: usize) -> bool {
     }
 }
 
+fn is_literal(operand: &Operand) -> bool {
+    matches!(operand, Operand::Literal(_))
+}
+
+// Whether a comparison with an operand says a value of a table's rows, or bounds them by a literal.
+fn says_some(op: CompareOp, operand: &Operand, table: usize) -> bool {
+    match op {
+        CompareOp::Ne => false,
+        CompareOp::Eq => says_value(operand, table),
+        _ => is_literal(operand),
+    }
+}
+
 impl Tables {
-    // Keeps an order by the column on one side of an equality, where the other side says its value.
-    fn order_beside(&mut self, alloc: Global, names: &Names, operand: &Operand, other: &Operand)
+    // Keeps an order by the column that an operand is.
+    fn order_of(&mut self, alloc: Global, names: &Names, column: Ref)
         ensures { IsAsBefore self.old self.new }
     {
-        let Operand::Column(column) = operand else {
-            return;
-        };
-        if !says_value(other, column.table) {
-            return;
-        }
         if let Some(table) = names.as_slice().get(column.table) {
             self.order_by(alloc, table, column.column);
         }
     }
 
-    // Keeps orders by the columns of which a part of a condition says the value.
+    // Keeps an order by the column on one side of a comparison, where the other side says its value or bounds it.
+    fn order_beside(
+        &mut self,
+        alloc: Global,
+        names: &Names,
+        op: CompareOp,
+        operand: &Operand,
+        other: &Operand,
+    )
+        ensures { IsAsBefore self.old self.new }
+    {
+        if let Operand::Column(column) = operand {
+            if says_some(op, other, column.table) {
+                self.order_of(alloc, names, *column);
+            }
+        }
+    }
+
+    // Keeps an order by a column that is to be between two values, where one of them is a literal.
+    fn order_between(
+        &mut self,
+        alloc: Global,
+        names: &Names,
+        operand: &Operand,
+        low: &Operand,
+        high: &Operand,
+    )
+        ensures { IsAsBefore self.old self.new }
+    {
+        if let Operand::Column(column) = operand {
+            if is_literal(low) || is_literal(high) {
+                self.order_of(alloc, names, *column);
+            }
+        }
+    }
+
+    // Keeps an order by a column that is to be in a list of literals.
+    fn order_among(&mut self, alloc: Global, names: &Names, operand: &Operand, list: &[Operand])
+        ensures { IsAsBefore self.old self.new }
+    {
+        if let Operand::Column(column) = operand {
+            if list.iter().all(|item| is_literal(item)) {
+                self.order_of(alloc, names, *column);
+            }
+        }
+    }
+
+    // Keeps orders by the columns of which a part of a condition says the value, or what bounds it.
     fn order_for_part(&mut self, alloc: Global, names: &Names, part: &CondOf<Operand>)
         ensures { IsAsBefore self.old self.new }
     {
-        if let CondOf::Compare {
-            op: CompareOp::Eq,
-            left,
-            right,
-        } = part
-        {
-            self.order_beside(alloc, names, left, right);
-            self.order_beside(alloc, names, right, left);
+        match part {
+            CondOf::Compare { op, left, right } => {
+                self.order_beside(alloc, names, *op, left, right);
+                self.order_beside(alloc, names, *op, right, left);
+            }
+            CondOf::Between { value, low, high } => {
+                self.order_between(alloc, names, value, low, high)
+            }
+            CondOf::Among { value, list } => {
+                self.order_among(alloc, names, value, list.as_slice())
+            }
+            _ => {}
         }
     }
 
     /// Keeps, from now on, orders of the rows of a query's tables by the columns that it compares with `=`, with a
-    /// literal or with a column of another table, so that rows with a value there are found by halves. Of a table that
-    /// has no more than 256 rows none is kept. The tables stay what they are, and so does every answer.
+    /// literal or with a column of another table, that it bounds by a literal, or that are to be in a list of literals,
+    /// so that such rows are found by halves. Of a table that has no more than 256 rows none is kept. The tables stay
+    /// what they are, and so does every answer.
     pub fn order_for(&mut self, alloc: Global, query: &Query)
         ensures { IsAsBefore self.old self.new }
     {

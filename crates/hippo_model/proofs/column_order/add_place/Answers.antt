@@ -1,5 +1,5 @@
 -- The key of the entry is that of the row.
-use Rattle.hippo_model.proofs.PlacesWithLemmas.{found-behind, contains-pushed}
+use Rattle.hippo_model.proofs.PlacesWithinLemmas.{found-behind, contains-pushed}
 use Rattle.hippo_model.proofs.column_order.add_place.Goals as goal
 
 pub returns-in_default-find_values-clause-added : goal.returns-in_default-find_values-clause-added

@@ -1,8 +1,8 @@
 -- Keys ascend, so what stands before a low row is low, and what stands behind another is not.
 use Rattle.std.proofs.Common.{ℕ, ◌+◌, ◌-◌, ◌/◌, ◌<◌, sym, ◌∙◌, arith}
-use Rattle.hippo_join.specs.Ranges.{stands_low}
-use Rattle.hippo_join.proofs.RangeLemmas.{low-before, high-after, parted}
-use Rattle.hippo_join.proofs.ranges.split.Goals as goal
+use Rattle.hippo_model.specs.Ranges.{stands_low}
+use Rattle.hippo_model.proofs.RangeLemmas.{low-before, high-after, parted}
+use Rattle.hippo_model.proofs.ranges.split.Goals as goal
 
 pub loop-low-preserved-then-stands_low : goal.loop-low-preserved-then-stands_low
 loop-low-preserved-then-stands_low c =
@@ -28,5 +28,5 @@ loop-low-preserved c =
       above = λ k upper within. high-after c.args.set.now c.args.front.now c.args.past middle k c.len-high.ensures.order upper within (sym c.stands_low.ensures ∙ c.if-stands_low.false);
     }
 
-pub returns : goal.returns
-returns c = parted (stands_low c.args.set.now c.args.front.now c.args.past) c.loop-low.low c.loop-low.high _ (omega (arith, c.loop-low-test.false)) c.loop-low.invariant.below c.loop-low.invariant.above
+pub returns-clause-parted : goal.returns-clause-parted
+returns-clause-parted c = parted (stands_low c.args.set.now c.args.front.now c.args.past) c.loop-low.low c.loop-low.high _ (omega (arith, c.loop-low-test.false)) c.loop-low.invariant.below c.loop-low.invariant.above

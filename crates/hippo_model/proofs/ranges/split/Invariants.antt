@@ -1,7 +1,7 @@
 -- The rows before the first end stand low, those from the second one on do not.
 use Rattle.std.proofs.Common.{◌≡◌, ℕ, ◌-◌, ◌<◌, ◌≤◌, true, false, length}
-use Rattle.hippo_join.specs.Ranges.{stands_low}
-use Rattle.hippo_join.proofs.ranges.split.Given as goal
+use Rattle.hippo_model.specs.Ranges.{stands_low}
+use Rattle.hippo_model.proofs.ranges.split.Given as goal
 
 abbrev pub invariant-loop-low : goal.invariant-loop-low
 invariant-loop-low l = record {

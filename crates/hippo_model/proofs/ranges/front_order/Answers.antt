@@ -1,8 +1,8 @@
 -- The pairs ended where the key or the values did.
 use Rattle.std.proofs.Common.{rules}
 use Rattle.std.proofs.lemmas.Slice.Zip.{zip_end}
-use Rattle.hippo_join.proofs.RangeLemmas.{front-past_end}
-use Rattle.hippo_join.proofs.ranges.front_order.Goals as goal
+use Rattle.hippo_model.proofs.RangeLemmas.{front-past_end}
+use Rattle.hippo_model.proofs.ranges.front_order.Goals as goal
 
 pub returns : goal.returns
 returns c =
