@@ -1,39 +1,30 @@
 -- The marks of a product's combinations, and the first of the tuples that stand alone.
-use Rattle.std.proofs.Common.{◌≡◌, ℕ, zero, suc, ◌+◌, ◌<◌, Bool, true, false, not, cond, ◌&&◌, ◌||◌, List, [], ◌∷◌, map, length, get_or, refl, sym, ap, subst, ◌∙◌, Option, Some, None, unwrap_or, option_map, nat_lt, ltb-true, arith}
-use Rattle.std.specs.Prelude.{slice_get, filter, find, bytes_eq}
-use Rattle.std.specs.List.{All, AllByRecursion, list_any, list_all, IsDistinct}
+use Rattle.std.proofs.Common.{◌≡◌, ℕ, suc, ◌<◌, Bool, true, false, not, ◌&&◌, ◌||◌, List, [], ◌∷◌, map, length, get_or, refl, sym, ap, subst, ◌∙◌, Some, arith}
+use Rattle.std.specs.Prelude.{slice_get, filter, bytes_eq}
+use Rattle.std.specs.List.{All, AllByRecursion, list_any, list_all}
 use Rattle.std.specs.Option.{option_map_or}
 use Rattle.std.specs.Ordering.{is_eq, nat_cmp}
 use Rattle.std.specs.Cmp.{eq_by_cmp_equiv, both_ways}
 use Rattle.std.specs.Cmp.Lexicographic.{slice_cmp}
-use Rattle.std.specs.List.Sorted.{IsStrictlySortedBy}
-use Rattle.std.proofs.lemmas.Bool.{and_parts, and_from, false≢true}
-use Rattle.std.proofs.lemmas.Bool.Decides.{nat_tests}
+use Rattle.std.proofs.lemmas.Bool.{and_parts, false≢true}
 use Rattle.std.proofs.lemmas.Cmp.{nat_list_cmp_total}
-use Rattle.std.proofs.lemmas.List.Kept.{IsStrictlySortedBy-filter}
 use Rattle.std.proofs.lemmas.Option.{slice_get-get_or}
 use Rattle.hippo_values.specs.declared.names.Name.{Name}
-use Rattle.hippo_model.specs.declared.audit.Audit.{Audit}
 use Rattle.hippo_model.specs.declared.audit.SharedRow.{SharedRow}
-use Rattle.hippo_model.specs.declared.born_row.BornRow.{BornRow}
-use Rattle.hippo_model.specs.declared.query.Expr.{Expr}
-use Rattle.hippo_model.specs.declared.query.Masked.{Masked}
 use Rattle.hippo_model.specs.Terms.{Place, Combination}
 use Rattle.hippo_model.specs.RowSets.{KeyedRows, IsAscending, key_in}
 use Rattle.hippo_model.specs.Answers.{product}
-use Rattle.hippo_model.specs.Masking.{Choices}
 use Rattle.hippo_eval.specs.Walks.{rows_of}
-use Rattle.hippo_join.specs.Finding.{has_places, IsRising}
-use Rattle.hippo_join.specs.Places.{row_at, chosen, in_range, places_of}
-use Rattle.hippo_join.proofs.FoundLemmas.{same_rising, same_places as equal_places}
+use Rattle.hippo_join.specs.Finding.{has_places}
+use Rattle.hippo_join.specs.Places.{chosen, in_range, places_of}
 use Rattle.hippo_join.proofs.PruneLemmas.{below-rows}
-use Rattle.hippo_join.proofs.ProductLemmas.{product-rows, has-places_of, rising-places_of}
+use Rattle.hippo_join.proofs.ProductLemmas.{product-rows, has-places_of}
 use Rattle.hippo_join.proofs.SlotLemmas.{row-at, length-in_range}
-use Rattle.hippo_shared.specs.Sharing.{common_tables, place_in, rows_named, HaveSameRows, has_tuple, query_has, audit_has}
+use Rattle.hippo_shared.specs.Sharing.{common_tables, place_in, rows_named, HaveSameRows, has_tuple}
 use Rattle.hippo_shared.specs.Tuples.{tuple_at}
 use Rattle.hippo_shared.specs.Marks.{place_like, row_place, row_places, same_places, mark_of, is_one}
 use Rattle.hippo_shared.proofs.CommonLemmas.{place-found, common-in-query, common-in-audit}
-use Rattle.hippo_shared.proofs.MarkLemmas.{same-exact, same-itself, same-from, place_like-own, is_one-passing}
+use Rattle.hippo_shared.proofs.MarkLemmas.{same-exact, same-from, place_like-own, is_one-passing}
 use Rattle.hippo_shared.proofs.TupleLemmas.{AllStandIn, AgreeAt, no_rows, set_at, agrees-from-tuple, tuple-from-agrees, agrees-in-range}
 
 from_all : {X : Type 0} (P : X → Type 0) (xs : List X) → All P xs → AllByRecursion P xs

@@ -1,20 +1,20 @@
 -- The places of a combination's rows, and the marks of combinations.
-use Rattle.std.proofs.Common.{◌≡◌, ℕ, zero, suc, ◌+◌, ◌<◌, ◌≤◌, Bool, true, false, not, cond, ◌&&◌, ◌||◌, List, [], ◌∷◌, ◌++◌, map, length, get_or, refl, sym, ap, subst, ◌∙◌, Option, Some, None, unwrap_or, option_map, nat_lt, ltb-true, arith}
-use Rattle.std.specs.Prelude.{slice_get, filter, nat_eq}
-use Rattle.std.specs.List.{All, AllByRecursion, list_any, list_all, position_or_len}
+use Rattle.std.proofs.Common.{◌≡◌, ℕ, zero, suc, ◌+◌, ◌<◌, ◌≤◌, Bool, true, false, not, cond, ◌&&◌, ◌||◌, List, [], ◌∷◌, ◌++◌, map, length, refl, sym, ap, ◌∙◌, Option, Some, None, unwrap_or, option_map, nat_lt, arith}
+use Rattle.std.specs.Prelude.{slice_get, filter}
+use Rattle.std.specs.List.{list_any, list_all, position_or_len}
 use Rattle.std.specs.Option.{option_map_or}
 use Rattle.std.specs.Ordering.{is_eq, nat_cmp}
 use Rattle.std.specs.Cmp.{eq_by_cmp_equiv, both_ways}
 use Rattle.std.specs.Cmp.Lexicographic.{slice_cmp}
-use Rattle.std.proofs.lemmas.Bool.{and_parts, and_from, false≢true}
+use Rattle.std.proofs.lemmas.Bool.{false≢true}
 use Rattle.std.proofs.lemmas.Bool.Decides.{nat_tests}
 use Rattle.std.proofs.lemmas.Cmp.{nat_list_cmp_total}
 use Rattle.std.proofs.lemmas.List.Folds.{list_all-append}
-use Rattle.std.proofs.lemmas.Option.{slice_get_past, slice_get-get_or}
+use Rattle.std.proofs.lemmas.Option.{slice_get_past}
 use Rattle.std.proofs.lemmas.Slice.Eq.{bytes_eq-Decides}
 use Rattle.hippo_values.specs.Order.{cells_cmp, same_cells}
 use Rattle.hippo_model.specs.declared.born_row.BornRow.{BornRow}
-use Rattle.hippo_model.specs.Terms.{Row, Key, Place, Combination}
+use Rattle.hippo_model.specs.Terms.{Row, Place, Combination}
 use Rattle.hippo_model.specs.Rows.{key_of}
 use Rattle.hippo_model.specs.RowSets.{KeyedRows, IsAscending, key_in, find_row}
 use Rattle.hippo_model.proofs.Orders.{cells_total}
@@ -22,8 +22,8 @@ use Rattle.hippo_join.specs.Finding.{has_places}
 use Rattle.hippo_join.specs.Places.{row_at}
 use Rattle.hippo_join.proofs.FoundLemmas.{same_places as equal_places}
 use Rattle.hippo_shared.specs.declared.marks.Mark.{Mark}
-use Rattle.hippo_shared.specs.declared.marks.Mark.TheVariants.{Unmarked, One, Several}
-use Rattle.hippo_shared.specs.Marks.{place_like, row_place, row_places, same_places, mark_of, has_no_other, is_one}
+use Rattle.hippo_shared.specs.declared.marks.Mark.TheVariants.{One, Several}
+use Rattle.hippo_shared.specs.Marks.{place_like, row_place, same_places, mark_of, has_no_other, is_one}
 use Rattle.hippo_shared.proofs.KeyLemmas.{below_at}
 
 -- ---- equal places

@@ -36,6 +36,55 @@ pub fn know_order(sets: &Sets<'_>)
     }
 }
 
+// What `first_shared` answers, by the query that stands for the audit.
+fn first_beside<C: ChoiceView>(
+    alloc: Global,
+    query: &Masked,
+    audit: &Audit,
+    unmasked: &Masked,
+    seen: &Exprs,
+    query_sets: &Sets<'_>,
+    audit_sets: &Sets<'_>,
+    choices: &C,
+) -> Result<Option<SharedTuple>, Memory>
+    requires unmasked { unmasked.now ≡ record {
+      items = [];
+      tables = [];
+      guards = [];
+      cond = unmasked_condition audit.now.cond;
+    } }
+    requires query_sets { length query_sets.now ≡ length query.now.tables }
+    requires audit_sets { length audit_sets.now ≡ length audit.now.tables }
+    requires tables { IsDistinct bytes_eq audit.now.tables }
+    requires rows { HaveSameRows query.now.tables query_sets.now audit.now.tables audit_sets.now }
+    ensures { IfOk result (λ shared.
+        shared ≡ first_shared (C.choices choices.now) query.now audit.now seen.now query_sets.now audit_sets.now) }
+{
+    let blank = blank_row(alloc)?;
+    let common = common_places(alloc, query.tables.as_slice(), audit.tables.as_slice())?;
+    know_order(audit_sets);
+    let audit_side = Side {
+        query: &*unmasked,
+        sets: &*audit_sets,
+        choices: &*choices,
+        blank: &blank,
+    };
+    let query_side = Side {
+        query: &*query,
+        sets: &*query_sets,
+        choices: &*choices,
+        blank: &blank,
+    };
+    match first_places(alloc, &query_side, &audit_side, seen.as_slice(), &common)? {
+        Some(places) => {
+            let names = audit.tables.as_slice();
+            let tuple = tuple_at(alloc, names, audit_sets, &common.audit, &places)?;
+            Ok(Some(tuple))
+        }
+        None => Ok(None),
+    }
+}
+
 /// The first virtual tuple (a row of each table in both FROM lists, by its key; in the audit's order) that some
 /// combination of the query's rows has which makes a row of its answer and in which each expression of `seen` is a
 /// shown cell, and that some combination of the audit's rows has of which its condition is true; none exactly where
@@ -59,27 +108,7 @@ pub fn first_shared<C: ChoiceView>(
         shared ≡ first_shared (C.choices choices.now) query.now audit.now seen.now query_sets.now audit_sets.now) }
 {
     let unmasked = unmasked_query(alloc, audit)?;
-    let blank = blank_row(alloc)?;
-    let common = common_places(alloc, query.tables.as_slice(), audit.tables.as_slice())?;
-    know_order(audit_sets);
-    let audit_side = Side {
-        query: &unmasked,
-        sets: &*audit_sets,
-        choices: &*choices,
-        blank: &blank,
-    };
-    let query_side = Side {
-        query: &*query,
-        sets: &*query_sets,
-        choices: &*choices,
-        blank: &blank,
-    };
-    match first_places(alloc, &query_side, &audit_side, seen.as_slice(), &common)? {
-        Some(places) => {
-            let names = audit.tables.as_slice();
-            let tuple = tuple_at(alloc, names, audit_sets, &common.audit, &places)?;
-            Ok(Some(tuple))
-        }
-        None => Ok(None),
-    }
+    first_beside(
+        alloc, query, audit, &unmasked, seen, query_sets, audit_sets, choices,
+    )
 }

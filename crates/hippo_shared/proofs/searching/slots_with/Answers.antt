@@ -1,5 +1,5 @@
 -- One table's row more, and all.
-use Rattle.std.proofs.Common.{◌≡◌, arith, ap, sym, ◌∙◌, length, length-set, Option, None}
+use Rattle.std.proofs.Common.{arith, ap, ◌∙◌, length, length-set, None}
 use Rattle.std.proofs.lemmas.List.{length-replicate}
 use Rattle.hippo_shared.specs.FirstPlaces.{with_rows}
 use Rattle.hippo_shared.proofs.SearchLemmas.{with-one-more, with-all}

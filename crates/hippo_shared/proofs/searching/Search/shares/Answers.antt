@@ -1,5 +1,5 @@
 -- Each side has stages of all its tables, and the rows at the places are chosen.
-use Rattle.std.proofs.Common.{ℕ, ◌≡◌, ◌<◌, length, ap, subst, sym, ◌∙◌, arith, inr, Option, None, List, [], replicate}
+use Rattle.std.proofs.Common.{ℕ, ◌≡◌, ◌<◌, length, ap, subst, ◌∙◌, arith, inr, Option, None, [], replicate}
 use Rattle.std.proofs.lemmas.List.{length-replicate}
 use Rattle.hippo_shared.specs.FirstPlaces.{with_rows}
 use Rattle.hippo_shared.specs.Searching.{HasOneOf}

@@ -3,7 +3,7 @@ use Rattle.std.proofs.Common.{ℕ, map, length, sym, ap, ◌∙◌, Vec, Global}
 use Rattle.hippo_shared.specs.Sharing.{common_tables, place_in}
 use Rattle.hippo_shared.specs.Tuples.{tuple_at}
 use Rattle.hippo_shared.proofs.SharedTheorem.{common-served, below-sets, below-names, found-long, some-shared, none-shared}
-use Rattle.hippo_shared.proofs.sharing.first_shared.Goals as goal
+use Rattle.hippo_shared.proofs.sharing.first_beside.Goals as goal
 
 pub first_places-requires : goal.first_places-requires
 first_places-requires g c =
@@ -24,7 +24,7 @@ pub tuple_at-requires-clause-places : goal.tuple_at-requires-clause-places
 tuple_at-requires-clause-places g c =
     ap length c.deref-in-Some.ensures.value
     ∙ found-long (g.C.ChoiceView.choices c.args.choices.now) c.args.query.now c.args.audit.now c.args.seen.now c.args.query_sets.now c.args.audit_sets.now c.requires.query_sets c.requires.audit_sets c.requires.tables c.requires.rows c.know_order.ensures
-    (λ (places : Vec ℕ Global). places.items) c.in_ok-places.field-0 c.in_ok-unmasked.unmasked c.as_slice-3.result.now c.in_ok-common.common.query.items c.in_ok-common.common.audit.items c.in_ok-unmasked.ensures c.as_slice-3.ensures
+    (λ (places : Vec ℕ Global). places.items) c.in_ok-places.field-0 c.args.unmasked.now c.as_slice-3.result.now c.in_ok-common.common.query.items c.in_ok-common.common.audit.items c.requires.unmasked c.as_slice-3.ensures
     (c.in_ok-common.ensures.query ∙ (λ i. map (place_in (c.as_slice.ensures i)) (common_tables (c.as_slice.ensures i) (c.as_slice-2.ensures i))))
     (c.in_ok-common.ensures.audit ∙ (λ i. map (place_in (c.as_slice-2.ensures i)) (common_tables (c.as_slice.ensures i) (c.as_slice-2.ensures i))))
     c.in_ok-places.ensures c.in-Some.places c.in-Some.is
@@ -33,7 +33,7 @@ tuple_at-requires-clause-places g c =
 pub returns-in-Some : goal.returns-in-Some
 returns-in-Some g c =
     some-shared (g.C.ChoiceView.choices c.args.choices.now) c.args.query.now c.args.audit.now c.args.seen.now c.args.query_sets.now c.args.audit_sets.now c.requires.query_sets c.requires.audit_sets c.requires.tables c.requires.rows c.know_order.ensures
-    (λ (places : Vec ℕ Global). places.items) c.in_ok-places.field-0 c.in_ok-unmasked.unmasked c.as_slice-3.result.now c.in_ok-common.common.query.items c.in_ok-common.common.audit.items c.in_ok-unmasked.ensures c.as_slice-3.ensures
+    (λ (places : Vec ℕ Global). places.items) c.in_ok-places.field-0 c.args.unmasked.now c.as_slice-3.result.now c.in_ok-common.common.query.items c.in_ok-common.common.audit.items c.requires.unmasked c.as_slice-3.ensures
     (c.in_ok-common.ensures.query ∙ (λ i. map (place_in (c.as_slice.ensures i)) (common_tables (c.as_slice.ensures i) (c.as_slice-2.ensures i))))
     (c.in_ok-common.ensures.audit ∙ (λ i. map (place_in (c.as_slice-2.ensures i)) (common_tables (c.as_slice.ensures i) (c.as_slice-2.ensures i))))
     c.in_ok-places.ensures c.in-Some.places c.in-Some.is c.in_ok-tuple-in-Some.tuple
@@ -42,7 +42,7 @@ returns-in-Some g c =
 pub returns : goal.returns
 returns g c =
     none-shared (g.C.ChoiceView.choices c.args.choices.now) c.args.query.now c.args.audit.now c.args.seen.now c.args.query_sets.now c.args.audit_sets.now c.requires.query_sets c.requires.audit_sets c.requires.tables c.requires.rows c.know_order.ensures
-    (λ (places : Vec ℕ Global). places.items) c.in_ok-places.field-0 c.in_ok-unmasked.unmasked c.as_slice-3.result.now c.in_ok-common.common.query.items c.in_ok-common.common.audit.items c.in_ok-unmasked.ensures c.as_slice-3.ensures
+    (λ (places : Vec ℕ Global). places.items) c.in_ok-places.field-0 c.args.unmasked.now c.as_slice-3.result.now c.in_ok-common.common.query.items c.in_ok-common.common.audit.items c.requires.unmasked c.as_slice-3.ensures
     (c.in_ok-common.ensures.query ∙ (λ i. map (place_in (c.as_slice.ensures i)) (common_tables (c.as_slice.ensures i) (c.as_slice-2.ensures i))))
     (c.in_ok-common.ensures.audit ∙ (λ i. map (place_in (c.as_slice-2.ensures i)) (common_tables (c.as_slice.ensures i) (c.as_slice-2.ensures i))))
     c.in_ok-places.ensures c.in-None.is
