@@ -241,7 +241,7 @@ act_again (Choice n x a) (Choice m y b) r s f g o k e =
     ((pair (pair a_signed_number a_name) an_agreement).once ((n, x), a) ((m, y), b) r s (and_from _ true f refl) (and_from _ true g refl) e)
 act_again (Asked u p n x) (Asked v q m y) r s f g o k e =
     made (λ (p : ((Name × Name) × Name) × Txt). Asked p.0.0.0 p.0.0.1 p.0.1 p.1) ((pair three_names a_question).once (((u, p), n), x) (((v, q), m), y) r s f g e)
-act_again x y r s f g o k e = absurd cc
+act_again x y r s f g o k e = absurd (omega (arith, k))
 
 -- ---- entries
 
