@@ -25,12 +25,13 @@ use Rattle.hippo_typing.specs.Meanings.{meaning_in, meaning}
 use Rattle.hippo_typing.proofs.CatalogTheorem.{valid_names}
 use Rattle.hippo_typing.proofs.LastingNames.{extends_later, select_lasts}
 use Rattle.hippo_typing.proofs.MeaningTheorem.{Means-found, found-Means}
-use Rattle.hippo_telling.specs.Telling.{table_named, schema_before, entry_line}
+use Rattle.hippo_telling.specs.Telling.{table_named, schema_before}
 use Rattle.hippo_showing.specs.declared.asking.Excerpt.{Excerpt}
 use Rattle.hippo_showing.specs.declared.asking.Form.{Form}
 use Rattle.hippo_showing.specs.declared.asking.Form.TheVariants.{Listing, Script}
 use Rattle.hippo_showing.specs.declared.asking.Scope.{Scope}
 use Rattle.hippo_showing.specs.declared.asking.Scope.TheVariants.{Whole, Table}
+use Rattle.hippo_showing.specs.Formats.{entry_by}
 use Rattle.hippo_showing.specs.ByNames.{schema_named, shown_as, entry_shown, clock_after, entries_shown}
 use Rattle.hippo_showing.specs.Showing.{is_within, is_of, is_asked, act_lines, clock_line, told_as, is_told, entry_told, clock_then, entries_told}
 
@@ -111,7 +112,7 @@ module _ (front : History) (entry : Entry) (later : History) (valid : is_valid m
 
 module _ (history : History) (excerpt : Excerpt) (entry : Entry) (finds : FindsSame history excerpt entry) (clock : Option Moment) where
   as_told : (form : Form) → shown_as (known_at history) form clock entry ≡ told_as history form clock entry
-  as_told Listing = ap (λ (schema : Option Schema). entry_line schema entry) finds.schema
+  as_told (Listing format) = ap (λ (schema : Option Schema). entry_by format schema entry) finds.schema
   as_told Script = ap (λ (schema : Option Schema). clock_line clock entry.moment ++ act_lines schema entry.act) finds.schema
 
   entry_same : entry_shown (known_at history) excerpt clock entry ≡ entry_told history excerpt clock entry

@@ -83,11 +83,11 @@ module _ (state : State) (written written' : Option Txt) (faults faults' : ℕ) 
   -- and so are the rules, by those that it holds; nothing is read for them
   module _ (page : Page) (keeper : KeeperState) (ready : IsReady true keeper) (ticks : ℕ) where
     abbrev text : History → Txt
-    text history = rules_by_names state.catalog.names page.scope (take page.last history)
+    text history = rules_by_names state.catalog.names page.format page.scope (take page.last history)
 
     named : (history : History) → StandsFor state history → text history ≡ shown (Rules page) history
     named history stands =
-        ap (λ known. rules_by_names known page.scope (take page.last history)) stands.names ∙ rules_of_first history stands.valid page.last page.scope
+        ap (λ known. rules_by_names known page.format page.scope (take page.last history)) stands.names ∙ rules_of_first history stands.valid page.last page.format page.scope
 
     abbrev Loaded : Ending → Type 0
     Loaded result = ShowsLoaded state (Rules page) result keeper keeper written written' faults faults' ticks ticks

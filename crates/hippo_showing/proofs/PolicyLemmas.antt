@@ -25,6 +25,7 @@ use Rattle.hippo_catalog.specs.Catalogs.{KnownNames, known_at, known_after}
 use Rattle.hippo_typing.specs.Meanings.{meaning}
 use Rattle.hippo_typing.proofs.CatalogTheorem.{names_grow, valid_names}
 use Rattle.hippo_typing.proofs.LastingNames.{extends_later}
+use Rattle.hippo_report.specs.declared.format.Format.{Format}
 use Rattle.hippo_showing.specs.declared.asking.Scope.{Scope}
 use Rattle.hippo_showing.proofs.NameLemmas.{acceptable, may, some_there}
 use Rattle.hippo_showing.specs.Ruling.{column_rule, is_ruled, columns_shown, has_table, table_shown, tables_shown, rules_by_names, rules_shown}
@@ -137,13 +138,13 @@ false_by : (b : Bool) → (b ≡ true → ⊥) → b ≡ false
 false_by true never = absurd (never refl)
 false_by false never = refl
 
-module _ (front : History) (valid : is_valid meaning front ≡ true) (scope : Scope) where
-  no_text : (purpose recipient : Name) (schema : Schema) → (Exists front purpose recipient schema.name → ⊥) → table_shown scope front purpose recipient schema ≡ []
+module _ (front : History) (valid : is_valid meaning front ≡ true) (format : Format) (scope : Scope) where
+  no_text : (purpose recipient : Name) (schema : Schema) → (Exists front purpose recipient schema.name → ⊥) → table_shown format scope front purpose recipient schema ≡ []
   no_text purpose recipient schema none =
       let unruled = false_by (is_ruled front purpose recipient schema) (λ is. none (ruled_exist front valid purpose recipient schema is)) in
       by_scope (has_table scope schema.name) (is_ruled front purpose recipient schema) unruled
     where
-      by_scope : (asked ruled : Bool) → ruled ≡ false → cond (asked && ruled) (columns_shown front purpose recipient schema) [] ≡ []
+      by_scope : (asked ruled : Bool) → ruled ≡ false → cond (asked && ruled) (columns_shown format front purpose recipient schema) [] ≡ []
       by_scope true true e = absurd (false≢true (sym e))
       by_scope true false e = refl
       by_scope false ruled e = refl
@@ -170,48 +171,48 @@ module _ (front : History) (valid : is_valid meaning front ≡ true) (scope : Sc
     none_and_some None none some = false≢true some
     none_and_some (Some schema) none some = false≢true none
 
-    by_act : (act : Act) → is_acceptable meaning history act ≡ true → rules_by_names (known_after (known_at history) act) scope front ≡ rules_by_names (known_at history) scope front
+    by_act : (act : Act) → is_acceptable meaning history act ≡ true → rules_by_names (known_after (known_at history) act) format scope front ≡ rules_by_names (known_at history) format scope front
     by_act (Create schema) fits =
         let first = (and_parts (nat_lt (count_by (λ (e : Entry). creates_table e.act) history) table_limit && is_none (schema_at history schema.name)) (is_well_formed schema) fits).0 in
         let none = (and_parts (nat_lt (count_by (λ (e : Entry). creates_table e.act) history) table_limit) (is_none (schema_at history schema.name)) first).1 in
         let known = known_at history in
-        let same : (purpose recipient : Name) → tables_shown (known_after known (Create schema)) scope front purpose recipient ≡ tables_shown known scope front purpose recipient =
-        λ purpose recipient. flat_same (λ named. table_shown scope front purpose recipient named.1) known.tables (schema.name, schema)
+        let same : (purpose recipient : Name) → tables_shown (known_after known (Create schema)) format scope front purpose recipient ≡ tables_shown known format scope front purpose recipient =
+        λ purpose recipient. flat_same (λ named. table_shown format scope front purpose recipient named.1) known.tables (schema.name, schema)
         (no_text purpose recipient schema (λ exist. none_and_some (schema_at history schema.name) none (here exist).table_is)) in
         λ i. flat_map (λ purpose. flat_map (λ recipient. same purpose recipient i) known.recipients) known.purposes
     by_act (Purpose name) fits =
         let known = known_at history in
-        flat_same (λ purpose. flat_map (λ recipient. tables_shown known scope front purpose recipient) known.recipients) known.purposes name
-        (flat_none (λ recipient. tables_shown known scope front name recipient) known.recipients (λ recipient. flat_none (λ named. table_shown scope front name recipient named.1) known.tables
+        flat_same (λ purpose. flat_map (λ recipient. tables_shown known format scope front purpose recipient) known.recipients) known.purposes name
+        (flat_none (λ recipient. tables_shown known format scope front name recipient) known.recipients (λ recipient. flat_none (λ named. table_shown format scope front name recipient named.1) known.tables
         (λ named. no_text name recipient named.1 (λ exist. not_both (is_purpose history name) fits (here exist).purpose_is))))
     by_act (Recipient name) fits =
         let known = known_at history in
-        let same : (purpose : Name) → flat_map (λ recipient. tables_shown known scope front purpose recipient) (known.recipients ++ name ∷ []) ≡ flat_map (λ recipient. tables_shown known scope front purpose recipient) known.recipients =
-        λ purpose. flat_same (λ recipient. tables_shown known scope front purpose recipient) known.recipients name
-        (flat_none (λ named. table_shown scope front purpose name named.1) known.tables
+        let same : (purpose : Name) → flat_map (λ recipient. tables_shown known format scope front purpose recipient) (known.recipients ++ name ∷ []) ≡ flat_map (λ recipient. tables_shown known format scope front purpose recipient) known.recipients =
+        λ purpose. flat_same (λ recipient. tables_shown known format scope front purpose recipient) known.recipients name
+        (flat_none (λ named. table_shown format scope front purpose name named.1) known.tables
         (λ named. no_text purpose name named.1 (λ exist. not_both (is_recipient history name) fits (here exist).recipient_is))) in
         λ i. flat_map (λ purpose. same purpose i) known.purposes
     by_act act fits = refl
 
-    one_more_entry : rules_by_names (known_at (history ++ entry ∷ [])) scope front ≡ rules_by_names (known_at history) scope front
-    one_more_entry = ap (λ (known : KnownNames). rules_by_names known scope front) (names_grow history entry) ∙ by_act entry.act next_fits
+    one_more_entry : rules_by_names (known_at (history ++ entry ∷ [])) format scope front ≡ rules_by_names (known_at history) format scope front
+    one_more_entry = ap (λ (known : KnownNames). rules_by_names known format scope front) (names_grow history entry) ∙ by_act entry.act next_fits
 
-  same_behind : (middle later : History) → is_valid meaning ((front ++ middle) ++ later) ≡ true → rules_by_names (known_at ((front ++ middle) ++ later)) scope front ≡ rules_by_names (known_at (front ++ middle)) scope front
-  same_behind middle [] sound = ap (λ (h : History). rules_by_names (known_at h) scope front) (append-nil (front ++ middle))
+  same_behind : (middle later : History) → is_valid meaning ((front ++ middle) ++ later) ≡ true → rules_by_names (known_at ((front ++ middle) ++ later)) format scope front ≡ rules_by_names (known_at (front ++ middle)) format scope front
+  same_behind middle [] sound = ap (λ (h : History). rules_by_names (known_at h) format scope front) (append-nil (front ++ middle))
   same_behind middle (entry ∷ later) sound =
       let regrouped : (front ++ (middle ++ entry ∷ [])) ++ later ≡ (front ++ middle) ++ entry ∷ later =
       ap (λ (h : History). h ++ later) (sym (append_assoc front middle (entry ∷ []))) ∙ append_assoc (front ++ middle) (entry ∷ []) later in
       let whole : is_valid meaning ((front ++ (middle ++ entry ∷ [])) ++ later) ≡ true = ap (is_valid meaning) regrouped ∙ sound in
       let one : is_valid meaning ((front ++ middle) ++ entry ∷ []) ≡ true = ap (is_valid meaning) (append_assoc front middle (entry ∷ [])) ∙ front_is_valid meaning (front ++ (middle ++ entry ∷ [])) later whole in
-      ap (λ (h : History). rules_by_names (known_at h) scope front) (sym regrouped) ∙ same_behind (middle ++ entry ∷ []) later whole
-      ∙ ap (λ (h : History). rules_by_names (known_at h) scope front) (sym (append_assoc front middle (entry ∷ []))) ∙ one_more_entry middle entry one
+      ap (λ (h : History). rules_by_names (known_at h) format scope front) (sym regrouped) ∙ same_behind (middle ++ entry ∷ []) later whole
+      ∙ ap (λ (h : History). rules_by_names (known_at h) format scope front) (sym (append_assoc front middle (entry ∷ []))) ∙ one_more_entry middle entry one
 
 -- by the names of a valid history the rules after its first entries are shown as by the names that these created
-pub rules_of_first : (history : History) → is_valid meaning history ≡ true → (n : ℕ) (scope : Scope) → rules_by_names (known_at history) scope (take n history) ≡ rules_shown scope (take n history)
-rules_of_first history valid n scope =
+pub rules_of_first : (history : History) → is_valid meaning history ≡ true → (n : ℕ) (format : Format) (scope : Scope) → rules_by_names (known_at history) format scope (take n history) ≡ rules_shown format scope (take n history)
+rules_of_first history valid n format scope =
     let parts : take n history ++ drop n history ≡ history = take-append-drop n history in
     let nothing : (take n history ++ []) ++ drop n history ≡ history = ap (λ (h : History). h ++ drop n history) (append-nil (take n history)) ∙ parts in
     let first : is_valid meaning (take n history) ≡ true = front_is_valid meaning (take n history) (drop n history) (ap (is_valid meaning) parts ∙ valid) in
-    ap (λ (h : History). rules_by_names (known_at h) scope (take n history)) (sym nothing)
-    ∙ same_behind (take n history) first scope [] (drop n history) (ap (is_valid meaning) nothing ∙ valid)
-    ∙ ap (λ (h : History). rules_by_names (known_at h) scope (take n history)) (append-nil (take n history))
+    ap (λ (h : History). rules_by_names (known_at h) format scope (take n history)) (sym nothing)
+    ∙ same_behind (take n history) first format scope [] (drop n history) (ap (is_valid meaning) nothing ∙ valid)
+    ∙ ap (λ (h : History). rules_by_names (known_at h) format scope (take n history)) (append-nil (take n history))

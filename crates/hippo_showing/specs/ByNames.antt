@@ -8,10 +8,11 @@ use Rattle.hippo_model.specs.declared.entry.Entry.{Entry}
 use Rattle.hippo_model.specs.declared.schema.Schema.{Schema}
 use Rattle.hippo_model.specs.Terms.{History}
 use Rattle.hippo_catalog.specs.Catalogs.{KnownNames, table_of}
-use Rattle.hippo_telling.specs.Telling.{table_named, entry_line}
+use Rattle.hippo_telling.specs.Telling.{table_named}
 use Rattle.hippo_showing.specs.declared.asking.Excerpt.{Excerpt}
 use Rattle.hippo_showing.specs.declared.asking.Form.{Form}
 use Rattle.hippo_showing.specs.declared.asking.Form.TheVariants.{Listing, Script}
+use Rattle.hippo_showing.specs.Formats.{entry_by}
 use Rattle.hippo_showing.specs.Showing.{is_asked, act_lines, clock_line}
 
 -- the schema of the table that an act names
@@ -20,7 +21,7 @@ schema_named known act = option_and_then (table_of known) (table_named act)
 
 -- an entry as it is shown
 abbrev pub shown_as : KnownNames → Form → Option Moment → Entry → Txt
-shown_as known Listing clock entry = entry_line (schema_named known entry.act) entry
+shown_as known (Listing format) clock entry = entry_by format (schema_named known entry.act) entry
 shown_as known Script clock entry = clock_line clock entry.moment ++ act_lines (schema_named known entry.act) entry.act
 
 abbrev pub entry_shown : KnownNames → Excerpt → Option Moment → Entry → Txt

@@ -1,5 +1,5 @@
 -- The command line: which words the program takes, and what they ask for.
-use Rattle.std.specs.Prelude.{ℕ, Bool, true, false, not, ◌&&◌, ◌||◌, List, [], ◌∷◌, Option, Some, None, is_some, option_map, unwrap_or, if◌then◌else◌, codes, bytes_eq}
+use Rattle.std.specs.Prelude.{ℕ, Bool, true, false, not, ◌&&◌, ◌||◌, List, [], ◌∷◌, Option, Some, None, is_some, option_map, option_and_then, unwrap_or, if◌then◌else◌, codes, bytes_eq}
 use Rattle.std.specs.Option.{option_map_or}
 use Rattle.std.specs.Str.Parse.{digits_value, without_leading_plus}
 use Rattle.clap.specs.Words.{App, Rule, Row, new_rule, first_of, matches_of, fault_of}
@@ -9,6 +9,8 @@ use Rattle.clap.specs.declared.builder.action.ArgAction.TheVariants.{SetTrue}
 use Rattle.clap.specs.declared.builder.value_parser.ValueParser.TheVariants.{Unsigned}
 use Rattle.hippo_values.specs.Texts.{Txt}
 use Rattle.hippo_values.specs.Names.{name_of}
+use Rattle.hippo_report.specs.declared.format.Format.{Format}
+use Rattle.hippo_report.specs.declared.format.Format.TheVariants as formats
 use Rattle.hippo_showing.specs.declared.asking.Acts.{Acts}
 use Rattle.hippo_showing.specs.declared.asking.Acts.TheVariants.{All, Tables}
 use Rattle.hippo_showing.specs.declared.asking.Call.{Call}
@@ -39,7 +41,8 @@ abbrev pub command_line : App
 command_line = record {
   top = record (new_shape (codes "hippo_history")) {
     rules = store_option ∷ number_option (codes "entry") ∷ number_option (codes "from") ∷ number_option (codes "to")
-        ∷ text_option (codes "table") ∷ flag (codes "tables") ∷ flag (codes "script") ∷ flag (codes "rules") ∷ [];
+        ∷ text_option (codes "table") ∷ flag (codes "tables") ∷ flag (codes "script") ∷ flag (codes "rules")
+        ∷ text_option (codes "format") ∷ [];
     no_binary_name = true;
     disable_help_flag = true;
   };
@@ -83,35 +86,63 @@ abbrev pub scope_of : Option Txt → Option Scope
 scope_of None = Some Whole
 scope_of (Some word) = option_map Table (name_of word)
 
-abbrev pub form_in : List Row → Form
-form_in rows = if is_on (codes "script") rows then Script else Listing
+-- the format with a name; text where none is written
+abbrev pub format_named : Txt → Option Format
+format_named name =
+    if bytes_eq name (codes "text") then Some formats.Text
+    else if bytes_eq name (codes "json") then Some formats.Json
+    else if bytes_eq name (codes "csv") then Some formats.Csv
+    else None
+
+abbrev pub format_in : List Row → Option Format
+format_in rows = format_named (unwrap_or (first_of (codes "format") rows) (codes "text"))
+
+-- a script is lines of text
+abbrev pub is_text : Format → Bool
+is_text formats.Text = true
+is_text formats.Json = false
+is_text formats.Csv = false
+
+abbrev pub format_fits : List Row → Format → Bool
+format_fits rows format = is_text format || not (is_on (codes "script") rows)
+
+abbrev pub form_in : List Row → Format → Form
+form_in rows format = if is_on (codes "script") rows then Script else Listing format
 
 abbrev pub acts_in : List Row → Acts
 acts_in rows = if is_on (codes "tables") rows then Tables else All
 
-abbrev pub excerpt_in : List Row → Scope → Excerpt
-excerpt_in rows scope =
+abbrev pub excerpt_in : List Row → Format → Scope → Excerpt
+excerpt_in rows format scope =
     record {
       first = first_in rows;
       last = last_in rows;
       acts = acts_in rows;
       scope = scope;
-      form = form_in rows;
+      form = form_in rows format;
     }
 
-abbrev pub page_in : List Row → Scope → Page
-page_in rows scope = record { last = last_in rows; scope = scope }
+abbrev pub page_in : List Row → Format → Scope → Page
+page_in rows format scope = record { last = last_in rows; scope = scope; format = format }
 
-abbrev pub view_in : List Row → Scope → View
-view_in rows scope = if is_on (codes "rules") rows then Rules (page_in rows scope) else Entries (excerpt_in rows scope)
+abbrev pub view_in : List Row → Format → Scope → View
+view_in rows format scope =
+    if is_on (codes "rules") rows then Rules (page_in rows format scope) else Entries (excerpt_in rows format scope)
 
-abbrev pub call_with : List Row → Scope → Call
-call_with rows scope = record { store = unwrap_or (first_of (codes "store") rows) []; view = view_in rows scope }
+abbrev pub call_with : List Row → Format → Scope → Call
+call_with rows format scope =
+    record { store = unwrap_or (first_of (codes "store") rows) []; view = view_in rows format scope }
+
+-- what is asked for in a format
+abbrev pub asked_by : List Row → Format → Option Call
+asked_by rows format =
+    if format_fits rows format
+    then option_map (call_with rows format) (scope_of (first_of (codes "table") rows)) else None
 
 -- what is asked for by words that the command takes
 abbrev pub asked_in : List Row → Option Call
 asked_in rows =
-    if fits rows then option_map (call_with rows) (scope_of (first_of (codes "table") rows)) else None
+    if fits rows then option_and_then (asked_by rows) (format_in rows) else None
 
 -- whether the command takes the words: it finds no fault in them
 abbrev pub is_taken : List Txt → Bool

@@ -8,7 +8,8 @@ use Rattle.hippo_showing.specs.declared.endings.Ending.TheVariants.{WriteFault, 
 
 -- how the program is called
 unfoldable pub usage : Txt
-usage = codes "usage: hippo_history --store NAME [--entry N | [--from N] [--to N]] [--table NAME] [--rules | [--tables] [--script]]\n"
+usage = codes "usage: hippo_history --store NAME [--entry N | [--from N] [--to N]] [--table NAME] [--rules | [--tables] [--script]]"
+    ++ codes " [--format text|json|csv]\n"
 
 -- at which place the kept entries are damaged
 abbrev pub damaged_line : ℕ → Txt

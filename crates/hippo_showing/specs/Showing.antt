@@ -1,4 +1,4 @@
--- What is shown of a history: the entries that are asked for, each as the statement that made it.
+-- What is shown of a history: the entries that are asked for, each with the statement that made it.
 use Rattle.std.specs.Prelude.{Bool, true, false, ◌&&◌, [], ◌∷◌, ◌++◌, take, nat_le, Option, Some, None, if◌then◌else◌, codes, bytes_eq}
 use Rattle.std.specs.List.{list_any}
 use Rattle.std.specs.Option.{option_map_or}
@@ -15,7 +15,7 @@ use Rattle.hippo_model.specs.Histories.{before_entry}
 use Rattle.hippo_model.specs.Terms.{History}
 use Rattle.hippo_catalog.specs.Catalogs.{KnownNames, known_at}
 use Rattle.hippo_typing.specs.Meanings.{meaning_in}
-use Rattle.hippo_telling.specs.Telling.{told_act, schema_before, told_entry}
+use Rattle.hippo_telling.specs.Telling.{told_act, schema_before}
 use Rattle.hippo_model.specs.Validity.{creates_table}
 use Rattle.hippo_showing.specs.declared.asking.Acts.{Acts}
 use Rattle.hippo_showing.specs.declared.asking.Acts.TheVariants.{All, Tables}
@@ -26,6 +26,7 @@ use Rattle.hippo_showing.specs.declared.asking.Scope.{Scope}
 use Rattle.hippo_showing.specs.declared.asking.Scope.TheVariants.{Whole, Table}
 use Rattle.hippo_showing.specs.declared.asking.View.{View}
 use Rattle.hippo_showing.specs.declared.asking.View.TheVariants.{Entries, Rules}
+use Rattle.hippo_showing.specs.Formats.{entry_by}
 use Rattle.hippo_showing.specs.Ruling.{rules_shown}
 
 -- whether a text is a question that names this table in FROM
@@ -82,7 +83,7 @@ clock_line clock moment =
 
 -- an entry of a history as it is shown, where the entry that was shown last had this moment
 abbrev pub told_as : History → Form → Option Moment → Entry → Txt
-told_as history Listing clock entry = told_entry history entry
+told_as history (Listing format) clock entry = entry_by format (schema_before history entry) entry
 told_as history Script clock entry =
     clock_line clock entry.moment ++ act_lines (schema_before history entry) entry.act
 
@@ -107,4 +108,4 @@ entries_told history excerpt clock (entry ∷ later) =
 -- what is asked for of a history: an excerpt, or the rules in force after its first entries
 abbrev pub shown : View → History → Txt
 shown (Entries excerpt) history = entries_told history excerpt None history
-shown (Rules page) history = rules_shown page.scope (take page.last history)
+shown (Rules page) history = rules_shown page.format page.scope (take page.last history)

@@ -84,7 +84,8 @@ fn command_line<'a>(alloc: Global) -> Result<Command<'a>, Memory>
     ensures { IfOk result (λ command. app_of command ≡ command_line) }
 {
     let command = with_numbers(alloc, no_arguments(alloc))?;
-    with_forms(alloc, command)
+    let command = with_forms(alloc, command)?;
+    Ok(command.arg(text_option(alloc, "format"))?)
 }
 
 // What is found where the command answers an error: nothing, or memory was short.

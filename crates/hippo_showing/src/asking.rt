@@ -1,11 +1,12 @@
 //! What a call of the program asks for.
+use hippo_report::Format;
 use hippo_values::{Name, Txt};
 
 /// How entries are shown.
 #[derive(Clone, Copy, Debug, PartialEq, Eq)]
 pub enum Form {
-    /// A line each: the number, the moment and the statement.
-    Listing,
+    /// A line each, in a format: the number, the moment and the statement.
+    Listing(Format),
     /// Lines that `hippo run` takes.
     Script,
 }
@@ -37,12 +38,13 @@ pub struct Excerpt {
     pub form: Form,
 }
 
-/// As of which entry something is shown of a history, and of which tables.
+/// As of which entry something is shown of a history, of which tables, and how.
 #[derive(Debug, Drop)]
 pub struct Page {
     /// The number of the last entry that counts.
     pub last: u64,
     pub scope: Scope,
+    pub format: Format,
 }
 
 /// What is shown of a history.

@@ -6,10 +6,11 @@ ghost use Rattle.hippo_showing.specs.ByNames.{schema_named, shown_as};
 ghost use Rattle.hippo_showing.specs.Showing.{console_lines, session_lines, act_lines, stands_at, clock_line};
 
 use crate::asking::Form;
+use crate::told::{append_entry, append_moment};
 use hippo_catalog::Catalog;
 use hippo_model::{Act, Entry, Schema};
-use hippo_telling::{entry_line, table_named, tell_act};
-use hippo_values::{Memory, Moment, Name, Txt, moment_text};
+use hippo_telling::{table_named, tell_act};
+use hippo_values::{Memory, Moment, Name, Txt};
 use std::alloc::Global;
 
 // The schema of the table that an act names.
@@ -19,15 +20,6 @@ fn schema_named<'a>(catalog: &'a Catalog, act: &Act) -> Option<&'a Schema>
     match table_named(act) {
         None => None,
         Some(table) => catalog.table(table),
-    }
-}
-
-fn append_moment(moment: &Moment, out: &mut Txt) -> Result<(), Memory>
-    ensures { OnOk result (out.new ≡ out.old ++ moment_text moment.now) }
-{
-    match str::from_utf8(&moment_text(*moment)) {
-        Ok(text) => out.append(text),
-        Err(_) => unreachable!(),
     }
 }
 
@@ -141,7 +133,10 @@ pub(crate) fn append_shown(
     ensures { OnOk result (out.new ≡ out.old ++ shown_as catalog.now.names form clock.now entry.now) }
 {
     match form {
-        Form::Listing => entry_line(alloc, schema_named(catalog, &entry.act), entry, out),
+        Form::Listing(format) => {
+            let schema = schema_named(catalog, &entry.act);
+            append_entry(alloc, format, schema, entry, out)
+        }
         Form::Script => append_script(alloc, catalog, clock, entry, out),
     }
 }

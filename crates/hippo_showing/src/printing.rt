@@ -10,7 +10,8 @@ use hippo_io::{Failed, Sink, write_whole};
 use itoa::Buffer;
 
 const USAGE: &str =
-    "usage: hippo_history --store NAME [--entry N | [--from N] [--to N]] [--table NAME] [--rules | [--tables] [--script]]\n";
+    "usage: hippo_history --store NAME [--entry N | [--from N] [--to N]] [--table NAME] [--rules | [--tables] [--script]] \
+     [--format text|json|csv]\n";
 
 // Writes words, a number and a line feed.
 fn write_numbered<K: Sink>(sink: &mut K, words: &str, number: u64) -> Result<(), Failed>

@@ -1,11 +1,12 @@
 //! What the words of a call ask for.
 ghost use Rattle.std.specs.Prelude.{◌≡◌, ◌||◌, codes, map, is_some, IfOk};
 ghost use Rattle.clap.specs.Words.{first_of, rows_of, found_of};
-ghost use Rattle.hippo_showing.specs.CommandLine.{first_in, last_in, has_end, entry_fits, has_form, rules_fit, fits, scope_of, form_in, acts_in, excerpt_in, page_in, view_in, call_with, asked_in, asked_of};
+ghost use Rattle.hippo_showing.specs.CommandLine.{first_in, last_in, has_end, entry_fits, has_form, rules_fit, fits, scope_of, format_named, format_in, is_text, format_fits, form_in, acts_in, excerpt_in, page_in, view_in, call_with, asked_by, asked_in, asked_of};
 
 use crate::arguments::{found_in, is_on, number_or, text_of};
 use crate::asking::{Acts, Call, Excerpt, Form, Page, Scope, View};
 use clap::ArgMatches;
+use hippo_report::Format;
 use hippo_values::{Memory, Name, Txt};
 use std::alloc::Global;
 
@@ -74,13 +75,45 @@ fn scope_of(alloc: Global, matches: &ArgMatches<'_>) -> Result<Option<Scope>, Me
     }
 }
 
-fn form_of(matches: &ArgMatches<'_>) -> Form
-    ensures { result ≡ form_in (rows_of (found_of matches.now)) }
+fn format_named(name: &str) -> Option<Format>
+    ensures { result ≡ format_named name.now }
+{
+    match name {
+        "text" => Some(Format::Text),
+        "json" => Some(Format::Json),
+        "csv" => Some(Format::Csv),
+        _ => None,
+    }
+}
+
+fn format_of(matches: &ArgMatches<'_>) -> Option<Format>
+    ensures { result ≡ format_in (rows_of (found_of matches.now)) }
+{
+    format_named(text_of(matches, "format").unwrap_or("text"))
+}
+
+fn is_text(format: Format) -> bool
+    ensures { result ≡ is_text format }
+{
+    match format {
+        Format::Text => true,
+        Format::Json | Format::Csv => false,
+    }
+}
+
+fn format_fits(matches: &ArgMatches<'_>, format: Format) -> bool
+    ensures { result ≡ format_fits (rows_of (found_of matches.now)) format }
+{
+    is_text(format) || !is_on(matches, "script")
+}
+
+fn form_of(matches: &ArgMatches<'_>, format: Format) -> Form
+    ensures { result ≡ form_in (rows_of (found_of matches.now)) format }
 {
     if is_on(matches, "script") {
         Form::Script
     } else {
-        Form::Listing
+        Form::Listing(format)
     }
 }
 
@@ -94,8 +127,8 @@ fn acts_of(matches: &ArgMatches<'_>) -> Acts
     }
 }
 
-fn excerpt_of(matches: &ArgMatches<'_>, scope: Scope) -> Result<Excerpt, Memory>
-    ensures { IfOk result (λ excerpt. excerpt ≡ excerpt_in (rows_of (found_of matches.now)) scope) }
+fn excerpt_of(matches: &ArgMatches<'_>, format: Format, scope: Scope) -> Result<Excerpt, Memory>
+    ensures { IfOk result (λ excerpt. excerpt ≡ excerpt_in (rows_of (found_of matches.now)) format scope) }
 {
     let first = first_of(matches)?;
     let last = last_of(matches)?;
@@ -104,33 +137,54 @@ fn excerpt_of(matches: &ArgMatches<'_>, scope: Scope) -> Result<Excerpt, Memory>
         last,
         acts: acts_of(matches),
         scope,
-        form: form_of(matches),
+        form: form_of(matches, format),
     })
 }
 
-fn page_of(matches: &ArgMatches<'_>, scope: Scope) -> Result<Page, Memory>
-    ensures { IfOk result (λ page. page ≡ page_in (rows_of (found_of matches.now)) scope) }
+fn page_of(matches: &ArgMatches<'_>, format: Format, scope: Scope) -> Result<Page, Memory>
+    ensures { IfOk result (λ page. page ≡ page_in (rows_of (found_of matches.now)) format scope) }
 {
     let last = last_of(matches)?;
-    Ok(Page { last, scope })
+    Ok(Page {
+        last,
+        scope,
+        format,
+    })
 }
 
-fn view_of(matches: &ArgMatches<'_>, scope: Scope) -> Result<View, Memory>
-    ensures { IfOk result (λ view. view ≡ view_in (rows_of (found_of matches.now)) scope) }
+fn view_of(matches: &ArgMatches<'_>, format: Format, scope: Scope) -> Result<View, Memory>
+    ensures { IfOk result (λ view. view ≡ view_in (rows_of (found_of matches.now)) format scope) }
 {
     if is_on(matches, "rules") {
-        Ok(View::Rules(page_of(matches, scope)?))
+        Ok(View::Rules(page_of(matches, format, scope)?))
     } else {
-        Ok(View::Entries(excerpt_of(matches, scope)?))
+        Ok(View::Entries(excerpt_of(matches, format, scope)?))
     }
 }
 
-fn call_with(alloc: Global, matches: &ArgMatches<'_>, scope: Scope) -> Result<Call, Memory>
-    ensures { IfOk result (λ call. call ≡ call_with (rows_of (found_of matches.now)) scope) }
+fn call_with(
+    alloc: Global,
+    matches: &ArgMatches<'_>,
+    format: Format,
+    scope: Scope,
+) -> Result<Call, Memory>
+    ensures { IfOk result (λ call. call ≡ call_with (rows_of (found_of matches.now)) format scope) }
 {
-    let view = view_of(matches, scope)?;
+    let view = view_of(matches, format, scope)?;
     let store = Txt::from_str(alloc, text_of(matches, "store").unwrap_or(""))?;
     Ok(Call { store, view })
+}
+
+fn asked_by(alloc: Global, matches: &ArgMatches<'_>, format: Format) -> Result<Option<Call>, Memory>
+    ensures { IfOk result (λ call. call ≡ asked_by (rows_of (found_of matches.now)) format) }
+{
+    if !format_fits(matches, format) {
+        return Ok(None);
+    }
+    match scope_of(alloc, matches)? {
+        None => Ok(None),
+        Some(scope) => Ok(Some(call_with(alloc, matches, format, scope)?)),
+    }
 }
 
 fn asked_with(alloc: Global, matches: &ArgMatches<'_>) -> Result<Option<Call>, Memory>
@@ -139,9 +193,9 @@ fn asked_with(alloc: Global, matches: &ArgMatches<'_>) -> Result<Option<Call>, M
     if !fits(matches) {
         return Ok(None);
     }
-    match scope_of(alloc, matches)? {
+    match format_of(matches) {
         None => Ok(None),
-        Some(scope) => Ok(Some(call_with(alloc, matches, scope)?)),
+        Some(format) => asked_by(alloc, matches, format),
     }
 }
 
@@ -167,8 +221,9 @@ fn asked_in(alloc: Global, words: &[&str]) -> Result<Option<Call>, Memory>
 
 /// What the words of a call ask for: options in any order, `--NAME VALUE` or `--NAME=VALUE`, and the store must be
 /// among them. Nothing where the command does not take them, as where a word is unknown or an option stands twice, where
-/// a number is out of its bounds or a table's name is none, where an entry is named beside an end of a stretch, or where
-/// the rules are asked for beside such an end, the tables or a script. Or want of memory.
+/// a number is out of its bounds, a table's name is none or a format is none of the three, where an entry is named beside
+/// an end of a stretch, where the rules are asked for beside such an end, the tables or a script, or where a script is
+/// asked for in another format than text. Or want of memory.
 ///
 /// ```text
 /// --store clinic.db --entry 18
@@ -177,6 +232,7 @@ fn asked_in(alloc: Global, words: &[&str]) -> Result<Option<Call>, Memory>
 /// --store clinic.db --tables
 /// --store clinic.db --rules
 /// --store clinic.db --rules --entry 18 --table patient
+/// --store clinic.db --rules --format csv
 /// ```
 pub fn asked_of(alloc: Global, words: &[Txt]) -> Result<Option<Call>, Memory>
     ensures { IfOk result (λ call. call ≡ asked_of words.now) }

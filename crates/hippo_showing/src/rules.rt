@@ -5,23 +5,33 @@ ghost use Rattle.hippo_model.specs.Terms.{History};
 ghost use Rattle.hippo_model.specs.Rules.{allowed, revoked};
 ghost use Rattle.hippo_policy.specs.Books.{StandsFor as BookStandsFor};
 ghost use Rattle.hippo_policy.specs.Rulings.{ruling_of, asks_opt_in, opt_in_at};
-ghost use Rattle.hippo_showing.specs.Ruling.{ruling_text, silence_text, column_rule, column_line, is_ruled, columns_shown, has_table, table_shown, tables_shown, rules_by_names};
+ghost use Rattle.hippo_report.specs.declared.format.Format.TheVariants.{Text};
+ghost use Rattle.hippo_telling.specs.Telling.{name_at};
+ghost use Rattle.hippo_showing.specs.Formats.{json_line, csv_line, rule_data, rule_fields};
+ghost use Rattle.hippo_showing.specs.Ruling.{ruling_text, silence_text, rule_line, column_rule, column_line, is_ruled, columns_shown, has_table, table_shown, tables_shown, rules_by_names};
 
 use crate::asking::{Page, Scope};
+use crate::objects::rule_json;
+use crate::records::{append_record, rule_record};
+use crate::rulings::Names;
 use hippo_catalog::Catalog;
 use hippo_model::{Column, RuleAt, Schema};
 use hippo_policy::PolicyBook;
+use hippo_report::Format;
 use hippo_telling::{Rule, append_allow, append_rule};
 use hippo_values::{Memory, Name, Txt};
 use itoa::Buffer;
+use std::alloc::Global;
 
-// The names and the rules of a history, as of its first so many entries, and which of them are asked for.
+// The names and the rules of a history, as of its first so many entries, which of them are asked for, and how.
 #[derive(Clone, Copy)]
 struct Policy<'a> {
+    alloc: Global,
     catalog: &'a Catalog,
     book: &'a PolicyBook,
     n: u64,
     scope: &'a Scope,
+    format: Format,
 }
 
 // A table, for a purpose and a recipient.
@@ -103,7 +113,7 @@ fn append_silence(ruling: &RuleAt<'_>, out: &mut Txt) -> Result<(), Memory>
     }
 }
 
-fn append_line(
+fn append_text(
     columns: &[Column],
     rule: &Rule<'_>,
     ruling: &RuleAt<'_>,
@@ -116,6 +126,94 @@ fn append_line(
     append_ruling(columns, rule, ruling, out)?;
     append_silence(ruling, out)?;
     out.append("\n")
+}
+
+fn append_json(
+    alloc: Global,
+    names: &Names<'_>,
+    ruling: &RuleAt<'_>,
+    out: &mut Txt,
+) -> Result<(), Memory>
+    ensures { OnOk result (out.new ≡ out.old ++ json_line (rule_data names.now.purpose.now names.now.recipient.now
+        names.now.table.now names.now.column.now (ruling_of ruling.now) (asks_opt_in ruling.now))) }
+{
+    let text = rule_json(alloc, names, ruling)?;
+    out.append(text.as_str())?;
+    out.append("\n")
+}
+
+fn append_csv(
+    alloc: Global,
+    names: &Names<'_>,
+    ruling: &RuleAt<'_>,
+    out: &mut Txt,
+) -> Result<(), Memory>
+    ensures { OnOk result (out.new ≡ out.old ++ csv_line (rule_fields names.now.purpose.now names.now.recipient.now
+        names.now.table.now names.now.column.now (ruling_of ruling.now) (asks_opt_in ruling.now))) }
+{
+    let fields = rule_record(alloc, names, ruling)?;
+    append_record(alloc, &fields, out)
+}
+
+fn name_at<'a>(columns: &'a [Column], place: usize) -> &'a str
+    ensures { result.now ≡ name_at columns.now place }
+{
+    match columns.get(place) {
+        None => "",
+        Some(column) => column.name.as_str(),
+    }
+}
+
+fn names_of<'a>(group: &Group<'a>, place: usize) -> Names<'a>
+    ensures purpose { result.purpose.now ≡ group.now.purpose.now }
+    ensures recipient { result.recipient.now ≡ group.now.recipient.now }
+    ensures table { result.table.now ≡ group.now.schema.now.name }
+    ensures column { result.column.now ≡ name_at group.now.schema.now.columns place }
+{
+    Names {
+        purpose: group.purpose.as_str(),
+        recipient: group.recipient.as_str(),
+        table: group.schema.name.as_str(),
+        column: name_at(group.schema.columns.as_slice(), place),
+    }
+}
+
+fn append_statement(
+    group: &Group<'_>,
+    place: usize,
+    ruling: &RuleAt<'_>,
+    out: &mut Txt,
+) -> Result<(), Memory>
+    ensures { OnOk result (out.new ≡ out.old ++ rule_line Text group.now.purpose.now group.now.recipient.now
+        group.now.schema.now place (ruling_of ruling.now) (asks_opt_in ruling.now)) }
+{
+    let places = [place];
+    let rule = Rule {
+        purpose: group.purpose,
+        recipient: group.recipient,
+        table: &group.schema.name,
+        places: &places,
+    };
+    append_text(group.schema.columns.as_slice(), &rule, ruling, out)
+}
+
+// The rule of a column as a line.
+fn append_line(
+    alloc: Global,
+    format: Format,
+    group: &Group<'_>,
+    place: usize,
+    ruling: &RuleAt<'_>,
+    out: &mut Txt,
+) -> Result<(), Memory>
+    ensures { OnOk result (out.new ≡ out.old ++ rule_line format group.now.purpose.now group.now.recipient.now
+        group.now.schema.now place (ruling_of ruling.now) (asks_opt_in ruling.now)) }
+{
+    match format {
+        Format::Text => append_statement(group, place, ruling, out),
+        Format::Json => append_json(alloc, &names_of(group, place), ruling, out),
+        Format::Csv => append_csv(alloc, &names_of(group, place), ruling, out),
+    }
 }
 
 // The rule of a column.
@@ -139,23 +237,16 @@ fn append_column(
     out: &mut Txt,
 ) -> Result<(), Memory>
     ensures { OnOk result ((history : History) → BookStandsFor policy.now.book.now history → out.new
-        ≡ out.old ++ column_line (take policy.now.n history)
+        ≡ out.old ++ column_line policy.now.format (take policy.now.n history)
         group.now.purpose.now group.now.recipient.now group.now.schema.now place) }
 {
     let ruling = ruling_at(policy, group, place);
-    let places = [place];
-    let rule = Rule {
-        purpose: group.purpose,
-        recipient: group.recipient,
-        table: &group.schema.name,
-        places: &places,
-    };
-    append_line(group.schema.columns.as_slice(), &rule, &ruling, out)
+    append_line(policy.alloc, policy.format, group, place, &ruling, out)
 }
 
 fn append_columns(policy: &Policy<'_>, group: &Group<'_>, out: &mut Txt) -> Result<(), Memory>
     ensures { OnOk result ((history : History) → BookStandsFor policy.now.book.now history → out.new
-        ≡ out.old ++ columns_shown (take policy.now.n history)
+        ≡ out.old ++ columns_shown policy.now.format (take policy.now.n history)
         group.now.purpose.now group.now.recipient.now group.now.schema.now) }
 {
     for place in 0..group.schema.columns.len() {
@@ -209,7 +300,7 @@ fn is_shown(policy: &Policy<'_>, group: &Group<'_>) -> bool
 
 fn append_table(policy: &Policy<'_>, group: &Group<'_>, out: &mut Txt) -> Result<(), Memory>
     ensures { OnOk result ((history : History) → BookStandsFor policy.now.book.now history → out.new
-        ≡ out.old ++ table_shown policy.now.scope.now (take policy.now.n history)
+        ≡ out.old ++ table_shown policy.now.format policy.now.scope.now (take policy.now.n history)
         group.now.purpose.now group.now.recipient.now group.now.schema.now) }
 {
     if is_shown(policy, group) {
@@ -228,7 +319,7 @@ fn append_table_at(
     out: &mut Txt,
 ) -> Result<(), Memory>
     ensures { OnOk result ((history : History) → BookStandsFor policy.now.book.now history → out.new
-        ≡ out.old ++ option_map_or (λ named. table_shown policy.now.scope.now (take policy.now.n history)
+        ≡ out.old ++ option_map_or (λ named. table_shown policy.now.format policy.now.scope.now (take policy.now.n history)
         purpose.now recipient.now named.1) (slice_get policy.now.catalog.now.names.tables place) []) }
 {
     match policy.catalog.table_at(place) {
@@ -251,7 +342,7 @@ fn append_tables(
     out: &mut Txt,
 ) -> Result<(), Memory>
     ensures { OnOk result ((history : History) → BookStandsFor policy.now.book.now history → out.new
-        ≡ out.old ++ tables_shown policy.now.catalog.now.names policy.now.scope.now
+        ≡ out.old ++ tables_shown policy.now.catalog.now.names policy.now.format policy.now.scope.now
         (take policy.now.n history) purpose.now recipient.now) }
 {
     for place in 0..policy.catalog.table_count() {
@@ -262,8 +353,8 @@ fn append_tables(
 
 fn append_recipients(policy: &Policy<'_>, purpose: &Name, out: &mut Txt) -> Result<(), Memory>
     ensures { OnOk result ((history : History) → BookStandsFor policy.now.book.now history → out.new
-        ≡ out.old ++ flat_map (λ recipient. tables_shown policy.now.catalog.now.names policy.now.scope.now
-        (take policy.now.n history) purpose.now recipient) policy.now.catalog.now.names.recipients) }
+        ≡ out.old ++ flat_map (λ recipient. tables_shown policy.now.catalog.now.names policy.now.format
+        policy.now.scope.now (take policy.now.n history) purpose.now recipient) policy.now.catalog.now.names.recipients) }
 {
     for recipient in policy.catalog.recipients() {
         append_tables(policy, purpose, recipient, out)?;
@@ -273,7 +364,8 @@ fn append_recipients(policy: &Policy<'_>, purpose: &Name, out: &mut Txt) -> Resu
 
 fn append_purposes(policy: &Policy<'_>, out: &mut Txt) -> Result<(), Memory>
     ensures { OnOk result ((history : History) → BookStandsFor policy.now.book.now history → out.new
-        ≡ out.old ++ rules_by_names policy.now.catalog.now.names policy.now.scope.now (take policy.now.n history)) }
+        ≡ out.old ++ rules_by_names policy.now.catalog.now.names policy.now.format policy.now.scope.now
+        (take policy.now.n history)) }
 {
     for purpose in policy.catalog.purposes() {
         append_recipients(policy, purpose, out)?;
@@ -283,19 +375,22 @@ fn append_purposes(policy: &Policy<'_>, out: &mut Txt) -> Result<(), Memory>
 
 /// Adds the rules that are in force after so many entries, for the tables that are asked for.
 pub(crate) fn append_rules(
+    alloc: Global,
     catalog: &Catalog,
     book: &PolicyBook,
     page: &Page,
     out: &mut Txt,
 ) -> Result<(), Memory>
     ensures { OnOk result ((history : History) → BookStandsFor book.now history → out.new
-        ≡ out.old ++ rules_by_names catalog.now.names page.now.scope (take page.now.last history)) }
+        ≡ out.old ++ rules_by_names catalog.now.names page.now.format page.now.scope (take page.now.last history)) }
 {
     let policy = Policy {
+        alloc,
         catalog,
         book,
         n: page.last,
         scope: &page.scope,
+        format: page.format,
     };
     append_purposes(&policy, out)
 }

@@ -65,11 +65,11 @@ fn show_entries<K: Sink, P: Keeper, L: Ledger>(
 // Writes the rules that are in force.
 fn write_rules<K: Sink>(alloc: Global, page: &Page, state: &State, sink: &mut K) -> Option<Ending>
     ensures writes { WritesPage (BookStandsFor state.now.book)
-        (λ history. rules_by_names state.now.catalog.names page.now.scope (take page.now.last history)) result
+        (λ history. rules_by_names state.now.catalog.names page.now.format page.now.scope (take page.now.last history)) result
         (K.written sink.old) (K.written sink.new) (K.faults sink.old) (K.faults sink.new) }
 {
     let mut lines = Txt::new(alloc);
-    match append_rules(&state.catalog, &state.book, page, &mut lines) {
+    match append_rules(alloc, &state.catalog, &state.book, page, &mut lines) {
         Ok(()) => write_lines(sink, lines.as_str()),
         Err(Memory) => Some(Ending::NoMemory),
     }

@@ -12,6 +12,6 @@ loop-place-preserved c history stands =
     let count = length group.schema.now.columns in
     let place = c.loop-place.place in
     let past = take c.args.policy.now.n history in
-    one_more (column_line past group.purpose.now group.recipient.now group.schema.now) (c.args.out.now ++ columns_shown past group.purpose.now group.recipient.now group.schema.now) c.loop-place.out c.append_column.new.out place
+    one_more (column_line c.args.policy.now.format past group.purpose.now group.recipient.now group.schema.now) (c.args.out.now ++ columns_shown c.args.policy.now.format past group.purpose.now group.recipient.now group.schema.now) c.loop-place.out c.append_column.new.out place
     (range_with_len place (count - place)) (range_with_len (place + 1) (count - (place + 1)))
     (range_at place count (omega (arith, c.loop-place-test.true, c.len-place-end.ensures))) (c.in_ok-append_column.ensures history stands) (c.loop-place.invariant history stands)

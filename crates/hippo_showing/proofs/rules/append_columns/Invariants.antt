@@ -9,5 +9,5 @@ use Rattle.hippo_showing.proofs.rules.append_columns.Given as goal
 abbrev pub invariant-loop-place : goal.invariant-loop-place
 invariant-loop-place l =
     (history : History) → StandsFor l.policy.book.now history
-    → l.out ++ flat_map (column_line (take l.policy.n history) l.group.purpose.now l.group.recipient.now l.group.schema.now) (range_with_len l.place (length l.group.schema.now.columns - l.place))
-    ≡ l.initial.out ++ columns_shown (take l.policy.n history) l.group.purpose.now l.group.recipient.now l.group.schema.now
+    → l.out ++ flat_map (column_line l.policy.format (take l.policy.n history) l.group.purpose.now l.group.recipient.now l.group.schema.now) (range_with_len l.place (length l.group.schema.now.columns - l.place))
+    ≡ l.initial.out ++ columns_shown l.policy.format (take l.policy.n history) l.group.purpose.now l.group.recipient.now l.group.schema.now

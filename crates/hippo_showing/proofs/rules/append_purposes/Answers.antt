@@ -12,7 +12,7 @@ pub loop-purpose-preserved : goal.loop-purpose-preserved
 loop-purpose-preserved c history stands =
     let policy = c.args.policy.now in
     let purposes = policy.catalog.now.names.purposes in
-    let text : Name → Txt = λ purpose. flat_map (λ recipient. tables_shown policy.catalog.now.names policy.scope.now (take policy.n history) purpose recipient) policy.catalog.now.names.recipients in
+    let text : Name → Txt = λ purpose. flat_map (λ recipient. tables_shown policy.catalog.now.names policy.format policy.scope.now (take policy.n history) purpose recipient) policy.catalog.now.names.recipients in
     let index = c.loop-purpose.purpose-index in
     let item = c.purpose-item.result in
     let parts : drop index purposes ≡ item ∷ drop (index + 1) purposes =
@@ -25,7 +25,7 @@ pub returns : goal.returns
 returns c history stands =
     let policy = c.args.policy.now in
     let purposes = policy.catalog.now.names.purposes in
-    let text : Name → Txt = λ purpose. flat_map (λ recipient. tables_shown policy.catalog.now.names policy.scope.now (take policy.n history) purpose recipient) policy.catalog.now.names.recipients in
+    let text : Name → Txt = λ purpose. flat_map (λ recipient. tables_shown policy.catalog.now.names policy.format policy.scope.now (take policy.n history) purpose recipient) policy.catalog.now.names.recipients in
     let index = c.loop-purpose.purpose-index in
     let none : drop index purposes ≡ [] =
     subst (λ (items : List Name). drop index items ≡ []) c.purposes-purpose-items.ensures

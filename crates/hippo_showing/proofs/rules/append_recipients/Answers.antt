@@ -12,7 +12,7 @@ pub loop-recipient-preserved : goal.loop-recipient-preserved
 loop-recipient-preserved c history stands =
     let policy = c.args.policy.now in
     let recipients = policy.catalog.now.names.recipients in
-    let text : Name → Txt = λ recipient. tables_shown policy.catalog.now.names policy.scope.now (take policy.n history) c.args.purpose.now recipient in
+    let text : Name → Txt = λ recipient. tables_shown policy.catalog.now.names policy.format policy.scope.now (take policy.n history) c.args.purpose.now recipient in
     let index = c.loop-recipient.recipient-index in
     let item = c.recipient-item.result in
     let parts : drop index recipients ≡ item ∷ drop (index + 1) recipients =
@@ -25,7 +25,7 @@ pub returns : goal.returns
 returns c history stands =
     let policy = c.args.policy.now in
     let recipients = policy.catalog.now.names.recipients in
-    let text : Name → Txt = λ recipient. tables_shown policy.catalog.now.names policy.scope.now (take policy.n history) c.args.purpose.now recipient in
+    let text : Name → Txt = λ recipient. tables_shown policy.catalog.now.names policy.format policy.scope.now (take policy.n history) c.args.purpose.now recipient in
     let index = c.loop-recipient.recipient-index in
     let none : drop index recipients ≡ [] =
     subst (λ (items : List Name). drop index items ≡ []) c.recipients-recipient-items.ensures

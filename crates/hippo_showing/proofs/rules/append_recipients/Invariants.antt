@@ -8,5 +8,5 @@ use Rattle.hippo_showing.proofs.rules.append_recipients.Given as goal
 abbrev pub invariant-loop-recipient : goal.invariant-loop-recipient
 invariant-loop-recipient l =
     (history : History) → StandsFor l.policy.book.now history
-    → l.out ++ flat_map (λ recipient. tables_shown l.policy.catalog.now.names l.policy.scope.now (take l.policy.n history) l.purpose recipient) (drop l.recipient-index l.policy.catalog.now.names.recipients)
-    ≡ l.initial.out ++ flat_map (λ recipient. tables_shown l.policy.catalog.now.names l.policy.scope.now (take l.policy.n history) l.purpose recipient) l.policy.catalog.now.names.recipients
+    → l.out ++ flat_map (λ recipient. tables_shown l.policy.catalog.now.names l.policy.format l.policy.scope.now (take l.policy.n history) l.purpose recipient) (drop l.recipient-index l.policy.catalog.now.names.recipients)
+    ≡ l.initial.out ++ flat_map (λ recipient. tables_shown l.policy.catalog.now.names l.policy.format l.policy.scope.now (take l.policy.n history) l.purpose recipient) l.policy.catalog.now.names.recipients

@@ -8,5 +8,5 @@ use Rattle.hippo_showing.proofs.rules.append_tables.Given as goal
 abbrev pub invariant-loop-place : goal.invariant-loop-place
 invariant-loop-place l =
     (history : History) → StandsFor l.policy.book.now history
-    → l.out ++ flat_map (λ named. table_shown l.policy.scope.now (take l.policy.n history) l.purpose l.recipient named.1) (drop l.place l.policy.catalog.now.names.tables)
-    ≡ l.initial.out ++ flat_map (λ named. table_shown l.policy.scope.now (take l.policy.n history) l.purpose l.recipient named.1) l.policy.catalog.now.names.tables
+    → l.out ++ flat_map (λ named. table_shown l.policy.format l.policy.scope.now (take l.policy.n history) l.purpose l.recipient named.1) (drop l.place l.policy.catalog.now.names.tables)
+    ≡ l.initial.out ++ flat_map (λ named. table_shown l.policy.format l.policy.scope.now (take l.policy.n history) l.purpose l.recipient named.1) l.policy.catalog.now.names.tables
