@@ -209,7 +209,7 @@ module _ (front : History) (valid : is_valid meaning front ≡ true) (format : F
 
 -- by the names of a valid history the rules after its first entries are shown as by the names that these created
 pub rules_of_first : (history : History) → is_valid meaning history ≡ true → (n : ℕ) (format : Format) (scope : Scope) → rules_by_names (known_at history) format scope (take n history) ≡ rules_shown format scope (take n history)
-rules_of_first history valid n scope =
+rules_of_first history valid n format scope =
     let parts : take n history ++ drop n history ≡ history = take-append-drop n history in
     let nothing : (take n history ++ []) ++ drop n history ≡ history = ap (λ (h : History). h ++ drop n history) (append-nil (take n history)) ∙ parts in
     let first : is_valid meaning (take n history) ≡ true = front_is_valid meaning (take n history) (drop n history) (ap (is_valid meaning) parts ∙ valid) in

@@ -1,11 +1,13 @@
 //! An entry as a line in each format.
 ghost use Rattle.std.specs.Prelude.{◌≡◌, ◌++◌, ◌∷◌, [], option_copied, decimal, IfOk, OnOk, codes};
+ghost use Rattle.csv.specs.Records.{fields_of};
 ghost use Rattle.hippo_values.specs.Dates.{moment_text};
 ghost use Rattle.hippo_telling.specs.Telling.{told_act};
 ghost use Rattle.hippo_showing.specs.Formats.{json_line, csv_line, entry_data, entry_fields, entry_by};
 
 use crate::objects::entry_json;
 use crate::records::{Asker, append_record, entry_record};
+use csv::StringRecord;
 use hippo_model::{Act, Entry, Schema};
 use hippo_report::Format;
 use hippo_telling::{entry_line, tell_act};
@@ -54,31 +56,15 @@ fn append_json(
     out.append("\n")
 }
 
-fn append_fields(
-    alloc: Global,
-    entry: u64,
-    moment: &str,
-    asker: &Asker<'_>,
-    statement: &str,
-    out: &mut Txt,
-) -> Result<(), Memory>
-    ensures { OnOk result (out.new ≡ out.old ++ csv_line (decimal entry ∷ moment.now ∷ asker.now.user.now
-        ∷ asker.now.purpose.now ∷ asker.now.recipient.now ∷ statement.now ∷ [])) }
-{
-    let fields = entry_record(alloc, entry, moment, asker, statement)?;
-    append_record(alloc, &fields, out)
-}
-
-fn append_told(
+fn told_record(
     alloc: Global,
     schema: Option<&Schema>,
     entry: u64,
     moment: &str,
     act: &Act,
-    out: &mut Txt,
-) -> Result<(), Memory>
-    ensures { OnOk result (out.new ≡ out.old ++ csv_line (decimal entry ∷ moment.now ∷ [] ∷ [] ∷ []
-        ∷ told_act (option_copied schema.entry) act.now ∷ [])) }
+) -> Result<StringRecord, Memory>
+    ensures { IfOk result (λ made. fields_of made ≡ decimal entry ∷ moment.now ∷ [] ∷ [] ∷ []
+        ∷ told_act (option_copied schema.entry) act.now ∷ []) }
 {
     let statement = told_text(alloc, schema, act)?;
     let nobody = Asker {
@@ -86,19 +72,18 @@ fn append_told(
         purpose: "",
         recipient: "",
     };
-    append_fields(alloc, entry, moment, &nobody, statement.as_str(), out)
+    Ok(entry_record(alloc, entry, moment, &nobody, statement.as_str())?)
 }
 
-fn append_act(
+fn act_record(
     alloc: Global,
     schema: Option<&Schema>,
     entry: u64,
     moment: &str,
     act: &Act,
-    out: &mut Txt,
-) -> Result<(), Memory>
-    ensures { OnOk result (out.new
-        ≡ out.old ++ csv_line (entry_fields (option_copied schema.entry) entry moment.now act.now)) }
+) -> Result<StringRecord, Memory>
+    ensures { IfOk result (λ made.
+        fields_of made ≡ entry_fields (option_copied schema.entry) entry moment.now act.now) }
 {
     match act {
         Act::Asked {
@@ -112,9 +97,9 @@ fn append_act(
                 purpose: purpose.as_str(),
                 recipient: recipient.as_str(),
             };
-            append_fields(alloc, entry, moment, &asker, text.as_str(), out)
+            Ok(entry_record(alloc, entry, moment, &asker, text.as_str())?)
         }
-        _ => append_told(alloc, schema, entry, moment, act, out),
+        _ => told_record(alloc, schema, entry, moment, act),
     }
 }
 
@@ -128,7 +113,8 @@ fn append_csv(
         ++ csv_line (entry_fields (option_copied schema.entry) entry.now.seq (moment_text entry.now.moment) entry.now.act)) }
 {
     let moment = moment_of(alloc, &entry.moment)?;
-    append_act(alloc, schema, entry.seq, moment.as_str(), &entry.act, out)
+    let fields = act_record(alloc, schema, entry.seq, moment.as_str(), &entry.act)?;
+    append_record(alloc, &fields, out)
 }
 
 /// Adds an entry as a line in a format.

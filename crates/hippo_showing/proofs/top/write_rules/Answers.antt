@@ -1,5 +1,5 @@
 -- The rules that were written down are those of each history for which the book stands.
-use Rattle.std.proofs.Common.{◌≡◌, ◌∙◌, ◌++◌, take, ap}
+use Rattle.std.proofs.Common.{◌∙◌, ◌++◌, take, ap}
 use Rattle.hippo_values.specs.Texts.{Txt}
 use Rattle.hippo_model.specs.Terms.{History}
 use Rattle.hippo_policy.specs.Books.{StandsFor}
