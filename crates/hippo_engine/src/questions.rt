@@ -16,12 +16,11 @@ ghost use Rattle.hippo_replay.specs.Standing.{StandsFor, MayFollow, IsNext, take
 ghost use Rattle.hippo_world.specs.declared.sessions.Session.{Session as KeptSession};
 ghost use Rattle.hippo_world.specs.Worlds.{session_at};
 ghost use Rattle.hippo_world.specs.Holding.{world_of, KeepsAudits};
-ghost use Rattle.hippo_commands.specs.Commands.{state};
 ghost use Rattle.hippo_following.specs.Written.{names_fit};
 ghost use Rattle.hippo_engine.specs.declared.faults.EngineFault.TheVariants.{Write as WriteFailed};
 ghost use Rattle.hippo_engine.specs.Carrying.{IsOfLine, AtWork, IsBacked, Carries};
 ghost use Rattle.hippo_engine.specs.Effects.{row_limit, question_rows, listed};
-ghost use Rattle.hippo_judging.specs.Asking.{question_of, statement_asked, IsAnswerable};
+ghost use Rattle.hippo_judging.specs.Asking.{question_of, command_of, IsAnswerable};
 ghost use Rattle.hippo_engine.specs.Questions.{entry_of, Asks, short_line, answer_said, world_left};
 ghost use Rattle.hippo_engine.specs.Questions.{IsUnkept, IsHandedOut, IsShort, HandsOut, Replies};
 
@@ -32,9 +31,9 @@ use crate::watches::alarms_of;
 use hippo_answering::answer;
 use hippo_csv::extract_lines;
 use hippo_eval::EvalFault;
-use hippo_judging::{Asking, Delivery, Handing, asks};
+use hippo_judging::{Asking, Delivery, WrittenQuestion, asks};
 use hippo_keeper::{Keeper, KeeperFault};
-use hippo_model::{Act, Answer, CellRow, Entry, RawSelect};
+use hippo_model::{Act, Answer, CellRow, Entry};
 use hippo_replay::State;
 use hippo_report::{Refusal, answer_lines, number_line, refusal_line};
 use hippo_values::{Duplicate, Memory, Moment, Name, Txt};
@@ -241,7 +240,7 @@ fn print_answer(
     reply.append(alarms)
 }
 
-// The same where the answer has too many rows.
+// Makes the reply of an answer that has too many rows, and of what the watches say behind it.
 fn print_too_many(session: u8, alarms: &str, reply: &mut Reply) -> Result<(), Memory>
     ensures { OnOk result (reply.new ≡ refusal_line (Some session) TooMany ++ alarms.now) }
 {
@@ -403,29 +402,15 @@ impl Engine {
         alloc: Global,
         keeper: &mut P,
         session: u8,
-        handing: Handing,
-        select: &RawSelect,
-        start: usize,
-        end: usize,
-        text: &str,
+        written: &WrittenQuestion<'_>,
     ) -> Result<(), EngineFault>
         requires at_work { AtWork self.old (P.state keeper.old) }
-        requires of_line { IsOfLine (state session (statement_asked handing select.now start end) text.now) }
-        ensures carries { (steps : ℕ) → Carries (state session (statement_asked handing select.now start end) text.now)
-            result self.old self.new (P.state keeper.old) (P.state keeper.new) steps steps }
+        requires of_line { IsOfLine (command_of session written.now) }
+        ensures carries { (steps : ℕ) → Carries (command_of session written.now) result self.old self.new
+            (P.state keeper.old) (P.state keeper.new) steps steps }
         ensures unwritten { result ≢ Bad WriteFailed }
     {
-        match asks(
-            alloc,
-            &self.state,
-            &self.world,
-            session,
-            handing,
-            select,
-            text,
-            start,
-            end,
-        ) {
+        match asks(alloc, &self.state, &self.world, session, written) {
             Ok(asking) => {
                 let delivery = asking.delivery;
                 let alarms = alarms_of(alloc, &self.state, &self.world, &asking);
