@@ -3,7 +3,6 @@ ghost use Rattle.std.specs.Prelude.{◌≡◌, ◌≢◌, ◌⊎◌, ℕ, ◌+�
 ghost use Rattle.std.specs.Prelude.{length, true, Some, Err as Bad, IfOk, OnOk};
 ghost use Rattle.hippo_values.specs.Moments.{is_moment};
 ghost use Rattle.hippo_model.specs.declared.entry.Act.TheVariants.{Asked};
-ghost use Rattle.hippo_model.specs.Keepable.{is_folded_name};
 ghost use Rattle.hippo_model.specs.Terms.{History, ShownRow};
 ghost use Rattle.hippo_model.specs.Validity.{may_follow};
 ghost use Rattle.hippo_csv.specs.Records.{extract_line};
@@ -31,23 +30,17 @@ use crate::watches::alarms_of;
 use hippo_answering::answer;
 use hippo_csv::extract_lines;
 use hippo_eval::EvalFault;
+use hippo_following::{moment_fits, name_fits};
 use hippo_judging::{Asking, Delivery, WrittenQuestion, asks};
 use hippo_keeper::{Keeper, KeeperFault};
 use hippo_model::{Act, Answer, CellRow, Entry};
 use hippo_replay::State;
 use hippo_report::{Refusal, answer_lines, number_line, refusal_line};
-use hippo_values::{Duplicate, Memory, Moment, Name, Txt};
+use hippo_values::{Duplicate, Memory, Moment, Txt};
 use hippo_world::{Session, World};
 use std::alloc::Global;
 
-// By their types who asks, and what for, are named in lower case, and a moment is one of the years
-// 0001 to 9999.
-fn name_fits(name: &Name)
-    ensures { is_folded_name name.now ≡ true }
-{
-    let _word = name.as_str();
-}
-
+// By their types who asks, and what for, are named in lower case.
 fn names_fit(asking: &Asking<'_>)
     ensures { names_fit asking.now.asker.now.user asking.now.asker.now.pair.purpose
         asking.now.asker.now.pair.recipient ≡ true }
@@ -55,12 +48,6 @@ fn names_fit(asking: &Asking<'_>)
     name_fits(&asking.asker.user);
     name_fits(&asking.asker.pair.purpose);
     name_fits(&asking.asker.pair.recipient);
-}
-
-fn in_range(moment: Moment)
-    ensures { is_moment moment ≡ true }
-{
-    let _seconds = moment.seconds();
 }
 
 fn asked_act(alloc: Global, asker: &Session, text: &str) -> Result<Act, Memory>
@@ -176,7 +163,7 @@ fn keep_and_answer<P: Keeper>(
         state.old state.new (P.state keeper.old) (P.state keeper.new) }
 {
     names_fit(asking);
-    in_range(world.clock);
+    moment_fits(world.clock);
     match entry_of(alloc, state, &world.clock, asking) {
         Ok(entry) => {
             let answer = keep_entry(alloc, keeper, state, world, asking, &entry);
