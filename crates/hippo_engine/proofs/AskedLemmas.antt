@@ -4,7 +4,6 @@ use Rattle.hippo_values.specs.Limits.{line_limit}
 use Rattle.hippo_values.specs.Moments.{is_moment}
 use Rattle.hippo_values.specs.declared.names.Name.{Name}
 use Rattle.hippo_values.specs.Texts.{Txt}
-use Rattle.hippo_model.specs.declared.audit.Pair.{Pair}
 use Rattle.hippo_model.specs.declared.entry.Act.TheVariants.{Asked}
 use Rattle.hippo_model.specs.declared.entry.Entry.{Entry}
 use Rattle.hippo_model.specs.declared.name_fault.NameFault.{NameFault}
@@ -27,18 +26,18 @@ use Rattle.hippo_world.specs.declared.sessions.Session.{Session}
 use Rattle.hippo_world.specs.declared.worlds.World.{World as HeldWorld}
 use Rattle.hippo_world.specs.Worlds.{World}
 use Rattle.hippo_world.specs.Holding.{world_of}
-use Rattle.hippo_commands.specs.Commands as commands
 use Rattle.hippo_judging.specs.declared.asking.Asking.{Asking}
 use Rattle.hippo_judging.specs.declared.asking.Delivery.{Delivery}
 use Rattle.hippo_judging.specs.declared.asking.Delivery.TheVariants as delivered
 use Rattle.hippo_judging.specs.declared.asking.Handing.{Handing}
 use Rattle.hippo_judging.specs.declared.asking.Handing.TheVariants.{Rows, Records, Cursor}
-use Rattle.hippo_judging.specs.Asking.{question_of, statement_asked, deed_asked}
+use Rattle.hippo_judging.specs.declared.asking.WrittenQuestion.{WrittenQuestion}
+use Rattle.hippo_judging.specs.Asking.{question_of, statement_asked, command_of, text_of, deed_asked}
 use Rattle.hippo_judging.specs.Checks.{Checked, ◌>>=◌, open_session, allowed_by, authorized, meant, has_room}
 use Rattle.hippo_judging.specs.Deeds.{Deed, Question}
 use Rattle.hippo_judging.specs.Deeds as deeds
-use Rattle.hippo_judging.specs.Judging.{text_between, question_in, delivery_for, deed_for, judged_question, judged}
-use Rattle.hippo_judging.proofs.AskingLemmas.{judged_asked}
+use Rattle.hippo_judging.specs.Judging.{question_in, delivery_for, deed_for, judged_question, judged}
+use Rattle.hippo_judging.proofs.AskingLemmas.{judged_written}
 use Rattle.hippo_judging.proofs.FollowingLemmas.{passed, found_same, unrefused, has_room_at}
 use Rattle.hippo_engine.specs.Carrying.{IsOfLine}
 use Rattle.hippo_engine.specs.Questions.{entry_of}
@@ -118,22 +117,22 @@ asks_select Records select start end = refl
 asks_select Cursor select start end = refl
 
 -- the entry that the checks of a question found may follow
-pub question_follows : (state : State) (held : HeldWorld) (session : ℕ) (handing : Handing) (select : RawSelect) (start end : ℕ) (text : Txt) (asking : Asking)
+pub question_follows : (state : State) (held : HeldWorld) (session : ℕ) (written : WrittenQuestion) (asking : Asking)
     → IsTimely state held.clock → is_moment held.clock ≡ true → names_fit asking.asker.now.user asking.asker.now.pair.purpose asking.asker.now.pair.recipient ≡ true
-    → IsOfLine (commands.state session (statement_asked handing select start end) text) → length (text_between text start end) ≤ line_limit → state.count + 1 < 2 ^ 63
-    → ((history : History) → StandsFor state history → judged history (world_of held) (commands.state session (statement_asked handing select start end) text) ≡ Ok (deed_asked session asking))
+    → IsOfLine (command_of session written) → length (text_of written) ≤ line_limit → state.count + 1 < 2 ^ 63
+    → ((history : History) → StandsFor state history → judged history (world_of held) (command_of session written) ≡ Ok (deed_asked session asking))
     → MayFollow state (entry_of state held.clock (question_of 0 asking))
-question_follows state held session handing select start end text asking timely fits names of_line short below found = λ history stands.
+question_follows state held session written asking timely fits names of_line short below found = λ history stands.
     let asker : Session = asking.asker.now in
-    let part : Txt = text_between text start end in
+    let part : Txt = text_of written in
     let number : state.count + 1 ≡ length history + 1 = ap (λ (n : ℕ). n + 1) stands.count in
-    let asked = is_asked handing history (world_of held) session select part asking
-    (sym (judged_asked handing history (world_of held) session select start end text) ∙ found history stands) in
+    let asked = is_asked written.handing history (world_of held) session written.select.now part asking
+    (sym (judged_written written history (world_of held) session) ∙ found history stands) in
     let room = has_room_at state history held.clock (state.count + 1) stands timely fits number below in
-    let follows = questions_may_follow history held.clock asker.user asker.pair.purpose asker.pair.recipient text select start end room (record {
+    let follows = questions_may_follow history held.clock asker.user asker.pair.purpose asker.pair.recipient written.text.now written.select.now written.start written.end room (record {
       utf8 = of_line.1.utf8;
       short = short;
-      reads = of_line.1.reads select start end (asks_select handing select start end);
+      reads = of_line.1.reads written.select.now written.start written.end (asks_select written.handing written.select.now written.start written.end);
       unrefused = asked.unrefused;
       names = names;
       authorized = asked.authorized;

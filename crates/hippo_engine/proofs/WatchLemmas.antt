@@ -7,9 +7,7 @@ use Rattle.std.proofs.lemmas.Bool.{or_parts, false≢true}
 use Rattle.std.proofs.lemmas.List.{take_all}
 use Rattle.hippo_values.specs.Texts.{Txt}
 use Rattle.hippo_values.specs.declared.memory.Memory.{Memory}
-use Rattle.hippo_values.specs.declared.moments.Moment.{Moment}
 use Rattle.hippo_model.specs.declared.audit.Audit.{Audit}
-use Rattle.hippo_model.specs.declared.audit.Pair.{Pair}
 use Rattle.hippo_model.specs.declared.audit.SharedRow.{SharedRow}
 use Rattle.hippo_model.specs.declared.entry.Entry.{Entry}
 use Rattle.hippo_model.specs.declared.query.Query.{Query}
@@ -18,12 +16,11 @@ use Rattle.hippo_model.specs.declared.statement.Stmt.TheVariants as stmt
 use Rattle.hippo_model.specs.Audits.{shared, shared_by}
 use Rattle.hippo_model.specs.Terms.{History}
 use Rattle.hippo_model.specs.Verdicts.{Context}
-use Rattle.hippo_tables.specs.declared.tables.Tables.{Tables}
 use Rattle.hippo_catalog.specs.Catalogs.{KnownNames}
 use Rattle.hippo_typing.specs.Meanings.{meaning_in, meaning}
-use Rattle.hippo_audit_job.specs.declared.past.Past.{Past}
-use Rattle.hippo_audit_job.specs.Examining.{IsAuditOf, IsPastOf}
-use Rattle.hippo_watch.specs.Alarms.{IsAskedNext, SharesNext, AreOfSome}
+use Rattle.hippo_audit_job.specs.Examining.{IsAuditOf}
+use Rattle.hippo_watch.specs.declared.alarms.AskedNow.{AskedNow}
+use Rattle.hippo_watch.specs.Alarms.{IsPresentOf, asked_next, IsAskedNext, SharesNext}
 use Rattle.hippo_watch.specs.AlarmLines.{alarm_text}
 use Rattle.hippo_replay.specs.declared.state.State.{State}
 use Rattle.hippo_replay.specs.Standing.{StandsFor, IsSound}
@@ -58,27 +55,27 @@ pub on_ok : (result : Said) (One Other : Type 0) → (One → Other) → OnOk re
 on_ok (Ok all) One Other follows is = follows is
 on_ok (Err fault) One Other follows is = tt
 
-module _ (past : Past) (tables : Tables) (moment : Moment) (pair : Pair) (query : Query) where
+module _ (asked : AskedNow) where
   -- what it shares with the question is said
-  alarm_added : (number : ℕ) (audit : Audit) (old new : Txt) (found : Option (List SharedRow)) → SharesNext past tables moment pair query audit found
-      → new ≡ old ++ option_map_or (alarm_text number (past.count + 1)) found [] → AddsAlarm past tables moment pair query number (Some audit) old new
-  alarm_added number audit old new found shares is = λ history entry asked fits.
-      let seq : past.count + 1 ≡ entry.seq = ap (λ (n : ℕ). n + 1) asked.present.past_is.count ∙ sym (ap (λ (e : Entry). e.seq) asked.is) in
-      is ∙ (λ i. old ++ option_map_or (alarm_text number (seq i)) (shares history entry asked fits i) [])
+  alarm_added : (number : ℕ) (audit : Audit) (old new : Txt) (found : Option (List SharedRow)) → SharesNext asked audit found
+      → new ≡ old ++ option_map_or (alarm_text number (asked.past.count + 1)) found [] → AddsAlarm asked number (Some audit) old new
+  alarm_added number audit old new found shares is = λ history entry next fits.
+      let seq : asked.past.count + 1 ≡ entry.seq = ap (λ (n : ℕ). n + 1) next.present.past_is.count ∙ sym (ap (λ (e : Entry). e.seq) next.is) in
+      is ∙ (λ i. old ++ option_map_or (alarm_text number (seq i)) (shares history entry next fits i) [])
 
-  pub alarm_printed : (number : ℕ) (audit : Audit) (old new : Txt) (found : Option (List SharedRow)) (result : Said) → SharesNext past tables moment pair query audit found
-      → OnOk result (new ≡ old ++ option_map_or (alarm_text number (past.count + 1)) found []) → OnOk result (AddsAlarm past tables moment pair query number (Some audit) old new)
+  pub alarm_printed : (number : ℕ) (audit : Audit) (old new : Txt) (found : Option (List SharedRow)) (result : Said) → SharesNext asked audit found
+      → OnOk result (new ≡ old ++ option_map_or (alarm_text number (asked.past.count + 1)) found []) → OnOk result (AddsAlarm asked number (Some audit) old new)
   alarm_printed number audit old new found result shares printed =
-      on_ok result (new ≡ old ++ option_map_or (alarm_text number (past.count + 1)) found []) (AddsAlarm past tables moment pair query number (Some audit) old new)
+      on_ok result (new ≡ old ++ option_map_or (alarm_text number (asked.past.count + 1)) found []) (AddsAlarm asked number (Some audit) old new)
       (alarm_added number audit old new found shares) printed
 
-  pub nobody_added : (number : ℕ) (old : Txt) → AddsAlarm past tables moment pair query number None old old
-  nobody_added number old = λ history entry asked fits. sym (append-nil old)
+  pub nobody_added : (number : ℕ) (old : Txt) → AddsAlarm asked number None old old
+  nobody_added number old = λ history entry next fits. sym (append-nil old)
 
   -- ---- all watches, one after the other
   abbrev pub SoFar : List (Option Audit) → ℕ → Txt → Txt → Type 0
   SoFar watches place first now =
-      (history : History) (entry : Entry) → IsAskedNext past tables moment pair query history entry → AreWatching history watches
+      (history : History) (entry : Entry) → IsAskedNext asked history entry → AreWatching history watches
       → now ++ alarms_from history entry (place + 1) (drop place watches) ≡ first ++ alarms_from history entry 1 watches
 
 -- ---- all watches of a world
@@ -86,30 +83,32 @@ module _ (past : Past) (tables : Tables) (moment : Moment) (pair : Pair) (query 
 pub means_then : (held : State) (history : History) (text : Txt) (found : Option Query) → StandsFor held history → found ≡ meaning_in held.catalog.names text → meaning history text ≡ found
 means_then held history text found stands is = sym (is ∙ ap (λ (known : KnownNames). meaning_in known text) stands.names)
 
-abbrev AddsNow : State → HeldWorld → Pair → Query → Txt → Txt → Type 0
-AddsNow kept held pair query old new =
-    (history : History) (question : Question) → StandsFor kept history → WatchesFit history held → question.pair ≡ pair → meaning history question.text ≡ Some query
+abbrev AddsNow : AskedNow → State → HeldWorld → Txt → Txt → Type 0
+AddsNow asked kept held old new =
+    (history : History) (question : Question) → StandsFor kept history → WatchesFit history held → question.pair ≡ asked.pair.now → meaning history question.text ≡ Some asked.query.now
     → new ≡ old ++ alarms_now history (world_of held) question
 
-adds_now : (past : Past) (kept : State) (held : HeldWorld) (pair : Pair) (query : Query) (old new : Txt)
-    → ((history : History) → StandsFor kept history → IsPastOf past history)
-    → AddsAlarms past kept.tables held.clock pair query held.watches old new → AddsNow kept held pair query old new
-adds_now past kept held pair query old new is_past adds history question stands fit same means =
+-- the past and the tables of what is asked are those of a state
+abbrev IsPresent : AskedNow → State → Type 0
+IsPresent asked kept = (history : History) → StandsFor kept history → IsPresentOf asked.past asked.tables.now history
+
+adds_now : (asked : AskedNow) (kept : State) (held : HeldWorld) (old new : Txt) → IsPresent asked kept → asked.moment ≡ held.clock
+    → AddsAlarms asked held.watches old new → AddsNow asked kept held old new
+adds_now asked kept held old new present clock adds history question stands fit same means =
     adds history (next_entry history (world_of held) (asked_by question))
     (record {
-      present = record { past_is = is_past history stands; tables_are = stands.tables };
+      present = present history stands;
       user = question.user;
       text = question.text;
       means = means;
-      is = ap (λ (p : Pair). next_entry history (world_of held) (asked_by (record question { pair = p }))) same;
+      is = λ i. asked_next history (sym clock i) question.user (same i) question.text;
     })
     fit
 
-pub printed_now : (past : Past) (kept : State) (held : HeldWorld) (pair : Pair) (query : Query) (old new : Txt) (result : Said)
-    → OnOk result (AddsAlarms past kept.tables held.clock pair query held.watches old new)
-    → ((history : History) → StandsFor kept history → IsPastOf past history) → OnOk result (AddsNow kept held pair query old new)
-printed_now past kept held pair query old new (Ok all) adds is_past = adds_now past kept held pair query old new is_past adds
-printed_now past kept held pair query old new (Err fault) adds is_past = tt
+pub printed_now : (asked : AskedNow) (kept : State) (held : HeldWorld) (old new : Txt) (result : Said) → IsPresent asked kept → asked.moment ≡ held.clock
+    → OnOk result (AddsAlarms asked held.watches old new) → OnOk result (AddsNow asked kept held old new)
+printed_now asked kept held old new (Ok all) present clock adds = adds_now asked kept held old new present clock adds
+printed_now asked kept held old new (Err fault) present clock adds = tt
 
 front_is : (history : History) → take (length history + 1 - 1) history ≡ history
 front_is history = take_all (length history + 1 - 1) history (omega arith)

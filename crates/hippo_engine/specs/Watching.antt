@@ -2,15 +2,11 @@
 use Rattle.std.specs.Prelude.{◌≡◌, ℕ, true, List, [], ◌++◌, Option, Some, IfSome, Ok, ok_or}
 use Rattle.std.specs.Option.{option_map_or}
 use Rattle.hippo_values.specs.Texts.{Txt}
-use Rattle.hippo_values.specs.declared.moments.Moment.{Moment}
 use Rattle.hippo_model.specs.declared.audit.Audit.{Audit}
-use Rattle.hippo_model.specs.declared.audit.Pair.{Pair}
 use Rattle.hippo_model.specs.declared.entry.Entry.{Entry}
-use Rattle.hippo_model.specs.declared.query.Query.{Query}
 use Rattle.hippo_model.specs.Terms.{History}
-use Rattle.hippo_tables.specs.declared.tables.Tables.{Tables}
-use Rattle.hippo_audit_job.specs.declared.past.Past.{Past}
 use Rattle.hippo_audit_job.specs.Examining.{IsAuditOf}
+use Rattle.hippo_watch.specs.declared.alarms.AskedNow.{AskedNow}
 use Rattle.hippo_watch.specs.Alarms.{IsAskedNext}
 use Rattle.hippo_replay.specs.Standing.{StandsFor}
 use Rattle.hippo_report.specs.declared.refusal.Refusal.TheVariants.{WatchLimit}
@@ -26,16 +22,15 @@ use Rattle.hippo_engine.specs.Effects.{alarm_line, alarms_from, alarms, may_do_n
 use Rattle.hippo_judging.specs.Judging.{judged}
 
 -- what stands at a watch's number says of a question that is asked now is added to a text
-abbrev pub AddsAlarm :
-    Past → Tables → Moment → Pair → Query → ℕ → Option Audit → Txt → Txt → Type 0
-AddsAlarm past tables moment pair query number held old new =
-    (history : History) (entry : Entry) → IsAskedNext past tables moment pair query history entry
+abbrev pub AddsAlarm : AskedNow → ℕ → Option Audit → Txt → Txt → Type 0
+AddsAlarm asked number held old new =
+    (history : History) (entry : Entry) → IsAskedNext asked history entry
     → IfSome held (IsAuditOf history) → new ≡ old ++ option_map_or (alarm_line history entry number) held []
 
 -- what all watches say of it is added
-abbrev pub AddsAlarms : Past → Tables → Moment → Pair → Query → List (Option Audit) → Txt → Txt → Type 0
-AddsAlarms past tables moment pair query watches old new =
-    (history : History) (entry : Entry) → IsAskedNext past tables moment pair query history entry
+abbrev pub AddsAlarms : AskedNow → List (Option Audit) → Txt → Txt → Type 0
+AddsAlarms asked watches old new =
+    (history : History) (entry : Entry) → IsAskedNext asked history entry
     → AreWatching history watches → new ≡ old ++ alarms_from history entry 1 watches
 
 -- what the watches of a world say of a question that is asked in it

@@ -13,7 +13,7 @@ ghost use Rattle.hippo_engine.specs.Carrying.{IsText, IsOfLine, AtWork, is_carri
 use crate::faults::EngineFault;
 use hippo_commands::{Command, command_of};
 use hippo_io::{Line, Sink};
-use hippo_judging::Handing;
+use hippo_judging::written_question;
 use hippo_keeper::{Keeper, Steps};
 use hippo_model::Stmt;
 use hippo_replay::State;
@@ -111,42 +111,6 @@ impl Engine {
         ensures unwritten { result ≢ Err WriteFailed }
     {
         match statement {
-            Stmt::Select { select, start, end } => {
-                self.question(
-                    alloc,
-                    keeper,
-                    session,
-                    Handing::Rows,
-                    select,
-                    *start,
-                    *end,
-                    text,
-                )
-            }
-            Stmt::Ask { select, start, end } => {
-                self.question(
-                    alloc,
-                    keeper,
-                    session,
-                    Handing::Cursor,
-                    select,
-                    *start,
-                    *end,
-                    text,
-                )
-            }
-            Stmt::Extract { select, start, end } => {
-                self.question(
-                    alloc,
-                    keeper,
-                    session,
-                    Handing::Records,
-                    select,
-                    *start,
-                    *end,
-                    text,
-                )
-            }
             Stmt::Explain(number) => self.explain(alloc, keeper, session, number, steps),
             Stmt::Audit(written) => self.audit(alloc, keeper, session, written, steps),
             Stmt::BeginAudit(written) => {
@@ -157,7 +121,10 @@ impl Engine {
                 self.watch(alloc, session, written);
                 Ok(())
             }
-            _ => self.change(alloc, keeper, session, statement),
+            _ => match written_question(statement, text) {
+                Some(written) => self.question(alloc, keeper, session, &written),
+                None => self.change(alloc, keeper, session, statement),
+            },
         }
     }
 

@@ -3,7 +3,6 @@ ghost use Rattle.std.specs.Prelude.{◌≡◌, ◌≢◌, ◌⊎◌, ℕ, ◌+�
 ghost use Rattle.std.specs.Prelude.{length, true, Some, Err as Bad, IfOk, OnOk};
 ghost use Rattle.hippo_values.specs.Moments.{is_moment};
 ghost use Rattle.hippo_model.specs.declared.entry.Act.TheVariants.{Asked};
-ghost use Rattle.hippo_model.specs.Keepable.{is_folded_name};
 ghost use Rattle.hippo_model.specs.Terms.{History, ShownRow};
 ghost use Rattle.hippo_model.specs.Validity.{may_follow};
 ghost use Rattle.hippo_csv.specs.Records.{extract_line};
@@ -16,12 +15,11 @@ ghost use Rattle.hippo_replay.specs.Standing.{StandsFor, MayFollow, IsNext, take
 ghost use Rattle.hippo_world.specs.declared.sessions.Session.{Session as KeptSession};
 ghost use Rattle.hippo_world.specs.Worlds.{session_at};
 ghost use Rattle.hippo_world.specs.Holding.{world_of, KeepsAudits};
-ghost use Rattle.hippo_commands.specs.Commands.{state};
 ghost use Rattle.hippo_following.specs.Written.{names_fit};
 ghost use Rattle.hippo_engine.specs.declared.faults.EngineFault.TheVariants.{Write as WriteFailed};
 ghost use Rattle.hippo_engine.specs.Carrying.{IsOfLine, AtWork, IsBacked, Carries};
 ghost use Rattle.hippo_engine.specs.Effects.{row_limit, question_rows, listed};
-ghost use Rattle.hippo_judging.specs.Asking.{question_of, statement_asked, IsAnswerable};
+ghost use Rattle.hippo_judging.specs.Asking.{question_of, command_of, IsAnswerable};
 ghost use Rattle.hippo_engine.specs.Questions.{entry_of, Asks, short_line, answer_said, world_left};
 ghost use Rattle.hippo_engine.specs.Questions.{IsUnkept, IsHandedOut, IsShort, HandsOut, Replies};
 
@@ -32,23 +30,17 @@ use crate::watches::alarms_of;
 use hippo_answering::answer;
 use hippo_csv::extract_lines;
 use hippo_eval::EvalFault;
-use hippo_judging::{Asking, Delivery, Handing, asks};
+use hippo_following::{moment_fits, name_fits};
+use hippo_judging::{Asking, Delivery, WrittenQuestion, asks};
 use hippo_keeper::{Keeper, KeeperFault};
-use hippo_model::{Act, Answer, CellRow, Entry, RawSelect};
+use hippo_model::{Act, Answer, CellRow, Entry};
 use hippo_replay::State;
 use hippo_report::{Refusal, answer_lines, number_line, refusal_line};
-use hippo_values::{Duplicate, Memory, Moment, Name, Txt};
+use hippo_values::{Duplicate, Memory, Moment, Txt};
 use hippo_world::{Session, World};
 use std::alloc::Global;
 
-// By their types who asks, and what for, are named in lower case, and a moment is one of the years
-// 0001 to 9999.
-fn name_fits(name: &Name)
-    ensures { is_folded_name name.now ≡ true }
-{
-    let _word = name.as_str();
-}
-
+// By their types who asks, and what for, are named in lower case.
 fn names_fit(asking: &Asking<'_>)
     ensures { names_fit asking.now.asker.now.user asking.now.asker.now.pair.purpose
         asking.now.asker.now.pair.recipient ≡ true }
@@ -56,12 +48,6 @@ fn names_fit(asking: &Asking<'_>)
     name_fits(&asking.asker.user);
     name_fits(&asking.asker.pair.purpose);
     name_fits(&asking.asker.pair.recipient);
-}
-
-fn in_range(moment: Moment)
-    ensures { is_moment moment ≡ true }
-{
-    let _seconds = moment.seconds();
 }
 
 fn asked_act(alloc: Global, asker: &Session, text: &str) -> Result<Act, Memory>
@@ -177,7 +163,7 @@ fn keep_and_answer<P: Keeper>(
         state.old state.new (P.state keeper.old) (P.state keeper.new) }
 {
     names_fit(asking);
-    in_range(world.clock);
+    moment_fits(world.clock);
     match entry_of(alloc, state, &world.clock, asking) {
         Ok(entry) => {
             let answer = keep_entry(alloc, keeper, state, world, asking, &entry);
@@ -241,7 +227,7 @@ fn print_answer(
     reply.append(alarms)
 }
 
-// The same where the answer has too many rows.
+// Makes the reply of an answer that has too many rows, and of what the watches say behind it.
 fn print_too_many(session: u8, alarms: &str, reply: &mut Reply) -> Result<(), Memory>
     ensures { OnOk result (reply.new ≡ refusal_line (Some session) TooMany ++ alarms.now) }
 {
@@ -403,29 +389,15 @@ impl Engine {
         alloc: Global,
         keeper: &mut P,
         session: u8,
-        handing: Handing,
-        select: &RawSelect,
-        start: usize,
-        end: usize,
-        text: &str,
+        written: &WrittenQuestion<'_>,
     ) -> Result<(), EngineFault>
         requires at_work { AtWork self.old (P.state keeper.old) }
-        requires of_line { IsOfLine (state session (statement_asked handing select.now start end) text.now) }
-        ensures carries { (steps : ℕ) → Carries (state session (statement_asked handing select.now start end) text.now)
-            result self.old self.new (P.state keeper.old) (P.state keeper.new) steps steps }
+        requires of_line { IsOfLine (command_of session written.now) }
+        ensures carries { (steps : ℕ) → Carries (command_of session written.now) result self.old self.new
+            (P.state keeper.old) (P.state keeper.new) steps steps }
         ensures unwritten { result ≢ Bad WriteFailed }
     {
-        match asks(
-            alloc,
-            &self.state,
-            &self.world,
-            session,
-            handing,
-            select,
-            text,
-            start,
-            end,
-        ) {
+        match asks(alloc, &self.state, &self.world, session, written) {
             Ok(asking) => {
                 let delivery = asking.delivery;
                 let alarms = alarms_of(alloc, &self.state, &self.world, &asking);

@@ -1,5 +1,5 @@
 //! Watches: how one is set and ended, and what all say of a question that is asked now.
-ghost use Rattle.std.specs.Prelude.{◌≡◌, ◌+◌, ◌<◌, ◌^◌, ◌++◌, ℕ, [], Some, is_some, bytes_eq, IfOk};
+ghost use Rattle.std.specs.Prelude.{◌≡◌, ◌+◌, ◌<◌, ◌^◌, ◌++◌, ℕ, [], is_some, bytes_eq, IfOk};
 ghost use Rattle.std.specs.Prelude.{OnOk};
 ghost use Rattle.std.specs.List.{IsDistinct, list_any};
 ghost use Rattle.std.specs.Option.{option_map_or};
@@ -25,13 +25,13 @@ use hippo_judging::{Asking, audit_in, held_watch};
 use hippo_model::{Audit, Pair, Query, RawAudit, SharedTuple};
 use hippo_replay::State;
 use hippo_report::Refusal;
-use hippo_tables::Tables;
 use hippo_typing::read_meaning;
-use hippo_values::{Memory, Moment};
-use hippo_watch::{alarm, alarm_line};
+use hippo_values::Memory;
+use hippo_watch::{AskedNow, alarm, alarm_line};
 use hippo_world::{Watch, World};
 use std::alloc::Global;
 
+// Adds the line by which a watch says what it shares with a question, if it does.
 fn append_found(
     number: u64,
     question: u64,
@@ -50,44 +50,23 @@ fn append_found(
     }
 }
 
-// Adds what a watch says of a question that is asked now, where it flags it.
+// Adds what stands at a watch's number says of a question that is asked now, where it flags it.
 fn append_alarm(
     alloc: Global,
-    past: &Past<'_>,
-    tables: &Tables,
-    moment: Moment,
-    pair: &Pair,
-    query: &Query,
-    number: u64,
-    watch: &Watch,
-    out: &mut Reply,
-) -> Result<(), Memory>
-    requires some { AreOfSome tables.now }
-    requires below { past.now.count + 1 < 2 ^ 63 }
-    ensures { OnOk result (AddsAlarm past.now tables.now moment pair.now query.now number (Some watch.now)
-        out.old out.new) }
-{
-    let found = alarm(alloc, past, tables, moment, pair, query, watch.audit())?;
-    append_found(number, past.count + 1, found, out)
-}
-
-fn append_held(
-    alloc: Global,
-    past: &Past<'_>,
-    tables: &Tables,
-    moment: Moment,
-    pair: &Pair,
-    query: &Query,
+    asked: &AskedNow<'_>,
     number: u64,
     held: &Option<Watch>,
     out: &mut Reply,
 ) -> Result<(), Memory>
-    requires some { AreOfSome tables.now }
-    requires below { past.now.count + 1 < 2 ^ 63 }
-    ensures { OnOk result (AddsAlarm past.now tables.now moment pair.now query.now number held.now out.old out.new) }
+    requires some { AreOfSome asked.now.tables.now }
+    requires below { asked.now.past.count + 1 < 2 ^ 63 }
+    ensures { OnOk result (AddsAlarm asked.now number held.now out.old out.new) }
 {
     match held {
-        Some(watch) => append_alarm(alloc, past, tables, moment, pair, query, number, watch, out),
+        Some(watch) => {
+            let found = alarm(alloc, asked, watch.audit())?;
+            append_found(number, asked.past.count + 1, found, out)
+        }
         None => Ok(()),
     }
 }
@@ -95,22 +74,18 @@ fn append_held(
 // Adds what all watches say of a question that is asked now, in the order of their numbers.
 fn append_alarms(
     alloc: Global,
-    past: &Past<'_>,
-    tables: &Tables,
-    moment: Moment,
-    pair: &Pair,
-    query: &Query,
+    asked: &AskedNow<'_>,
     watches: &[Option<Watch>],
     out: &mut Reply,
 ) -> Result<(), Memory>
-    requires some { AreOfSome tables.now }
-    requires below { past.now.count + 1 < 2 ^ 63 }
-    ensures { OnOk result (AddsAlarms past.now tables.now moment pair.now query.now watches.now out.old out.new) }
+    requires some { AreOfSome asked.now.tables.now }
+    requires below { asked.now.past.count + 1 < 2 ^ 63 }
+    ensures { OnOk result (AddsAlarms asked.now watches.now out.old out.new) }
 {
     let mut number = 0_u64;
     for held in watches {
         number += 1;
-        append_held(alloc, past, tables, moment, pair, query, number, held, out)?;
+        append_alarm(alloc, asked, number, held, out)?;
     }
     Ok(())
 }
@@ -127,40 +102,8 @@ fn are_watching(watches: &[Option<Watch>]) -> bool
     false
 }
 
-// Adds what all watches say of a question whose text means this query.
+// Adds what all watches say of a question for a pair, whose text means this query, or nothing.
 fn print_alarms(
-    alloc: Global,
-    state: &State,
-    world: &World,
-    pair: &Pair,
-    query: &Query,
-    out: &mut Reply,
-) -> Result<(), Memory>
-    requires sound { IsSound state.now }
-    requires below { state.now.count + 1 < 2 ^ 63 }
-    ensures { OnOk result ((history : History) (question : AskedQuestion) → StandsFor state.now history
-        → WatchesFit history world.now → question.pair ≡ pair.now → meaning history question.text ≡ Some query.now
-        → out.new ≡ out.old ++ alarms_now history (world_of world.now) question) }
-{
-    let past = Past {
-        catalog: &state.catalog,
-        book: &state.book,
-        count: state.count,
-    };
-    append_alarms(
-        alloc,
-        &past,
-        &state.tables,
-        world.clock,
-        pair,
-        query,
-        world.watches.as_slice(),
-        out,
-    )
-}
-
-// The same of a question whose text means this, or nothing.
-fn print_meant(
     alloc: Global,
     state: &State,
     world: &World,
@@ -176,7 +119,19 @@ fn print_meant(
 {
     match meant {
         Some(query) => {
-            let printed = print_alarms(alloc, state, world, pair, &query, out);
+            let past = Past {
+                catalog: &state.catalog,
+                book: &state.book,
+                count: state.count,
+            };
+            let asked = AskedNow {
+                past,
+                tables: &state.tables,
+                moment: world.clock,
+                pair,
+                query: &query,
+            };
+            let printed = append_alarms(alloc, &asked, world.watches.as_slice(), out);
             drop(query);
             printed
         }
@@ -184,7 +139,7 @@ fn print_meant(
     }
 }
 
-// Adds what all watches say of a question.
+// Adds what all watches say of a question, whose text is read again only where there is a watch.
 fn tell_alarms(
     alloc: Global,
     state: &State,
@@ -198,26 +153,9 @@ fn tell_alarms(
         → WatchesFit history world.now
         → out.new ≡ out.old ++ alarms_now history (world_of world.now) (question_of session asking.now)) }
 {
-    let meant = read_meaning(alloc, &state.catalog, asking.text)?;
-    print_meant(alloc, state, world, &asking.asker.pair, meant, out)
-}
-
-// The same; a text is read again only where there is a watch.
-fn tell_watched(
-    alloc: Global,
-    state: &State,
-    world: &World,
-    asking: &Asking<'_>,
-    out: &mut Reply,
-) -> Result<(), Memory>
-    requires sound { IsSound state.now }
-    requires below { state.now.count + 1 < 2 ^ 63 }
-    ensures { OnOk result ((session : ℕ) (history : History) → StandsFor state.now history
-        → WatchesFit history world.now
-        → out.new ≡ out.old ++ alarms_now history (world_of world.now) (question_of session asking.now)) }
-{
     if are_watching(world.watches.as_slice()) {
-        tell_alarms(alloc, state, world, asking, out)
+        let meant = read_meaning(alloc, &state.catalog, asking.text)?;
+        print_alarms(alloc, state, world, &asking.asker.pair, meant, out)
     } else {
         Ok(())
     }
@@ -238,7 +176,7 @@ pub(crate) fn alarms_of(
         → said ≡ alarms_now history (world_of world.now) (question_of session asking.now)) }
 {
     let mut said = Reply::with_room(alloc)?;
-    tell_watched(alloc, state, world, asking, &mut said)?;
+    tell_alarms(alloc, state, world, asking, &mut said)?;
     Ok(said)
 }
 

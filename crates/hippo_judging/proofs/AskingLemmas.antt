@@ -30,7 +30,8 @@ use Rattle.hippo_judging.specs.declared.asking.Delivery.{Delivery}
 use Rattle.hippo_judging.specs.declared.asking.Handing.{Handing}
 use Rattle.hippo_judging.specs.declared.asking.Handing.TheVariants.{Rows, Records, Cursor}
 use Rattle.hippo_judging.specs.Judging.{text_between, delivery_for, deed_for, judged_question, judged}
-use Rattle.hippo_judging.specs.Asking.{statement_asked, delivery_in_room, asking_with, deed_asked, IsAnswerable}
+use Rattle.hippo_judging.specs.declared.asking.WrittenQuestion.{WrittenQuestion}
+use Rattle.hippo_judging.specs.Asking.{statement_asked, command_of, text_of, delivery_in_room, asking_with, deed_asked, IsAnswerable}
 
 -- where nothing is refused, the form is meant
 pub meant_so : {A : Type 0} (faults : List NameFault) (form made : A) → faults ≡ [] → made ≡ form → meant faults form ≡ Ok made
@@ -48,12 +49,18 @@ meant_not (head ∷ more) form fault refusal first (inl (other, is)) =
     inl (λ i. Err (told i))
 
 -- a SELECT, an EXTRACT or an OPEN is judged as a question
-pub judged_asked : (handing : Handing) (history : History) (world : World) (session : ℕ) (select : RawSelect) (start end : ℕ) (text : Txt)
+judged_asked : (handing : Handing) (history : History) (world : World) (session : ℕ) (select : RawSelect) (start end : ℕ) (text : Txt)
     → judged history world (commands.state session (statement_asked handing select start end) text)
     ≡ judged_question handing history world session select (text_between text start end)
 judged_asked Rows history world session select start end text = refl
 judged_asked Records history world session select start end text = refl
 judged_asked Cursor history world session select start end text = refl
+
+pub judged_written : (written : WrittenQuestion) (history : History) (world : World) (session : ℕ)
+    → judged history world (command_of session written)
+    ≡ judged_question written.handing history world session written.select.now (text_of written)
+judged_written written history world session =
+    judged_asked written.handing history world session written.select.now written.start written.end written.text.now
 
 front_none : {A : Type 0} (front rest : List A) → front ++ rest ≡ [] → front ≡ []
 front_none [] rest none = refl

@@ -1,5 +1,6 @@
 -- What is found where a question may be asked.
-use Rattle.std.specs.Prelude.{ℕ, nat_le, Ok, Err}
+use Rattle.std.specs.Prelude.{◌≡◌, ℕ, nat_le, Bool, true, false, Option, Some, None, Ok, Err}
+use Rattle.hippo_values.specs.Texts.{Txt}
 use Rattle.hippo_model.specs.declared.query.Query.{Query}
 use Rattle.hippo_model.specs.declared.statement.RawSelect.{RawSelect}
 use Rattle.hippo_model.specs.declared.statement.Stmt.{Stmt}
@@ -8,13 +9,16 @@ use Rattle.hippo_report.specs.declared.refusal.Refusal.TheVariants.{HistoryFull}
 use Rattle.hippo_answering.specs.States.{AreKept}
 use Rattle.hippo_replay.specs.declared.state.State.{State}
 use Rattle.hippo_world.specs.declared.sessions.Session.{Session}
+use Rattle.hippo_commands.specs.Commands.{Command}
+use Rattle.hippo_commands.specs.Commands as commands
 use Rattle.hippo_judging.specs.declared.asking.Asking.{Asking}
 use Rattle.hippo_judging.specs.declared.asking.Delivery.{Delivery}
 use Rattle.hippo_judging.specs.declared.asking.Handing.{Handing}
 use Rattle.hippo_judging.specs.declared.asking.Handing.TheVariants.{Rows, Records, Cursor}
+use Rattle.hippo_judging.specs.declared.asking.WrittenQuestion.{WrittenQuestion}
 use Rattle.hippo_judging.specs.Checks.{Checked, ◌>>=◌, refused_if}
 use Rattle.hippo_judging.specs.Deeds.{Deed, Question}
-use Rattle.hippo_judging.specs.Judging.{delivery_for, deed_for}
+use Rattle.hippo_judging.specs.Judging.{text_between, delivery_for, deed_for}
 
 -- the question that is asked in a session, whose asker and text are lent
 abbrev pub question_of : ℕ → Asking → Question
@@ -31,6 +35,28 @@ abbrev pub statement_asked : Handing → RawSelect → ℕ → ℕ → Stmt
 statement_asked Rows select start end = stmt.Select select start end
 statement_asked Records select start end = stmt.Extract select start end
 statement_asked Cursor select start end = stmt.Ask select start end
+
+-- the statement of a written question, the command that it is in a session, and its own text
+abbrev pub statement_of : WrittenQuestion → Stmt
+statement_of written = statement_asked written.handing written.select.now written.start written.end
+
+abbrev pub command_of : ℕ → WrittenQuestion → Command
+command_of session written = commands.state session (statement_of written) written.text.now
+
+abbrev pub text_of : WrittenQuestion → Txt
+text_of written = text_between written.text.now written.start written.end
+
+-- a statement that asks a question
+abbrev pub is_asking : Stmt → Bool
+is_asking (stmt.Select select start end) = true
+is_asking (stmt.Extract select start end) = true
+is_asking (stmt.Ask select start end) = true
+is_asking statement = false
+
+-- the question that a statement asks in a text; none where it asks nothing
+abbrev pub IsWritten : Stmt → Txt → Option WrittenQuestion → Type 0
+IsWritten statement text (Some written) = (statement ≡ statement_of written) × (written.text.now ≡ text)
+IsWritten statement text None = is_asking statement ≡ false
 
 -- how an answer is handed out, where there is room for one entry more
 abbrev pub delivery_in_room : Handing → Session → ℕ → ℕ → Checked Delivery

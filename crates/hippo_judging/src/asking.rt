@@ -8,16 +8,15 @@ ghost use Rattle.hippo_catalog.specs.Catalogs.{known_at};
 ghost use Rattle.hippo_catalog.specs.Selects.{select_refused, query_of};
 ghost use Rattle.hippo_replay.specs.Standing.{StandsFor, IsSound};
 ghost use Rattle.hippo_world.specs.Holding.{world_of};
-ghost use Rattle.hippo_commands.specs.Commands.{state as command};
 ghost use Rattle.hippo_judging.specs.Checks.{Finds, open_session, meant};
 ghost use Rattle.hippo_judging.specs.declared.asking.Delivery.TheVariants as delivered;
-ghost use Rattle.hippo_judging.specs.Judging.{text_between, delivery_for, judged_question, judged};
-ghost use Rattle.hippo_judging.specs.Asking.{IsAnswerable, statement_asked, delivery_in_room};
-ghost use Rattle.hippo_judging.specs.Asking.{asking_with, deed_asked};
+ghost use Rattle.hippo_judging.specs.Judging.{delivery_for, judged_question, judged};
+ghost use Rattle.hippo_judging.specs.Asking.{IsWritten, text_of, command_of, IsAnswerable};
+ghost use Rattle.hippo_judging.specs.Asking.{delivery_in_room, asking_with, deed_asked};
 
 use crate::refusals::{check_room, name_refusal};
 use crate::session_checks::{check_allowed, open_session};
-use hippo_model::{Query, RawSelect};
+use hippo_model::{Query, RawSelect, Stmt};
 use hippo_replay::State;
 use hippo_report::Refusal;
 use hippo_typing::resolve_select;
@@ -32,6 +31,17 @@ pub enum Handing {
     Rows,
     Records,
     Cursor,
+}
+
+/// A question as it is written: its select, what its answer is to be, and the text in which it stands, with where it
+/// begins and ends there, in bytes.
+#[derive(Clone, Copy)]
+pub struct WrittenQuestion<'a> {
+    pub handing: Handing,
+    pub select: &'a RawSelect,
+    pub text: &'a str,
+    pub start: usize,
+    pub end: usize,
 }
 
 /// How an answer is handed out: as wanted, with the number of the cursor that is to hold it.
@@ -50,6 +60,44 @@ pub struct Asking<'a> {
     pub text: &'a str,
     pub query: Query,
     pub delivery: Delivery,
+}
+
+/// The question that a statement asks in a text; none where it asks nothing.
+pub fn written_question<'a>(statement: &'a Stmt, text: &'a str) -> Option<WrittenQuestion<'a>>
+    ensures { IsWritten statement.now text.now result }
+{
+    let (handing, select, start, end) = match statement {
+        Stmt::Select { select, start, end } => (Handing::Rows, select, start, end),
+        Stmt::Extract { select, start, end } => (Handing::Records, select, start, end),
+        Stmt::Ask { select, start, end } => (Handing::Cursor, select, start, end),
+        _ => return None,
+    };
+    Some(WrittenQuestion {
+        handing,
+        select,
+        text,
+        start: *start,
+        end: *end,
+    })
+}
+
+impl WrittenQuestion<'_> {
+    // The text of the question alone; one that cannot be cut out, or is longer than a line, is answered by want of
+    // memory.
+    fn cut(&self) -> Result<&str, Refusal>
+        ensures cut { MatchResult result (λ cut. cut.now ≡ text_of self.now) (λ refusal. refusal ≡ NoMemory) }
+        ensures short { OnOk result (length (text_of self.now) ≤ line_limit) }
+    {
+        match self.text.get(self.start..self.end) {
+            Some(cut) => {
+                if cut.len() > LINE_LIMIT {
+                    return Err(Refusal::Memory);
+                }
+                Ok(cut)
+            }
+            None => Err(Refusal::Memory),
+        }
+    }
 }
 
 // Who asks in a session.
@@ -104,7 +152,7 @@ fn delivery_for(handing: Handing, asker: &Session) -> Result<Delivery, Refusal>
     }
 }
 
-// The same, where the history has room for an entry more.
+// How an answer is handed out, where the history has room for an entry more.
 fn delivery_in_room(
     handing: Handing,
     asker: &Session,
@@ -132,27 +180,27 @@ fn with_delivery(
     }
 }
 
-// What a question asks.
+// What a question asks whose own text is cut out.
 fn question<'a>(
     alloc: Global,
     state: &State,
     world: &'a World,
     session: u8,
-    handing: Handing,
-    select: &RawSelect,
+    written: &WrittenQuestion<'_>,
     text: &'a str,
 ) -> Result<Asking<'a>, Refusal>
     requires { IsSound state.now }
     ensures found { (history : History) → StandsFor state.now history → Finds (deed_asked session)
-        (judged_question handing history (world_of world.now) session select.now text.now) result }
+        (judged_question written.now.handing history (world_of world.now) session written.now.select.now text.now)
+        result }
     ensures asker { IfOk result (λ asking. open_session (world_of world.now) session ≡ Good asking.asker.now) }
     ensures answerable { IfOk result (λ asking. IsAnswerable state.now asking.query) }
     ensures below { OnOk result (state.now.count + 1 < 2 ^ 63) }
 {
     let asker = asker(world, session)?;
     check_allowed(state, &asker.user, &asker.pair)?;
-    let query = meaning(alloc, state, select)?;
-    let delivery = delivery_in_room(handing, asker, state.count, world.limit);
+    let query = meaning(alloc, state, written.select)?;
+    let delivery = delivery_in_room(written.handing, asker, state.count, world.limit);
     let asking = Asking {
         asker,
         text,
@@ -160,23 +208,6 @@ fn question<'a>(
         delivery: Delivery::Rows,
     };
     with_delivery(asking, delivery)
-}
-
-// The text of a question; one that cannot be cut out, or is longer than a line, is answered by want of memory.
-fn cut(text: &str, start: usize, end: usize) -> Result<&str, Refusal>
-    ensures cut { MatchResult result (λ cut. cut.now ≡ text_between text.now start end)
-        (λ refusal. refusal ≡ NoMemory) }
-    ensures short { OnOk result (length (text_between text.now start end) ≤ line_limit) }
-{
-    match text.get(start..end) {
-        Some(cut) => {
-            if cut.len() > LINE_LIMIT {
-                return Err(Refusal::Memory);
-            }
-            Ok(cut)
-        }
-        None => Err(Refusal::Memory),
-    }
 }
 
 /// What a SELECT, an EXTRACT or an OPEN asks, or why it may not be asked: its session has to be
@@ -187,21 +218,16 @@ pub fn asks<'a>(
     state: &State,
     world: &'a World,
     session: u8,
-    handing: Handing,
-    select: &RawSelect,
-    text: &'a str,
-    start: usize,
-    end: usize,
+    written: &'a WrittenQuestion<'_>,
 ) -> Result<Asking<'a>, Refusal>
     requires { IsSound state.now }
     ensures found { (history : History) → StandsFor state.now history → Finds (deed_asked session)
-        (judged history (world_of world.now)
-        (command session (statement_asked handing select.now start end) text.now)) result }
+        (judged history (world_of world.now) (command_of session written.now)) result }
     ensures asker { IfOk result (λ asking. open_session (world_of world.now) session ≡ Good asking.asker.now) }
     ensures answerable { IfOk result (λ asking. IsAnswerable state.now asking.query) }
     ensures below { OnOk result (state.now.count + 1 < 2 ^ 63) }
-    ensures short { OnOk result (length (text_between text.now start end) ≤ line_limit) }
+    ensures short { OnOk result (length (text_of written.now) ≤ line_limit) }
 {
-    let text = cut(text, start, end)?;
-    question(alloc, state, world, session, handing, select, text)
+    let text = written.cut()?;
+    question(alloc, state, world, session, written, text)
 }

@@ -15,11 +15,11 @@ use crate::console_checks::check_console;
 use crate::refusals::name_refusal;
 use hippo_catalog::Catalog;
 use hippo_changes::check_change;
+use hippo_following::moment_fits;
 use hippo_model::{Act, Entry, Stmt, TableFault, Wanted};
 use hippo_replay::State;
 use hippo_report::Refusal;
 use hippo_tables::Tables;
-use hippo_values::Moment;
 use hippo_world::World;
 use std::alloc::Global;
 
@@ -54,13 +54,6 @@ fn check_rows(alloc: Global, tables: &Tables, wanted: &Wanted) -> Result<Act, Re
     }
 }
 
-// By its type a moment is one of the years 0001 to 9999.
-fn in_range(moment: Moment)
-    ensures { is_moment moment ≡ true }
-{
-    let _seconds = moment.seconds();
-}
-
 // The next entry with an act, where the history has room for it.
 fn entry_in_room(count: u64, world: &World, act: Act) -> Result<Entry, Refusal>
     ensures found { (history : History) → count ≡ length history
@@ -68,7 +61,7 @@ fn entry_in_room(count: u64, world: &World, act: Act) -> Result<Entry, Refusal>
     ensures number { IfOk result (λ entry. entry.seq < 2 ^ 63) }
     ensures moment { IfOk result (λ entry. is_moment entry.moment ≡ true) }
 {
-    in_range(world.clock);
+    moment_fits(world.clock);
     if count < u64::from(world.limit) {
         Ok(Entry {
             seq: count + 1,

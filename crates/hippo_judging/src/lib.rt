@@ -10,7 +10,7 @@ mod loading;
 mod refusals;
 mod session_checks;
 
-pub use asking::{Asking, Delivery, Handing, asks};
+pub use asking::{Asking, Delivery, Handing, WrittenQuestion, asks, written_question};
 pub use audits::audit_in;
 pub use changes::entry_of_change;
 pub use console_checks::{check_console, held_watch};

@@ -20,6 +20,7 @@ use crate::changes::entry_for;
 use crate::console_checks::check_console;
 use hippo_catalog::Catalog;
 use hippo_csv::{CsvFault, Fields, field_values, read_fields};
+use hippo_following::name_fits;
 use hippo_lines::WrittenName;
 use hippo_model::{Cells, Entry, NameFault, Schema, Stmt};
 use hippo_replay::State;
@@ -73,8 +74,8 @@ fn loaded_row(alloc: Global, schema: &Schema, text: &str) -> Result<Cells, Refus
     }
 }
 
-// By their types each number has 64 bits, each text is UTF-8, each day is one of the years 0001 to 9999, and each name
-// is in lower case: nothing of them is looked at.
+// By their types each number has 64 bits, each text is UTF-8, and each day is one of the years 0001 to 9999: nothing of
+// them is looked at.
 fn number_fits(_number: i64)
     ensures { is_signed_number _number ≡ true }
 {}
@@ -87,12 +88,6 @@ fn day_fits(day: DayNumber)
     ensures { is_day day ≡ true }
 {
     let _number = day.day();
-}
-
-fn name_fits(name: &Name)
-    ensures { is_folded_name name.now ≡ true }
-{
-    let _word = name.as_str();
 }
 
 fn value_fits(value: &Value)

@@ -6,10 +6,8 @@ use Rattle.std.specs.Option.{option_map_or}
 use Rattle.std.proofs.lemmas.Bool.{and_parts, false≢true}
 use Rattle.std.proofs.lemmas.List.{take_all}
 use Rattle.hippo_values.specs.Texts.{Txt}
-use Rattle.hippo_values.specs.declared.moments.Moment.{Moment}
 use Rattle.hippo_values.specs.declared.names.Name.{Name}
 use Rattle.hippo_model.specs.declared.audit.Audit.{Audit}
-use Rattle.hippo_model.specs.declared.audit.Pair.{Pair}
 use Rattle.hippo_model.specs.declared.audit.SharedRow.{SharedRow}
 use Rattle.hippo_model.specs.declared.entry.Entry.{Entry}
 use Rattle.hippo_model.specs.declared.policy.TableRules.{TableRules}
@@ -37,6 +35,7 @@ use Rattle.hippo_examining.proofs.RowLemmas.{same_rows}
 use Rattle.hippo_audit_job.specs.declared.past.Past.{Past}
 use Rattle.hippo_audit_job.specs.Examining.{IsAuditOf, first_serving}
 use Rattle.hippo_combine.proofs.PastLemmas.{created_by_meaning, are_common}
+use Rattle.hippo_watch.specs.declared.alarms.AskedNow.{AskedNow}
 use Rattle.hippo_watch.specs.Alarms.{AreOfSome, IsPresentOf, asked_next, IsAskedNext, ServesNow, SharesNext}
 
 both_true : (first second : Bool) → first ≡ true → second ≡ true → (first && second) ≡ true
@@ -103,33 +102,36 @@ those_of past tables query audit query_sets audit_sets query_kept audit_kept que
     }
 
 -- ---- whether all tables are at hand
-module _ (tables : Tables) (query : Query) (audit : Audit) (answer : Bool)
-    (at_hand : (history : History) → StandsFor tables history → answer ≡ (are_created history audit.tables && are_created history query.tables)) where
-  module _ (some : AreOfSome tables) (is : answer ≡ true) where
-    both : (are_created some.history audit.tables ≡ true) × (are_created some.history query.tables ≡ true)
-    both = and_parts (are_created some.history audit.tables) (are_created some.history query.tables) (sym (at_hand some.history some.stands) ∙ is)
+module _ (asked : AskedNow) (audit : Audit) (answer : Bool)
+    (at_hand : (history : History) → StandsFor asked.tables.now history → answer ≡ (are_created history audit.tables && are_created history asked.query.now.tables)) where
+  module _ (some : AreOfSome asked.tables.now) (is : answer ≡ true) where
+    both : (are_created some.history audit.tables ≡ true) × (are_created some.history asked.query.now.tables ≡ true)
+    both = and_parts (are_created some.history audit.tables) (are_created some.history asked.query.now.tables) (sym (at_hand some.history some.stands) ∙ is)
 
-    pub audit_kept : AreKept tables audit.tables
+    pub audit_kept : AreKept asked.tables.now audit.tables
     audit_kept = record { history = some.history; stands = some.stands; created = both.0 }
 
-    pub query_kept : AreKept tables query.tables
+    pub query_kept : AreKept asked.tables.now asked.query.now.tables
     query_kept = record { history = some.history; stands = some.stands; created = both.1 }
 
   -- they are, where the history has created them
-  pub nothing_missing : answer ≡ false → (past : Past) (moment : Moment) (pair : Pair) → ServesNow past tables moment pair query audit None
-  nothing_missing none past moment pair = λ history present its names created.
+  pub nothing_missing : answer ≡ false → ServesNow asked audit None
+  nothing_missing none = λ history present its names created.
       absurd (false≢true (sym none ∙ at_hand history present.tables_are
-      ∙ both_true (are_created history audit.tables) (are_created history query.tables) (all_created history audit.tables its.created) created))
+      ∙ both_true (are_created history audit.tables) (are_created history asked.query.now.tables) (all_created history audit.tables its.created) created))
 
 -- ---- the question as the next entry
 front_is : (history : History) → take (length history + 1 - 1) history ≡ history
 front_is history = take_all (length history + 1 - 1) history (omega arith)
 
-module _ (moment : Moment) (pair : Pair) (query : Query) (audit : Audit) where
-  abbrev context : Context
-  context = context_of pair moment
+module _ (asked : AskedNow) (audit : Audit) where
+  abbrev query : Query
+  query = asked.query.now
 
-  shared_next : (history : History) (user : Name) (text : Txt) → meaning history text ≡ Some query → shared meaning history audit (asked_next history moment user pair text) ≡ shared_by history context query audit
+  abbrev context : Context
+  context = context_of asked.pair.now asked.moment
+
+  shared_next : (history : History) (user : Name) (text : Txt) → meaning history text ≡ Some query → shared meaning history audit (asked_next history asked.moment user asked.pair.now text) ≡ shared_by history context query audit
   shared_next history user text means =
       ap (λ (h : History). option_and_then (λ q. shared_by h context q audit) (meaning h text)) (front_is history)
       ∙ ap (option_and_then (λ q. shared_by history context q audit)) means
@@ -137,17 +139,17 @@ module _ (moment : Moment) (pair : Pair) (query : Query) (audit : Audit) where
   abbrev where_candidate : History → Bool → Option (List SharedRow)
   where_candidate history test = if test then first_serving history context query audit else None
 
-  shared_then : (history : History) (entry : Entry) (past : Past) (tables : Tables) → IsAskedNext past tables moment pair query history entry → shared meaning history audit entry ≡ shared_by history context query audit
-  shared_then history entry past tables asked = ap (shared meaning history audit) asked.is ∙ shared_next history asked.user asked.text asked.means
+  shared_then : (history : History) (entry : Entry) → IsAskedNext asked history entry → shared meaning history audit entry ≡ shared_by history context query audit
+  shared_then history entry next = ap (shared meaning history audit) next.is ∙ shared_next history next.user next.text next.means
 
   -- a candidate shares what serves first
-  pub shares_first : (past : Past) (tables : Tables) → is_candidate context query audit ≡ true → (found : Option (List SharedRow)) → ServesNow past tables moment pair query audit found → SharesNext past tables moment pair query audit found
-  shares_first past tables candidate found serves = λ history entry asked its.
+  pub shares_first : is_candidate context query audit ≡ true → (found : Option (List SharedRow)) → ServesNow asked audit found → SharesNext asked audit found
+  shares_first candidate found serves = λ history entry next its.
       let names = (and_parts _ _ candidate).1 in
-      let created = all_created history query.tables (created_by_meaning history asked.text query asked.present.past_is.valid asked.means) in
-      serves history asked.present its names created ∙ sym (shared_then history entry past tables asked ∙ ap (where_candidate history) candidate)
+      let created = all_created history query.tables (created_by_meaning history next.text query next.present.past_is.valid next.means) in
+      serves history next.present its names created ∙ sym (shared_then history entry next ∙ ap (where_candidate history) candidate)
 
   -- and what is none shares nothing
-  pub shares_nothing : (past : Past) (tables : Tables) → is_candidate context query audit ≡ false → SharesNext past tables moment pair query audit None
-  shares_nothing past tables none = λ history entry asked its.
-      sym (shared_then history entry past tables asked ∙ ap (where_candidate history) none)
+  pub shares_nothing : is_candidate context query audit ≡ false → SharesNext asked audit None
+  shares_nothing none = λ history entry next its.
+      sym (shared_then history entry next ∙ ap (where_candidate history) none)

@@ -8,7 +8,6 @@ use Rattle.hippo_model.specs.declared.audit.Pair.{Pair}
 use Rattle.hippo_model.specs.declared.audit.SharedRow.{SharedRow}
 use Rattle.hippo_model.specs.declared.entry.Act.TheVariants.{Asked}
 use Rattle.hippo_model.specs.declared.entry.Entry.{Entry}
-use Rattle.hippo_model.specs.declared.query.Query.{Query}
 use Rattle.hippo_model.specs.Columns.{names_all}
 use Rattle.hippo_model.specs.Terms.{History}
 use Rattle.hippo_model.specs.Audits.{shared}
@@ -18,6 +17,7 @@ use Rattle.hippo_typing.specs.Meanings.{meaning}
 use Rattle.hippo_answering.specs.States.{are_created, context_of}
 use Rattle.hippo_audit_job.specs.declared.past.Past.{Past}
 use Rattle.hippo_audit_job.specs.Examining.{IsPastOf, IsAuditOf, first_serving}
+use Rattle.hippo_watch.specs.declared.alarms.AskedNow.{AskedNow}
 
 -- tables are those of some history
 pub record AreOfSome (tables : Tables) : Type 0 where
@@ -38,23 +38,22 @@ asked_next history moment user pair text = record {
 }
 
 -- the first virtual tuple that serves is found, of a query that names each audited column and whose tables are created
-abbrev pub ServesNow : Past → Tables → Moment → Pair → Query → Audit → Option (List SharedRow) → Type 0
-ServesNow past tables moment pair query audit found =
-    (history : History) → IsPresentOf past tables history → IsAuditOf history audit → names_all query audit ≡ true
-    → are_created history query.tables ≡ true
-    → found ≡ first_serving history (context_of pair moment) query audit
+abbrev pub ServesNow : AskedNow → Audit → Option (List SharedRow) → Type 0
+ServesNow asked audit found =
+    (history : History) → IsPresentOf asked.past asked.tables.now history → IsAuditOf history audit
+    → names_all asked.query.now audit ≡ true → are_created history asked.query.now.tables ≡ true
+    → found ≡ first_serving history (context_of asked.pair.now asked.moment) asked.query.now audit
 
--- an entry is a question that is asked next, and its text means this query
-pub record IsAskedNext (past : Past) (tables : Tables) (moment : Moment) (pair : Pair) (query : Query)
-    (history : History) (entry : Entry) : Type 0 where
-  pub present : IsPresentOf past tables history
+-- an entry is such a question, asked next after a history, and its text means the query
+pub record IsAskedNext (asked : AskedNow) (history : History) (entry : Entry) : Type 0 where
+  pub present : IsPresentOf asked.past asked.tables.now history
   pub user : Name
   pub text : Txt
-  pub means : meaning history text ≡ Some query
-  pub is : entry ≡ asked_next history moment user pair text
+  pub means : meaning history text ≡ Some asked.query.now
+  pub is : entry ≡ asked_next history asked.moment user asked.pair.now text
 
--- what an audit shares with each question that is asked next and means this query
-abbrev pub SharesNext : Past → Tables → Moment → Pair → Query → Audit → Option (List SharedRow) → Type 0
-SharesNext past tables moment pair query audit found =
-    (history : History) (entry : Entry) → IsAskedNext past tables moment pair query history entry
+-- what an audit shares with each such question
+abbrev pub SharesNext : AskedNow → Audit → Option (List SharedRow) → Type 0
+SharesNext asked audit found =
+    (history : History) (entry : Entry) → IsAskedNext asked history entry
     → IsAuditOf history audit → found ≡ shared meaning history audit entry

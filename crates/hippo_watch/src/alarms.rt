@@ -14,45 +14,52 @@ use hippo_tables::Tables;
 use hippo_values::{Memory, Moment};
 use std::alloc::Global;
 
-// Whether a query is in an audit's period, not exempt, and names every audited column.
-fn is_candidate(moment: Moment, pair: &Pair, query: &Query, audit: &Audit) -> bool
-    ensures { result ≡ is_candidate (context_of pair.now moment) query.now audit.now }
+/// A question that is asked now, as the next entry: what is known of the entries before it, the tables that they make,
+/// the moment, what the question is asked for, and the query that it means.
+#[derive(Clone, Copy)]
+pub struct AskedNow<'a> {
+    pub past: Past<'a>,
+    pub tables: &'a Tables,
+    pub moment: Moment,
+    pub pair: &'a Pair,
+    pub query: &'a Query,
+}
+
+// Whether a question is asked in an audit's period, is not exempt, and names every audited column.
+fn is_candidate(asked: &AskedNow<'_>, audit: &Audit) -> bool
+    ensures { result ≡ is_candidate (context_of asked.now.pair.now asked.now.moment) asked.now.query.now audit.now }
 {
-    in_period(audit, moment)
-        && !is_exempt(audit, &pair.purpose, &pair.recipient)
-        && names_all(query, audit)
+    in_period(audit, asked.moment)
+        && !is_exempt(audit, &asked.pair.purpose, &asked.pair.recipient)
+        && names_all(asked.query, audit)
 }
 
 // The first virtual tuple that serves, over tables that are there.
 fn first_kept(
     alloc: Global,
-    past: &Past<'_>,
-    tables: &Tables,
-    moment: Moment,
-    pair: &Pair,
-    query: &Query,
+    asked: &AskedNow<'_>,
     audit: &Audit,
 ) -> Result<Option<SharedTuple>, Memory>
     requires differ { IsDistinct bytes_eq audit.now.tables }
-    requires query { AreKept tables.now query.now.tables }
-    requires audit { AreKept tables.now audit.now.tables }
-    ensures { IfOk result (ServesNow past.now tables.now moment pair.now query.now audit.now) }
+    requires query { AreKept asked.now.tables.now asked.now.query.now.tables }
+    requires audit { AreKept asked.now.tables.now audit.now.tables }
+    ensures { IfOk result (ServesNow asked.now audit.now) }
 {
-    let schemas = schemas_of(alloc, tables, &query.tables)?;
-    let rules = past.book.rules_in_force(
+    let schemas = schemas_of(alloc, asked.tables, &asked.query.tables)?;
+    let rules = asked.past.book.rules_in_force(
         alloc,
-        past.count,
-        moment,
-        &pair.purpose,
-        &pair.recipient,
+        asked.past.count,
+        asked.moment,
+        &asked.pair.purpose,
+        &asked.pair.recipient,
         &schemas,
     )?;
-    let query_sets = sets_of(alloc, tables, &query.tables)?;
-    let audit_sets = sets_of(alloc, tables, &audit.tables)?;
-    let choices = past.book.choices_at(past.count);
+    let query_sets = sets_of(alloc, asked.tables, &asked.query.tables)?;
+    let audit_sets = sets_of(alloc, asked.tables, &audit.tables)?;
+    let choices = asked.past.book.choices_at(asked.past.count);
     shared_of(
         alloc,
-        query,
+        asked.query,
         audit,
         &rules,
         &query_sets,
@@ -61,45 +68,37 @@ fn first_kept(
     )
 }
 
-// The first virtual tuple that serves over the rows of today; none where a table is not there.
+// The first virtual tuple that serves; none where a table of the question or of the audit is not there.
 fn first_now(
     alloc: Global,
-    past: &Past<'_>,
-    tables: &Tables,
-    moment: Moment,
-    pair: &Pair,
-    query: &Query,
+    asked: &AskedNow<'_>,
     audit: &Audit,
 ) -> Result<Option<SharedTuple>, Memory>
-    requires some { AreOfSome tables.now }
+    requires some { AreOfSome asked.now.tables.now }
     requires differ { IsDistinct bytes_eq audit.now.tables }
-    ensures { IfOk result (ServesNow past.now tables.now moment pair.now query.now audit.now) }
+    ensures { IfOk result (ServesNow asked.now audit.now) }
 {
-    if are_at_hand(tables, query, audit) {
-        first_kept(alloc, past, tables, moment, pair, query, audit)
+    if are_at_hand(asked.tables, asked.query, audit) {
+        first_kept(alloc, asked, audit)
     } else {
         Ok(None)
     }
 }
 
-/// What an audit shares with a question of this meaning that is asked now, as the entry behind those that the names, the
-/// policy and the tables stand for: the first virtual tuple that serves, where the query is a candidate; none exactly
-/// where the audit does not flag the question. Wants an audit that names no table twice. The error is want of memory.
+/// What an audit shares with a question that is asked now: the first virtual tuple that serves, where the query is a
+/// candidate; none exactly where the audit does not flag the question. Wants an audit that names no table twice. The
+/// error is want of memory.
 pub fn alarm(
     alloc: Global,
-    past: &Past<'_>,
-    tables: &Tables,
-    moment: Moment,
-    pair: &Pair,
-    query: &Query,
+    asked: &AskedNow<'_>,
     audit: &Audit,
 ) -> Result<Option<SharedTuple>, Memory>
-    requires some { AreOfSome tables.now }
+    requires some { AreOfSome asked.now.tables.now }
     requires differ { IsDistinct bytes_eq audit.now.tables }
-    ensures { IfOk result (SharesNext past.now tables.now moment pair.now query.now audit.now) }
+    ensures { IfOk result (SharesNext asked.now audit.now) }
 {
-    if is_candidate(moment, pair, query, audit) {
-        first_now(alloc, past, tables, moment, pair, query, audit)
+    if is_candidate(asked, audit) {
+        first_now(alloc, asked, audit)
     } else {
         Ok(None)
     }

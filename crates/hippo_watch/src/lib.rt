@@ -5,5 +5,5 @@ mod alarms;
 mod present;
 mod printing;
 
-pub use alarms::alarm;
+pub use alarms::{AskedNow, alarm};
 pub use printing::alarm_line;

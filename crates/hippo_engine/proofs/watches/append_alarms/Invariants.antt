@@ -5,4 +5,4 @@ use Rattle.hippo_engine.proofs.watches.append_alarms.Given as goal
 
 abbrev pub invariant-loop-held : goal.invariant-loop-held
 invariant-loop-held l =
-    (l.number ≡ l.held-index) × SoFar l.past l.tables l.moment l.pair l.query l.watches l.held-index l.initial.out l.out
+    (l.number ≡ l.held-index) × SoFar l.asked l.watches l.held-index l.initial.out l.out

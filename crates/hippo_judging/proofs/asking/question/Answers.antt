@@ -10,6 +10,6 @@ pub returns-clause-found : goal.returns-clause-found
 returns-clause-found c = λ history stands.
     let asking : Asking = record { asker = c.in_ok-asker.asker; text = c.args.text; query = c.in_ok-query.query; delivery = delivered.Rows } in
     rw c.with_delivery.ensures
-    (question_found c.args.handing history (world_of c.args.world.now) c.args.session c.args.select.now asking c.in_ok-check_allowed.field-0 c.args.state.now.count
+    (question_found c.args.written.now.handing history (world_of c.args.world.now) c.args.session c.args.written.now.select.now asking c.in_ok-check_allowed.field-0 c.args.state.now.count
     c.delivery_in_room-delivery.result c.in_ok-asker.ensures (sym (c.in_ok-check_allowed.ensures history stands)) (c.in_ok-query.ensures.found history stands)
     stands.count c.delivery_in_room-delivery.ensures.found)

@@ -8,10 +8,10 @@ use Rattle.hippo_watch.proofs.alarms.alarm.Goals as goal
 pub returns-then-is_candidate : goal.returns-then-is_candidate
 returns-then-is_candidate c =
     IfOk-weaker c.first_now.result
-    (ServesNow c.args.past.now c.args.tables.now c.args.moment c.args.pair.now c.args.query.now c.args.audit.now)
-    (SharesNext c.args.past.now c.args.tables.now c.args.moment c.args.pair.now c.args.query.now c.args.audit.now)
-    (shares_first c.args.moment c.args.pair.now c.args.query.now c.args.audit.now c.args.past.now c.args.tables.now (search rules))
+    (ServesNow c.args.asked.now c.args.audit.now)
+    (SharesNext c.args.asked.now c.args.audit.now)
+    (shares_first c.args.asked.now c.args.audit.now (search rules))
     c.first_now.ensures
 
 pub returns-else-is_candidate : goal.returns-else-is_candidate
-returns-else-is_candidate c = shares_nothing c.args.moment c.args.pair.now c.args.query.now c.args.audit.now c.args.past.now c.args.tables.now (search rules)
+returns-else-is_candidate c = shares_nothing c.args.asked.now c.args.audit.now (search rules)

@@ -11,18 +11,18 @@ use Rattle.hippo_watch.proofs.alarms.first_kept.Goals as goal
 
 pub shared_of-requires-clause-rows : goal.shared_of-requires-clause-rows
 shared_of-requires-clause-rows c =
-    rows_same c.args.tables.now c.args.query.now.tables c.args.audit.now.tables c.in_ok-query_sets.query_sets c.in_ok-audit_sets.audit_sets
+    rows_same c.args.asked.now.tables.now c.args.asked.now.query.now.tables c.args.audit.now.tables c.in_ok-query_sets.query_sets c.in_ok-audit_sets.audit_sets
     c.requires.query c.requires.audit c.in_ok-query_sets.ensures.rows c.in_ok-audit_sets.ensures.rows
 
 pub returns : goal.returns
 returns c =
     IfOk-weaker c.shared_of.result
-    (λ (found : Option (List SharedRow)). ServesFirst c.args.query.now c.args.audit.now c.in_ok-rules.rules c.in_ok-query_sets.query_sets c.in_ok-audit_sets.audit_sets _ found)
-    (ServesNow c.args.past.now c.args.tables.now c.args.moment c.args.pair.now c.args.query.now c.args.audit.now)
+    (λ (found : Option (List SharedRow)). ServesFirst c.args.asked.now.query.now c.args.audit.now c.in_ok-rules.rules c.in_ok-query_sets.query_sets c.in_ok-audit_sets.audit_sets _ found)
+    (ServesNow c.args.asked.now c.args.audit.now)
     (λ found serves history present its names created.
-    serves meaning history (context_of c.args.pair.now c.args.moment)
-    (those_of c.args.past.now c.args.tables.now c.args.query.now c.args.audit.now c.in_ok-query_sets.query_sets c.in_ok-audit_sets.audit_sets
-    c.requires.query c.requires.audit c.in_ok-query_sets.ensures.rows c.in_ok-audit_sets.ensures.rows history present its names (context_of c.args.pair.now c.args.moment)
+    serves meaning history (context_of c.args.asked.now.pair.now c.args.asked.now.moment)
+    (those_of c.args.asked.now.past c.args.asked.now.tables.now c.args.asked.now.query.now c.args.audit.now c.in_ok-query_sets.query_sets c.in_ok-audit_sets.audit_sets
+    c.requires.query c.requires.audit c.in_ok-query_sets.ensures.rows c.in_ok-audit_sets.ensures.rows history present its names (context_of c.args.asked.now.pair.now c.args.asked.now.moment)
     c.in_ok-schemas.schemas (c.in_ok-schemas.ensures history present.tables_are)
     c.in_ok-rules.rules (c.in_ok-rules.ensures history present.past_is.book) _ (c.choices_at-choices.ensures history present.past_is.book)))
     c.shared_of.ensures
