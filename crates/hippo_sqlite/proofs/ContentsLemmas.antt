@@ -1,5 +1,5 @@
 -- What the statements do to what a connection tells.
-use Rattle.std.proofs.Common.{◌≡◌, ◌⊎◌, inl, inr, ℕ, ◌<◌, ◌≤◌, ◌^◌, pos, List, [], ◌∷◌, ◌++◌, map, Bool, true, false, cond, Option, Some, None, Ok, Err, Result, IfOk, IsTrue, refl, sym, ap, subst, ◌∙◌, arith}
+use Rattle.std.proofs.Common.{◌≡◌, inl, inr, ℕ, ◌<◌, ◌^◌, List, [], map, false, cond, Ok, Err, Result, IfOk, IsTrue, refl, sym, ap, subst, ◌∙◌, arith}
 use mathlib.Core.Logic.{∥∥₁_map}
 use Rattle.sqlite_value.specs.Order.{Row}
 use Rattle.sqlite_trees.specs.declared.store.Store as store
@@ -9,16 +9,16 @@ use Rattle.sqlite_catalog.specs.Listing.{IsSound}
 use Rattle.sqlite.specs.declared.error.Error.{Error}
 use Rattle.sqlite.specs.Effect.{Database}
 use Rattle.sqlite.specs.Listing.{understood}
-use Rattle.sqlite.specs.State.{State, HasCleanDisk, IsUnchanged, Survives, Executes, CommitsBy, Shown, FailsToQuery, CommitsShowing, Opens, IsLive}
+use Rattle.sqlite.specs.State.{State, HasCleanDisk, Survives, Executes, CommitsBy, CommitsShowing, Opens, IsLive}
 use Rattle.sqlite.specs.Held.{Held, state}
 use Rattle.sqlite.proofs.Callers.{IsPlain, never_commits}
 use Rattle.hippo_model.specs.declared.stored.StoredEntry.{StoredEntry}
-use Rattle.hippo_keeper.specs.Answering.{has_failed, wants_memory}
-use Rattle.hippo_keeper.specs.Keeping.{Store, RisesAbove, next_number}
+use Rattle.hippo_keeper.specs.Answering.{has_failed}
+use Rattle.hippo_keeper.specs.Keeping.{RisesAbove, next_number}
 use Rattle.hippo_keeper.specs.declared.faults.KeeperFault.{KeeperFault}
 use Rattle.hippo_keeper.specs.declared.faults.KeeperFault.TheVariants.{Failed, Memory}
-use Rattle.hippo_sqlite.specs.Tables.{values_of, row_of, stored_row, entries_in, history_schema, empty_schema}
-use Rattle.hippo_sqlite.specs.Contents.{entries_of, IsKeptIn, HasHistory, StartsWell, Rests, Contents, contents, OnlyKept, IsSame, GoesOn, AppendsTo, LooksAt}
+use Rattle.hippo_sqlite.specs.Tables.{values_of, row_of, stored_row, entries_in, history_schema}
+use Rattle.hippo_sqlite.specs.Contents.{entries_of, HasHistory, StartsWell, Rests, Contents, contents, OnlyKept, IsSame, AppendsTo, LooksAt}
 use Rattle.hippo_sqlite.specs.Outcomes.{answered, HasExecuted, HasLooked, IsLinked}
 use Rattle.hippo_sqlite.specs.Queries.{create_text, insert_text}
 use Rattle.hippo_sqlite.proofs.OrderLemmas.{entries_rise}

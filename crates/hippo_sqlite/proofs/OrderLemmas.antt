@@ -6,7 +6,7 @@ use Rattle.std.specs.List.{AllByRecursion}
 use Rattle.sqlite_value.specs.declared.value.Value.TheVariants.{Int}
 use Rattle.sqlite_trees.specs.Tree.{IsAscending}
 use Rattle.sqlite_trees.specs.Objects.{number_in}
-use Rattle.sqlite_keyed.proofs.ListLemmas.{map-map, filter-map, filter-filter, map_same}
+use Rattle.sqlite_keyed.proofs.ListLemmas.{map-map, filter-map, filter-filter}
 use Rattle.hippo_model.specs.declared.stored.StoredEntry.{StoredEntry}
 use Rattle.hippo_keeper.specs.Keeping.{Store, RisesAbove, last_number, next_number}
 use Rattle.hippo_keeper.specs.Selecting.{handed_over}

@@ -1,13 +1,12 @@
 -- What the queries show of the table.
-use Rattle.std.proofs.Common.{◌≡◌, ◌≢◌, ◌∙◌, ℕ, ℤ, pos, List, [], ◌∷◌, ◌++◌, map, filter, take, flat_map, Bool, true, false, cond, Option, Some, None, refl, sym, ap, subst, Less, int_cmp, IsPermutation}
-use Rattle.std.specs.List.{AllByRecursion, list_all}
-use Rattle.sqlite_value.specs.declared.value.Value.{Value}
-use Rattle.sqlite_value.specs.declared.value.Value.TheVariants.{Null, Int, Text, Blob}
+use Rattle.std.proofs.Common.{◌≡◌, ◌∙◌, ℕ, pos, List, [], ◌∷◌, ◌++◌, map, filter, take, flat_map, Bool, true, false, cond, refl, ap, subst, Less, int_cmp, IsPermutation}
+use Rattle.std.specs.List.{list_all}
+use Rattle.sqlite_value.specs.declared.value.Value.TheVariants.{Int}
 use Rattle.sqlite_value.specs.Order.{Row}
 use Rattle.sqlite_value.proofs.OrderLemmas.{value_cmp-Int, then-Equal}
 use Rattle.sqlite_trees.specs.Tree.{Trees, IsAscending}
-use Rattle.sqlite_sql.specs.Term.{Term, Env, eval, holds, col}
-use Rattle.sqlite_sql.specs.Query.{Query, IsAnswer, Output, output, output_cmp, page, inner, end, matches}
+use Rattle.sqlite_sql.specs.Term.{Term, Env, eval, holds}
+use Rattle.sqlite_sql.specs.Query.{IsAnswer, Output, output, output_cmp, page}
 use Rattle.sqlite_sql.specs.Program.{overlay}
 use Rattle.sqlite_sql.proofs.QueryLemmas.{output_cmp_total}
 use Rattle.sqlite_keyed.proofs.SortLemmas.{sorted_unique}

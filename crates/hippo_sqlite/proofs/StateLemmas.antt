@@ -25,7 +25,7 @@ use Rattle.sqlite.specs.State.{State, Runs, IsUnchanged, IsRolledBack, IsNotRun,
 use Rattle.sqlite.proofs.Callers.{IsPlain, command_of, statement_of, runs_as}
 use Rattle.hippo_model.specs.declared.stored.StoredEntry.{StoredEntry}
 use Rattle.hippo_keeper.specs.Keeping.{Store, next_number}
-use Rattle.hippo_sqlite.specs.Tables.{HistoryRow, values_of, stored_row, row_of, entries_in, AreInOrder, history_schema, history_table, empty_schema}
+use Rattle.hippo_sqlite.specs.Tables.{values_of, stored_row, row_of, entries_in, history_schema, empty_schema}
 use Rattle.hippo_sqlite.specs.Contents.{entries_of, IsKeptIn, HasHistory, StartsWell, Rests}
 use Rattle.hippo_sqlite.specs.Queries.{create_text, insert_text}
 use Rattle.hippo_sqlite.proofs.TextLemmas.{given, create_is, made_is, insert_is, create_plain, made_plain, insert_plain, statement_is}

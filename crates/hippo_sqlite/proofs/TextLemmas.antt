@@ -1,16 +1,13 @@
 -- What the statements of the keeper mean.
-use Rattle.std.proofs.Common.{◌≡◌, ℕ, pos, negsuc, List, [], ◌∷◌, codes, true, false, cond, Some, None, Ok, Err, refl}
-use Rattle.sqlite_value.specs.declared.value.Value.TheVariants.{Null, Int, Text}
+use Rattle.std.proofs.Common.{◌≡◌, ℕ, pos, List, [], ◌∷◌, codes, false, None, Ok, refl}
+use Rattle.sqlite_value.specs.declared.value.Value.TheVariants.{Null, Int}
 use Rattle.sqlite_value.specs.declared.keys.Collation.TheVariants.{Binary}
-use Rattle.sqlite_value.specs.declared.keys.Key.{Key}
 use Rattle.sqlite_sql.specs.declared.ops.BinaryOp.{BinaryOp}
 use Rattle.sqlite_sql.specs.declared.ops.BinaryOp.TheVariants.{Compare}
 use Rattle.sqlite_sql.specs.declared.ops.CompareOp.TheVariants.{Eq, Ge, Gt, Le}
-use Rattle.sqlite_sql.specs.declared.ops.UnaryOp.TheVariants.{ToInt}
-use Rattle.sqlite_sql.specs.Term.{Term, lit, col, op1, op2, case}
+use Rattle.sqlite_sql.specs.Term.{Term, lit, col, op2}
 use Rattle.sqlite_sql.specs.Query.{Query, inner, end}
 use Rattle.sqlite_schema.specs.declared.command.Source.TheVariants.{Values}
-use Rattle.sqlite_schema.specs.declared.schema.Schema.{Schema}
 use Rattle.sqlite_schema.specs.declared.command.Command.{Command}
 use Rattle.sqlite_schema.specs.declared.command.Command.TheVariants.{Insert, Select, CreateTable, Nothing}
 use Rattle.sqlite_resolve.specs.Compile.{table_defined_by}

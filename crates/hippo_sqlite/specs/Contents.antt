@@ -1,5 +1,5 @@
 -- What a keeper tells of the store that it is connected to, and what its calls do to that.
-use Rattle.std.specs.Prelude.{◌≡◌, ◌⊎◌, Bool, true, false, List, [], ◌∷◌, ◌++◌, codes, find, map, Result, OnOk, IsTrue, ⊤}
+use Rattle.std.specs.Prelude.{◌≡◌, ◌⊎◌, ◌≤◌, ℕ, Bool, true, false, List, [], ◌∷◌, ◌++◌, codes, find, length, map, Result, OnOk, IfOk, IsTrue, ⊤}
 use Rattle.std.specs.Option.{option_map_or}
 use Rattle.sqlite_trees.specs.declared.store.Store as store
 use Rattle.sqlite_trees.specs.Tree.{Trees}
@@ -12,6 +12,7 @@ use Rattle.sqlite.specs.Held.{Held, state}
 use Rattle.hippo_model.specs.declared.stored.StoredEntry.{StoredEntry}
 use Rattle.hippo_keeper.specs.Answering.{has_failed, wants_memory}
 use Rattle.hippo_keeper.specs.Keeping.{Store, Survivors, RisesAbove}
+use Rattle.hippo_keeper.specs.Selecting.{handed_over}
 use Rattle.hippo_keeper.specs.declared.faults.KeeperFault.{KeeperFault}
 use Rattle.hippo_sqlite.specs.Tables.{HistoryRow, stored_row, entries_in, AreInOrder, history_schema, empty_schema}
 
@@ -96,3 +97,11 @@ pub record AppendsTo {A : Type 0} (entry : StoredEntry) (result : Result A Keepe
 pub record LooksAt {A : Type 0} (result : Result A KeeperFault) (old new : Contents) : Type 0 where
   pub on : GoesOn result old new
   pub same : new.tells → IsSame old new
+
+-- a read answers what it asks for, and changes nothing that is kept
+pub record HasRead (test : StoredEntry → Bool) (after max : ℕ) (result : Result Store KeeperFault)
+    (old new : Contents) : Type 0 where
+  pub few : IfOk result (λ list. length list ≤ max)
+  pub order : IfOk result (RisesAbove after)
+  pub looks : LooksAt result old new
+  pub told : IfOk result (λ list. new.tells → list ≡ handed_over test after max old.kept)

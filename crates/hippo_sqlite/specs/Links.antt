@@ -1,6 +1,7 @@
 -- What a keeper's link tells.
+use Rattle.std.specs.Prelude.{◌≡◌, true, false, [], ⊤}
 use Rattle.sqlite_trees.specs.declared.store.Store.{Ghosts}
-use Rattle.sqlite.specs.Steps.{over_memory}
+use Rattle.hippo_keeper.specs.MemoryKeeping.{MemoryStore, SurvivesInMemory}
 use Rattle.hippo_sqlite.specs.declared.link.Linked.{Linked}
 use Rattle.hippo_sqlite.specs.declared.link.Link.{Link}
 use Rattle.hippo_sqlite.specs.declared.link.Link.TheVariants.{Absent, InMemory, Opened}
@@ -9,7 +10,16 @@ use Rattle.hippo_sqlite.specs.Contents.{Contents, contents, no_contents}
 abbrev pub linked_contents : {S : Type 0} → Ghosts S → Linked S → Contents
 linked_contents g it = contents g it.connection it.told.value it.opened.value
 
+-- a keeper in memory tells all, and is at work while no call of it is to fail
+abbrev pub memory_contents : MemoryStore → Contents
+memory_contents it = record {
+  tells = ⊤;
+  kept = it.kept;
+  survives = SurvivesInMemory it;
+  rests = (it.started ≡ true) × (it.spent ≡ false) × (it.failing ≡ []);
+}
+
 abbrev pub link_contents : {S : Type 0} → Ghosts S → Link S → Contents
 link_contents g Absent = no_contents
-link_contents g (InMemory it) = linked_contents over_memory it
+link_contents g (InMemory it) = memory_contents it
 link_contents g (Opened it) = linked_contents g it

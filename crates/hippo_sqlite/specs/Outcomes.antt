@@ -1,9 +1,9 @@
 -- What a statement did, as a keeper answers it.
-use Rattle.std.specs.Prelude.{◌≡◌, ◌⊎◌, ℕ, List, [], Result, Ok, Err, Bool, false, true}
+use Rattle.std.specs.Prelude.{◌≡◌, ◌⊎◌, ℕ, List, [], Result, Ok, Err}
 use Rattle.sqlite_value.specs.Order.{Row}
 use Rattle.sqlite.specs.declared.error.Error.{Error}
-use Rattle.sqlite.specs.State.{State, HasCleanDisk, Survives, Executes, CommitsBy, Shown, FailsToQuery, CommitsShowing}
-use Rattle.hippo_keeper.specs.Keeping.{Store, RisesAbove}
+use Rattle.sqlite.specs.State.{State, HasCleanDisk, Survives, Executes, CommitsBy, Shown, FailsToQuery}
+use Rattle.hippo_keeper.specs.Keeping.{RisesAbove}
 use Rattle.hippo_keeper.specs.declared.faults.KeeperFault.{KeeperFault}
 use Rattle.hippo_sqlite.specs.Standings.{fault_named}
 use Rattle.hippo_sqlite.specs.Tables.{empty_schema}

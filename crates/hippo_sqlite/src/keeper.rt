@@ -1,25 +1,20 @@
 //! A keeper over a SQLite store.
-ghost use Rattle.std.specs.Prelude.{◌≡◌, ◌↔◌, ℕ, ◌^◌, ◌+◌, ◌<◌, ◌≤◌, List, length, false, IfOk, OnOk, OnErr};
-ghost use Rattle.hippo_keeper.specs.Keeping.{Store, IsReady, RisesAbove};
-ghost use Rattle.hippo_keeper.specs.Selecting.{versions_read, handed_over};
-ghost use Rattle.hippo_sqlite.specs.Contents.{LooksAt};
+ghost use Rattle.std.specs.Prelude.{◌≡◌, ◌↔◌, ℕ, List, false, IfOk, OnOk, OnErr};
+ghost use Rattle.hippo_keeper.specs.Keeping.{Store, IsReady};
 ghost use Rattle.hippo_sqlite.specs.Links.{link_contents};
-ghost use Rattle.hippo_sqlite.specs.Queries.{test_of};
-ghost use Rattle.hippo_sqlite.specs.Standings.{new_standing, finds_by, seen, after_answer, IsStarted};
+ghost use Rattle.hippo_sqlite.specs.Standings.{new_standing, finds_by, seen, IsStarted};
 
-use crate::entries::count_versions;
 use crate::link::Link;
 use crate::opener::Opener;
 use crate::standing::Standing;
-use crate::statements::Question;
 use hippo_keeper::{Keeper, KeeperFault, Steps};
 use hippo_model::{StoredEntry, StoredList};
 use hippo_values::{Moment, Name};
 use std::alloc::Global;
 use std::sync::ledger::Ledger;
 
-/// A keeper over the store that its opener connects to, or over a new store in memory where the store has no name.
-/// Entries stand in the table `history`. Each refusal of `sqlite` but for memory is a counted failure.
+/// A keeper over the store that its opener connects to, where entries stand in the table `history`; or, where the store
+/// has no name, in memory. Each refusal of `sqlite` but for memory is a counted failure.
 #[derive(Drop)]
 pub struct SqliteKeeper<O: Opener> {
     opener: O,
@@ -68,30 +63,6 @@ impl<O: Opener> SqliteKeeper<O> {
         self.link = self.connect(alloc, name)?;
         Ok(())
     }
-
-    // The first kept entries above a number that a read asks for.
-    fn read(
-        &mut self,
-        alloc: Global,
-        question: &Question<'_>,
-        after: u64,
-        max: u64,
-    ) -> Result<StoredList, KeeperFault>
-        requires limit { max ≤ 1000 }
-        requires rests { (link_contents O.Base.Store self.old.link).rests }
-        ensures few { IfOk result (λ list. length list ≤ max) }
-        ensures order { IfOk result (RisesAbove after) }
-        ensures looks { LooksAt result (link_contents O.Base.Store self.old.link)
-            (link_contents O.Base.Store self.new.link) }
-        ensures told { IfOk result (λ list. (link_contents O.Base.Store self.new.link).tells
-            → list ≡ handed_over (test_of question.now) after max (link_contents O.Base.Store self.old.link).kept) }
-        ensures counted { self.new.standing ≡ after_answer result self.old.standing }
-        ensures rises { self.old.standing.faults ≤ self.new.standing.faults }
-        ensures opener { self.new.opener ≡ self.old.opener }
-    {
-        let answer = self.link.read(alloc, question, after, max);
-        self.standing.settle(answer)
-    }
 }
 
 impl<O: Opener> Keeper for SqliteKeeper<O> {
@@ -103,8 +74,8 @@ impl<O: Opener> Keeper for SqliteKeeper<O> {
         self.standing.settle_start(answer)
     }
 
-    fn append(&mut self, _alloc: Global, entry: &StoredEntry) -> Result<(), KeeperFault> {
-        let answer = self.link.append(entry);
+    fn append(&mut self, alloc: Global, entry: &StoredEntry) -> Result<(), KeeperFault> {
+        let answer = self.link.append(alloc, entry);
         self.standing.settle(answer)
     }
 
@@ -115,9 +86,8 @@ impl<O: Opener> Keeper for SqliteKeeper<O> {
         max: u64,
         steps: &mut Steps<L>,
     ) -> Result<StoredList, KeeperFault> {
-        let list = self.read(alloc, &Question::All, after, max)?;
-        count_versions(list.as_slice(), steps);
-        Ok(list)
+        let answer = self.link.read_all(alloc, after, max, steps);
+        self.standing.settle(answer)
     }
 
     fn read_backlog<L: Ledger>(
@@ -128,9 +98,8 @@ impl<O: Opener> Keeper for SqliteKeeper<O> {
         max: u64,
         steps: &mut Steps<L>,
     ) -> Result<StoredList, KeeperFault> {
-        let list = self.read(alloc, &Question::VersionsOf(table), after, max)?;
-        count_versions(list.as_slice(), steps);
-        Ok(list)
+        let answer = self.link.read_backlog(alloc, table, after, max, steps);
+        self.standing.settle(answer)
     }
 
     fn read_asked(
@@ -141,6 +110,7 @@ impl<O: Opener> Keeper for SqliteKeeper<O> {
         after: u64,
         max: u64,
     ) -> Result<StoredList, KeeperFault> {
-        self.read(alloc, &Question::AskedIn(from, to), after, max)
+        let answer = self.link.read_asked(alloc, from, to, after, max);
+        self.standing.settle(answer)
     }
 }

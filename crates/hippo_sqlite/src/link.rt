@@ -1,26 +1,28 @@
 //! A keeper's connection to its store.
-ghost use Rattle.std.specs.Prelude.{◌≡◌, ℕ, ◌^◌, ◌<◌, ◌≤◌, true, false, Err, List, [], map, length, if◌then◌else◌, IfOk};
+ghost use Rattle.std.specs.Prelude.{◌≡◌, ℕ, ◌+◌, ◌^◌, ◌<◌, ◌≤◌, true, false, Err, List, [], map, length, if◌then◌else◌, IfOk};
 ghost use Rattle.sqlite.specs.State.{HasCleanDisk, Survives, CommitsShowing, Opens, IsLive};
 ghost use Rattle.sqlite.specs.Held.{state};
 ghost use Rattle.hippo_keeper.specs.Answering.{has_failed};
 ghost use Rattle.hippo_keeper.specs.Keeping.{RisesAbove, next_number};
-ghost use Rattle.hippo_keeper.specs.Selecting.{handed_over};
-ghost use Rattle.hippo_sqlite.specs.Contents.{AppendsTo, LooksAt};
+ghost use Rattle.hippo_keeper.specs.Selecting.{handed_over, is_any, is_version_of, was_asked_in, versions_read};
+ghost use Rattle.hippo_sqlite.specs.Contents.{AppendsTo, LooksAt, HasRead};
 ghost use Rattle.hippo_sqlite.specs.Links.{linked_contents, link_contents};
 ghost use Rattle.hippo_sqlite.specs.Outcomes.{HasExecuted, HasLooked, IsLinked};
 ghost use Rattle.hippo_sqlite.specs.Queries.{insert_text, text_of, params_of, test_of};
 ghost use Rattle.hippo_sqlite.specs.Standings.{IsStarted};
 ghost use Rattle.hippo_sqlite.specs.Tables.{HistoryRow, row_of, values_of, stored_row, entries_in, AreInOrder, history_schema, is_foreign};
 
-use crate::entries::entries_of;
+use crate::entries::{count_versions, entries_of};
 use crate::standing::fault_of;
 use crate::statements::{Question, create_history, insert, select};
-use hippo_keeper::KeeperFault;
+use hippo_keeper::{Keeper, KeeperFails, KeeperFault, MemoryKeeper, Steps};
 use hippo_model::{StoredEntry, StoredList};
-use sqlite::{Alter, Connection, MemStore};
+use hippo_values::{Moment, Name};
+use sqlite::{Alter, Connection};
 use sqlite_schema::schema::Schema;
 use std::alloc::Global;
 use std::snapshot::Snapshot;
+use std::sync::ledger::Ledger;
 
 // No number of an entry is this one or above it.
 const NUMBERS: u64 = 1 << 63;
@@ -35,12 +37,29 @@ pub(crate) struct Linked<S: Alter + Drop> {
     opened: Snapshot<Connection<S>>,
 }
 
-/// A connection to a store in memory, or to one that an opener found.
+/// Where the entries are: in memory, or in a store that an opener found.
 #[derive(Drop)]
 pub(crate) enum Link<S: Alter + Drop> {
     Absent,
-    InMemory(Linked<MemStore>),
+    InMemory(MemoryKeeper),
     Opened(Linked<S>),
+}
+
+// What a read answers, with one step for each version in it.
+fn counted<L: Ledger>(
+    answer: Result<StoredList, KeeperFault>,
+    steps: &mut Steps<L>,
+) -> Result<StoredList, KeeperFault>
+    ensures same { result ≡ answer }
+    ensures steps { steps.new ≡ steps.old + versions_read result }
+{
+    match answer {
+        Ok(list) => {
+            count_versions(list.as_slice(), steps);
+            Ok(list)
+        }
+        Err(fault) => Err(fault),
+    }
 }
 
 // Keeps one more entry.
@@ -170,16 +189,17 @@ impl<S: Alter + Drop> Linked<S> {
 }
 
 impl<S: Alter + Drop> Link<S> {
-    /// A new store in memory, with the table of the history.
+    /// A new store in memory.
     pub(crate) fn in_memory(alloc: Global) -> Result<Link<S>, KeeperFault>
         ensures started { IfOk result (λ link. IsStarted (λ entries. entries ≡ []) (link_contents S.Store link)) }
     {
-        let Ok(connection) = Connection::open_in_memory(alloc) else {
-            return Err(KeeperFault::Memory);
-        };
-        match Linked::new(connection) {
-            Ok(linked) => Ok(Link::InMemory(linked)),
-            Err(fault) => Err(fault),
+        let mut keeper = MemoryKeeper::new(StoredList::new(alloc), KeeperFails::new(alloc));
+        match keeper.start(alloc, "") {
+            Ok(()) => Ok(Link::InMemory(keeper)),
+            Err(fault) => {
+                drop(keeper);
+                Err(fault)
+            }
         }
     }
 
@@ -199,7 +219,7 @@ impl<S: Alter + Drop> Link<S> {
     }
 
     /// Keeps one more entry.
-    pub(crate) fn append(&mut self, entry: &StoredEntry) -> Result<(), KeeperFault>
+    pub(crate) fn append(&mut self, alloc: Global, entry: &StoredEntry) -> Result<(), KeeperFault>
         requires number { entry.now.seq < 2 ^ 63 }
         requires rests { (link_contents S.Store self.old).rests }
         requires next { (link_contents S.Store self.old).tells
@@ -208,31 +228,79 @@ impl<S: Alter + Drop> Link<S> {
     {
         match self {
             Link::Absent => Err(KeeperFault::Failed),
-            Link::InMemory(linked) => linked.append(entry),
+            Link::InMemory(keeper) => keeper.append(alloc, entry),
             Link::Opened(linked) => linked.append(entry),
         }
     }
 
-    /// The first kept entries above a number that a read asks for.
-    pub(crate) fn read(
+    /// The first kept entries above a number; each version among them is a step.
+    pub(crate) fn read_all<L: Ledger>(
         &mut self,
         alloc: Global,
-        question: &Question<'_>,
         after: u64,
         max: u64,
+        steps: &mut Steps<L>,
     ) -> Result<StoredList, KeeperFault>
+        requires some { 0 < max }
         requires limit { max ≤ 1000 }
         requires rests { (link_contents S.Store self.old).rests }
-        ensures few { IfOk result (λ list. length list ≤ max) }
-        ensures order { IfOk result (RisesAbove after) }
-        ensures looks { LooksAt result (link_contents S.Store self.old) (link_contents S.Store self.new) }
-        ensures told { IfOk result (λ list. (link_contents S.Store self.new).tells
-            → list ≡ handed_over (test_of question.now) after max (link_contents S.Store self.old).kept) }
+        ensures reads { HasRead is_any after max result (link_contents S.Store self.old) (link_contents S.Store self.new) }
+        ensures steps { steps.new ≡ steps.old + versions_read result }
     {
         match self {
             Link::Absent => Err(KeeperFault::Failed),
-            Link::InMemory(linked) => linked.read(alloc, question, after, max),
-            Link::Opened(linked) => linked.read(alloc, question, after, max),
+            Link::InMemory(keeper) => keeper.read_all(alloc, after, max, steps),
+            Link::Opened(linked) => counted(linked.read(alloc, &Question::All, after, max), steps),
+        }
+    }
+
+    /// The first kept versions of a table's rows above a number; each is a step.
+    pub(crate) fn read_backlog<L: Ledger>(
+        &mut self,
+        alloc: Global,
+        table: &Name,
+        after: u64,
+        max: u64,
+        steps: &mut Steps<L>,
+    ) -> Result<StoredList, KeeperFault>
+        requires some { 0 < max }
+        requires limit { max ≤ 1000 }
+        requires rests { (link_contents S.Store self.old).rests }
+        ensures reads { HasRead (is_version_of table.now) after max result
+            (link_contents S.Store self.old) (link_contents S.Store self.new) }
+        ensures steps { steps.new ≡ steps.old + versions_read result }
+    {
+        match self {
+            Link::Absent => Err(KeeperFault::Failed),
+            Link::InMemory(keeper) => keeper.read_backlog(alloc, table, after, max, steps),
+            Link::Opened(linked) => {
+                counted(
+                    linked.read(alloc, &Question::VersionsOf(table), after, max),
+                    steps,
+                )
+            }
+        }
+    }
+
+    /// The first kept questions of a period above a number.
+    pub(crate) fn read_asked(
+        &mut self,
+        alloc: Global,
+        from: Moment,
+        to: Moment,
+        after: u64,
+        max: u64,
+    ) -> Result<StoredList, KeeperFault>
+        requires some { 0 < max }
+        requires limit { max ≤ 1000 }
+        requires rests { (link_contents S.Store self.old).rests }
+        ensures reads { HasRead (was_asked_in from to) after max result
+            (link_contents S.Store self.old) (link_contents S.Store self.new) }
+    {
+        match self {
+            Link::Absent => Err(KeeperFault::Failed),
+            Link::InMemory(keeper) => keeper.read_asked(alloc, from, to, after, max),
+            Link::Opened(linked) => linked.read(alloc, &Question::AskedIn(from, to), after, max),
         }
     }
 }

@@ -1,5 +1,5 @@
 -- The entry of one more row, whose number is above the last one.
-use Rattle.std.proofs.Common.{◌≡◌, ◌≤◌, ◌<◌, ◌++◌, ◌∷◌, [], length, ap, length-append, arith}
+use Rattle.std.proofs.Common.{◌≡◌, ◌<◌, ◌++◌, ◌∷◌, [], length, ap, length-append, arith}
 use Rattle.sqlite_value.specs.declared.value.Value.TheVariants.{Int}
 use Rattle.sqlite_trees.specs.Objects.{number_in}
 use Rattle.hippo_sqlite.proofs.ListLemmas.{rises_with, one_more_row, numbered_is_told}
