@@ -6,9 +6,9 @@ ghost use Rattle.hippo_model.specs.RowSets.{kept_at};
 ghost use Rattle.hippo_tables.specs.Standing.{StandsFor};
 ghost use Rattle.hippo_answering.specs.States.{AreKept, schemas_at};
 
-use hippo_model::{Lent, Names, RowSet, Schema, Schemas, Sets, Sizes};
+use hippo_model::{Lent, LentSchemas, Names, RowSet, Schema, Sets, Sizes};
 use hippo_tables::Tables;
-use hippo_values::{Duplicate, Memory, Name, Sequence};
+use hippo_values::{Memory, Name, Sequence};
 use std::alloc::Global;
 
 fn schema_of<'a>(tables: &'a Tables, name: &Name) -> &'a Schema
@@ -26,15 +26,19 @@ fn rows_of<'a>(tables: &'a Tables, name: &Name) -> &'a RowSet
     tables.rows(name).unwrap()
 }
 
-/// Copies of the schemas of tables that are there.
-pub fn schemas_of(alloc: Global, tables: &Tables, names: &Names) -> Result<Schemas, Memory>
+/// The schemas of tables that are there.
+pub fn schemas_of<'a>(
+    alloc: Global,
+    tables: &'a Tables,
+    names: &Names,
+) -> Result<LentSchemas<'a>, Memory>
     requires { AreKept tables.now names.now }
     ensures { IfOk result (λ schemas. (history : History) → StandsFor tables.now history
         → schemas ≡ schemas_at history names.now) }
 {
-    let mut schemas = Sequence::new(alloc);
+    let mut schemas = Lent::new(alloc);
     for name in names.as_slice() {
-        schemas.push(schema_of(tables, name).copy(alloc)?)?;
+        schemas.push(schema_of(tables, name))?;
     }
     Ok(schemas)
 }

@@ -5,8 +5,8 @@ ghost use Rattle.hippo_audit_job.specs.Examining.{shown_count};
 ghost use Rattle.hippo_combine.specs.Held.{lives_of, schema_held, rows_held, has_some, have_rows, all_taken};
 
 use hippo_intervals::Lives;
-use hippo_model::{Lent, Schemas, Sets};
-use hippo_values::{Duplicate, Memory, Name, Sequence};
+use hippo_model::{Lent, LentSchemas, Sets};
+use hippo_values::{Memory, Name};
 use std::alloc::Global;
 
 /// The first place with a table of this name, or the number of tables where there is none.
@@ -47,14 +47,18 @@ pub(crate) fn have_rows(tables: &[Lives], names: &[Name]) -> bool
     names.iter().all(|table| has_rows(tables, table))
 }
 
-/// Copies of the schemas of tables, of those that are held.
-pub(crate) fn schemas_of(alloc: Global, tables: &[Lives], names: &[Name]) -> Result<Schemas, Memory>
+/// The schemas of tables, of those that are held.
+pub(crate) fn schemas_of<'a>(
+    alloc: Global,
+    tables: &'a [Lives],
+    names: &[Name],
+) -> Result<LentSchemas<'a>, Memory>
     ensures { IfOk result (λ schemas. schemas ≡ filter_map (schema_held tables.now) names.now) }
 {
-    let mut schemas = Sequence::new(alloc);
+    let mut schemas = Lent::new(alloc);
     for table in names {
         if let Some(lives) = lives_of(tables, table) {
-            schemas.push(lives.schema().copy(alloc)?)?;
+            schemas.push(lives.schema())?;
         }
     }
     Ok(schemas)

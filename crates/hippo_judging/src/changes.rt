@@ -44,9 +44,9 @@ fn check_names(alloc: Global, catalog: &Catalog, statement: &Stmt) -> Result<Wan
 }
 
 // What is wanted is made, where the rows that are there let it be.
-fn check_rows(alloc: Global, tables: &Tables, wanted: &Wanted) -> Result<Act, Refusal>
+fn check_rows(alloc: Global, tables: &Tables, wanted: Wanted) -> Result<Act, Refusal>
     ensures { (history : History) → TablesStandFor tables.now history
-        → Finds (λ found. found) (act_made (finished history wanted.now)) result }
+        → Finds (λ found. found) (act_made (finished history wanted)) result }
 {
     match tables.finish(alloc, wanted) {
         Ok(act) => Ok(act),
@@ -79,11 +79,11 @@ fn entry_wanted(
     alloc: Global,
     state: &State,
     world: &World,
-    wanted: &Wanted,
+    wanted: Wanted,
 ) -> Result<Entry, Refusal>
     ensures found { (history : History) → StandsFor state.now history
         → FindsChange history (world_of world.now)
-        (judged_wanted history (world_of world.now) wanted.now) result }
+        (judged_wanted history (world_of world.now) wanted) result }
     ensures number { IfOk result (λ entry. entry.seq < 2 ^ 63) }
     ensures moment { IfOk result (λ entry. is_moment entry.moment ≡ true) }
 {
@@ -107,11 +107,7 @@ pub(crate) fn entry_for(
     ensures moment { IfOk result (λ entry. is_moment entry.moment ≡ true) }
 {
     match check_names(alloc, &state.catalog, statement) {
-        Ok(wanted) => {
-            let found = entry_wanted(alloc, state, world, &wanted);
-            drop(wanted);
-            found
-        }
+        Ok(wanted) => entry_wanted(alloc, state, world, wanted),
         Err(refusal) => Err(refusal),
     }
 }

@@ -9,7 +9,7 @@ use crate::book::PolicyBook;
 use crate::keys::CellKey;
 use crate::ruling::Ruling;
 use crate::verdicts::DAY;
-use hippo_model::{Gate, ItemKind, RuleAt, RulesInForce, Schema, Schemas, TableRules};
+use hippo_model::{Gate, ItemKind, LentSchemas, RuleAt, RulesInForce, Schema, TableRules};
 use hippo_values::{Duplicate, Memory, Moment, Name, Sequence};
 use std::alloc::Global;
 
@@ -156,14 +156,15 @@ impl PolicyBook {
         moment: Moment,
         purpose: &Name,
         recipient: &Name,
-        tables: &Schemas,
+        tables: &LentSchemas<'_>,
     ) -> Result<RulesInForce, Memory>
         ensures { IfOk result (λ rules. (history : History) → StandsFor self.now history
             → rules ≡ map (table_rules (take n history)
             (record { purpose = purpose.now; recipient = recipient.now; moment = moment })) tables.now) }
     {
         let mut rules = Sequence::new(alloc);
-        for schema in tables.as_slice() {
+        for place in 0..tables.len() {
+            let schema = tables.get(place);
             rules.push(self.table_rules(alloc, n, &moment, purpose, recipient, schema)?)?;
         }
         Ok(rules)

@@ -8,8 +8,8 @@ use hippo_audit_job::Past;
 use hippo_backlog::{ReadFault, snapshot};
 use hippo_catalog::Catalog;
 use hippo_keeper::{Keeper, Steps};
-use hippo_model::{Audit, Lent, Query, RowSet, Schemas, Sets};
-use hippo_values::{Duplicate, Memory, Name, Sequence};
+use hippo_model::{Audit, Lent, LentSchemas, Query, RowSet, Sets};
+use hippo_values::{Memory, Name, Sequence};
 use std::alloc::Global;
 use std::sync::ledger::Ledger;
 
@@ -113,18 +113,18 @@ pub(crate) fn lent(alloc: Global, rows: &Rows) -> Result<Sets<'_>, Memory>
     Ok(sets)
 }
 
-/// Copies of the schemas of tables, of those that are known.
-pub(crate) fn schemas_of(
+/// The schemas of tables, of those that are known.
+pub(crate) fn schemas_of<'a>(
     alloc: Global,
-    catalog: &Catalog,
+    catalog: &'a Catalog,
     names: &[Name],
-) -> Result<Schemas, Memory>
+) -> Result<LentSchemas<'a>, Memory>
     ensures { IfOk result (λ schemas. schemas ≡ filter_map (table_of catalog.now.names) names.now) }
 {
-    let mut schemas = Sequence::new(alloc);
+    let mut schemas = Lent::new(alloc);
     for name in names {
         if let Some(schema) = catalog.table(name) {
-            schemas.push(schema.copy(alloc)?)?;
+            schemas.push(schema)?;
         }
     }
     Ok(schemas)

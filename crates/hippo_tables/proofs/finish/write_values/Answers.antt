@@ -1,19 +1,20 @@
--- The pairs ended where the shorter list did.
-use Rattle.std.proofs.Common.{◌≡◌, ℕ, zero, suc, min, List, [], ◌∷◌, length, drop, refl, sym, ◌∙◌, arith, rules}
-use Rattle.std.proofs.lemmas.Slice.Zip.{zip_end}
+-- The values ended before the places did.
+use Rattle.std.proofs.Common.{◌≡◌, ◌∙◌, refl, sym, ap, arith, List, [], ◌∷◌, drop}
+use Rattle.std.proofs.lemmas.List.{drop_all}
+use Rattle.std.specs.Vec.Iter.{into_iter_items}
 use Rattle.hippo_values.specs.declared.values.Value.{Value}
 use Rattle.hippo_model.specs.Terms.{Row, Place}
 use Rattle.hippo_tables.specs.Finished.{written}
 use Rattle.hippo_tables.proofs.finish.write_values.Goals as goal
 
-written-past_end : (places : List Place) (values : List Value) (row : Row) (n : ℕ) → n ≡ min (length places) (length values) → written (drop n places) (drop n values) row ≡ row
-written-past_end [] values row n e = let none : n ≡ 0 = omega arith in rw none refl
-written-past_end (place ∷ places) [] row n e = let none : n ≡ 0 = omega arith in rw none refl
-written-past_end (place ∷ places) (value ∷ values) row zero e = absurd (omega arith)
-written-past_end (place ∷ places) (value ∷ values) row (suc n) e = let shorter : n ≡ min (length places) (length values) = omega arith in written-past_end places values row n shorter
+written-none : (places : List Place) (row : Row) → written places [] row ≡ row
+written-none [] row = refl
+written-none (place ∷ places) row = refl
 
-pub returns : goal.returns
-returns c =
-    let ended = zip_end c.args.places.now c.args.values.now c.loop-place.yielded c.into_iter-place-iterator.result c.loop-place.place-iterator c.next.new.self _ (search rules) (search rules) c.loop-place.yielded_by c.in-None.is c.next.ensures.steps in
-    let past = written-past_end c.args.places.now c.args.values.now c.loop-place.cells.items _ ended in
-    sym past ∙ c.loop-place.invariant
+pub returns-in_default : goal.returns-in_default
+returns-in_default c =
+    let left = c.loop-place.left in
+    let none : into_iter_items left ≡ [] = drop_all 0 left.rest.items (omega (arith, left.rest.ok.0, c.in_default.ensures.cases.0)) in
+    let places : List Place = drop c.loop-place.place-index c.args.places.now in
+    let row : Row = c.loop-place.cells.items in
+    sym (written-none places row) ∙ ap (λ (values : List Value). written places values row) (sym none) ∙ c.loop-place.invariant

@@ -5,5 +5,5 @@ use Rattle.hippo_policy.specs.Books.{StandsFor}
 use Rattle.hippo_policy.specs.Gates.{table_rules}
 use Rattle.hippo_policy.proofs.book.PolicyBook.rules_in_force.Given as goal
 
-abbrev pub invariant-loop-schema : goal.invariant-loop-schema
-invariant-loop-schema l = (history : History) → StandsFor l.self history → l.rules ≡ map (table_rules (take l.n history) (record { purpose = l.purpose; recipient = l.recipient; moment = l.fn.moment })) (take l.schema-index l.tables)
+abbrev pub invariant-loop-place : goal.invariant-loop-place
+invariant-loop-place l = (history : History) → StandsFor l.self history → l.rules ≡ map (table_rules (take l.n history) (record { purpose = l.purpose; recipient = l.recipient; moment = l.fn.moment })) (take l.place l.tables)
