@@ -1,12 +1,12 @@
 -- Names that stand twice, one name after the other.
-use Rattle.std.proofs.Common.{◌≡◌, ℕ, ◌+◌, ◌<◌, true, false, List, [], ◌∷◌, ◌++◌, map, take, drop, length, get_or, Bor, refl, sym, ap, ◌∙◌}
+use Rattle.std.proofs.Common.{◌≡◌, ℕ, ◌+◌, ◌<◌, true, false, List, [], ◌∷◌, ◌++◌, map, take, drop, length, get_or, Bor, refl, sym, ap, arith, ◌∙◌}
 use Rattle.std.specs.Prelude.{bytes_eq, if◌then◌else◌}
 use Rattle.std.specs.List.{list_any}
 use Rattle.std.proofs.lemmas.List.{take_more}
 use Rattle.hippo_values.specs.declared.names.Name.{Name}
 use Rattle.hippo_model.specs.declared.name_fault.NameFault.{NameFault}
 use Rattle.hippo_model.specs.declared.name_fault.NameFault.TheVariants.{RepeatedName}
-use Rattle.hippo_catalog.specs.Refusals.{refused, repeated_after, IsFirstOf}
+use Rattle.hippo_catalog.specs.Refusals.{refused, repeated_after, repeated_names, IsFirstOf}
 use Rattle.hippo_catalog.proofs.ListLemmas.{drop_at_get_or, list_any-lent, lent-push}
 use Rattle.hippo_catalog.proofs.Refused.{first_with_more}
 
@@ -33,3 +33,9 @@ module _ (names : List Name) (i : ℕ) (name : Name) (within : i < length names)
     kept_more after loan absent lent put =
         let pushed : after ≡ before ++ loan ∷ [] = put ∙ ap (λ t. if t then before else before ++ loan ∷ []) absent in
         ap (map (λ (key : Bor Name). key.now)) pushed ∙ lent-push before loan ∙ ap (λ front. front ++ loan.now ∷ []) kept ∙ ap (λ x. take i names ++ x ∷ []) (lent ∙ read) ∙ sym (take_more names i name within)
+
+-- one name repeats none
+pub few_alone : (names : List Name) → length names < 2 → repeated_names names ≡ []
+few_alone [] few = refl
+few_alone (name ∷ []) few = refl
+few_alone (name ∷ next ∷ rest) few = absurd (omega arith)

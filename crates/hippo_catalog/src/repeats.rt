@@ -7,8 +7,8 @@ use hippo_values::Name;
 use indexmap::IndexSet;
 use std::alloc::Global;
 
-/// Refuses a name that stands twice.
-pub fn check_repeats(alloc: Global, names: &[Name]) -> Result<(), NameFault>
+// Refuses a name that stands twice among several.
+fn check_several(alloc: Global, names: &[Name]) -> Result<(), NameFault>
     ensures { Resolves (repeated_names names.now) tt result }
 {
     let mut before = IndexSet::new(alloc);
@@ -19,4 +19,15 @@ pub fn check_repeats(alloc: Global, names: &[Name]) -> Result<(), NameFault>
         before.insert(name)?;
     }
     Ok(())
+}
+
+/// Refuses a name that stands twice.
+#[tactic(auto, using(crate::proofs::RepeatLemmas::few_alone))]
+pub fn check_repeats(alloc: Global, names: &[Name]) -> Result<(), NameFault>
+    ensures { Resolves (repeated_names names.now) tt result }
+{
+    if names.len() < 2 {
+        return Ok(());
+    }
+    check_several(alloc, names)
 }

@@ -188,11 +188,14 @@ impl Part for Act {
     }
 }
 
+// How many bytes a body is given room for at first; few have more.
+const BODY_ROOM: usize = 128;
+
 /// The body of an entry.
 pub fn write_body(alloc: Global, entry: &Entry) -> Result<Vec<u8>, Memory>
     ensures { IfOk result (λ bytes. bytes.items ≡ body entry.now) }
 {
-    let mut out = Vec::new(alloc);
+    let mut out = Vec::with_capacity(alloc, BODY_ROOM)?;
     out.push(act_format(&entry.act))?;
     write_number(entry.seq, &mut out)?;
     write_signed(entry.moment.seconds(), &mut out)?;

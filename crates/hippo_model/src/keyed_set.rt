@@ -187,7 +187,7 @@ impl KeyedSet {
         self.find_values(key.as_slice())
     }
 
-    // The same for a key that is lent.
+    // The place of the row with these values of its key, none exactly where no row has them.
     pub(crate) fn find_values(&self, key: &[Value]) -> Option<usize>
         ensures place { result ≡ find_row self.now.key key.now self.now.rows }
         ensures range { IfSome result (λ place. place < length self.now.rows) }

@@ -37,7 +37,7 @@ pub use query::{
 };
 pub use ranges::Bound;
 pub use row_set::RowSet;
-pub use schema::{Column, ColumnKind, Columns, Names, Places, Schema, Schemas};
+pub use schema::{Column, ColumnKind, Columns, Names, Places, Schema};
 pub use statement::{
     RawAudit, RawColumn, RawColumns, RawCond, RawForm, RawItem, RawItems, RawOperand, RawOut,
     RawOuts, RawSelect, Stmt, Wanted,

@@ -66,7 +66,7 @@ fn changed_parts<O, P: Drop, C: Change<O, P>>(
 ) -> Result<Sequence<CondOf<P>>, Memory>
     ensures { IfOk result (λ made. made ≡ map (changed_operands (C.to change.now)) parts.now) }
 {
-    let mut made = Sequence::new(alloc);
+    let mut made = Sequence::with_capacity(alloc, parts.len())?;
     for part in parts.as_slice() {
         made.push(changed_condition(alloc, part, change)?)?;
     }

@@ -34,8 +34,6 @@ pub struct Schema {
     pub subject: Option<usize>,
 }
 
-pub type Schemas = Sequence<Schema>;
-
 impl Duplicate for Column {
     fn copy(&self, alloc: Global) -> Result<Column, Memory> {
         let name = self.name.copy(alloc)?;

@@ -20,7 +20,7 @@ pub type StoredList = Sequence<StoredEntry>;
 impl Duplicate for StoredEntry {
     fn copy(&self, alloc: Global) -> Result<StoredEntry, Memory> {
         let table = self.table.copy(alloc)?;
-        let body = self.body.copy(alloc)?;
+        let body = Bytes::from_slice(alloc, self.body.as_slice())?;
         Ok(StoredEntry {
             seq: self.seq,
             moment: self.moment,

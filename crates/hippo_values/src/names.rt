@@ -134,10 +134,8 @@ impl Name {
         ensures form { IsTrue (is_name self.now) }
         ensures case { folded self.now ≡ self.now }
     {
-        match str::from_utf8(self.as_bytes()) {
-            Ok(text) => text,
-            Err(_) => unreachable!(),
-        }
+        // SAFETY: A name is ASCII.
+        unsafe { str::from_utf8_unchecked(self.as_bytes()) }
     }
 }
 

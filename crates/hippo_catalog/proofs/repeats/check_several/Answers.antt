@@ -1,7 +1,7 @@
 use Rattle.std.proofs.Common.{ℕ, sym, ◌∙◌, arith, List, refl}
 use Rattle.hippo_values.specs.declared.names.Name.{Name}
 use Rattle.hippo_catalog.proofs.RepeatLemmas.{repeated, not_repeated, kept_more}
-use Rattle.hippo_catalog.proofs.repeats.check_repeats.Goals as goal
+use Rattle.hippo_catalog.proofs.repeats.check_several.Goals as goal
 
 pub returns-then-contains : goal.returns-then-contains
 returns-then-contains c =

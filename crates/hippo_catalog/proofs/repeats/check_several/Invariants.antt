@@ -1,7 +1,7 @@
 use Rattle.std.proofs.Common.{◌≡◌, map, take, drop, Bor}
 use Rattle.hippo_values.specs.declared.names.Name.{Name}
 use Rattle.hippo_catalog.specs.Refusals.{repeated_names, repeated_after}
-use Rattle.hippo_catalog.proofs.repeats.check_repeats.Given as goal
+use Rattle.hippo_catalog.proofs.repeats.check_several.Given as goal
 
 abbrev pub invariant-loop-name : goal.invariant-loop-name
 invariant-loop-name l = record {
