@@ -16,10 +16,12 @@ use Rattle.std.proofs.lemmas.Map.Made.{length-le_from_is_member}
 use Rattle.hippo_model.specs.declared.query.Masked.{Masked}
 use Rattle.hippo_model.specs.Terms.{Place}
 use Rattle.hippo_model.specs.RowSets.{KeyedRows}
+use Rattle.hippo_model.specs.Answers.{product}
 use Rattle.hippo_model.specs.Masking.{Choices, masked_items, masked_answer}
 use Rattle.hippo_eval.specs.Walks.{rows_of}
 use Rattle.hippo_join.specs.Finding.{has_places, IsRising}
 use Rattle.hippo_join.specs.Places.{chosen, places_of, stays, stands}
+use Rattle.hippo_join.specs.Visiting.{AreAll}
 use Rattle.hippo_join.proofs.ProductLemmas.{Below, product-rows, has-places_of, rising-places_of, filter-map, map-map}
 
 total : IsTotalOrder (slice_cmp nat_cmp)
@@ -97,11 +99,16 @@ has_either : (c first : List Place) (test : Bool) (rest : List (List Place)) →
 has_either c first true rest = refl
 has_either c first false rest = refl
 
-has-filter : (p : List Place → Bool) (c : List Place) (some : List (List Place)) → has_places c (filter p some) ≡ (has_places c some && p c)
+pub has-filter : (p : List Place → Bool) (c : List Place) (some : List (List Place)) → has_places c (filter p some) ≡ (has_places c some && p c)
 has-filter p c [] = refl
 has-filter p c (first ∷ some) =
     has_either c first (p first) (filter p some)
     ∙ rw (has-filter p c some) (kept_here (is_eq (slice_cmp nat_cmp c first)) (p first) (has_places c some) (p c) (λ e. ap p (sym (same_places c first e))))
+
+pub same_tests : (a b : Bool) → (a ≡ true → b ≡ true) → (b ≡ true → a ≡ true) → a ≡ b
+same_tests true b there back = sym (there refl)
+same_tests false true there back = back refl
+same_tests false false there back = refl
 
 module _ (choices : Choices) (query : Masked) (sets : List KeyedRows) where
   abbrev counting : List (List Place)
@@ -113,12 +120,18 @@ module _ (choices : Choices) (query : Masked) (sets : List KeyedRows) where
   rising-counting : IsRising counting
   rising-counting = IsStrictlySortedBy-filter (slice_cmp nat_cmp) (λ c. stays choices query (chosen sets c)) (places_of sets) (rising-places_of sets)
 
+  rows-counting : filter (stays choices query) (product (rows_of sets)) ≡ map (chosen sets) counting
+  rows-counting = ap (filter (stays choices query)) (product-rows sets) ∙ filter-map (stays choices query) (chosen sets) (places_of sets)
+
   answer-counting : masked_answer choices query (rows_of sets) ≡ map (λ c. masked_items choices query (chosen sets c)) counting
   unfolding stays
-  answer-counting =
-      ap (λ combinations. map (masked_items choices query) (filter (stays choices query) combinations)) (product-rows sets)
-      ∙ ap (map (masked_items choices query)) (filter-map (stays choices query) (chosen sets) (places_of sets))
-      ∙ map-map (masked_items choices query) (chosen sets) counting
+  answer-counting = ap (map (masked_items choices query)) rows-counting ∙ map-map (masked_items choices query) (chosen sets) counting
+
+  -- all that count, in the order of the product
+  pub rows-in-order : (all : List (List Place)) → AreAll (λ c. stands choices query sets c ≡ true) true all → map (chosen sets) all ≡ filter (stays choices query) (product (rows_of sets))
+  rows-in-order all are =
+      ap (map (chosen sets)) (same_rising all counting (are.rising refl) rising-counting (λ c. same_tests (has_places c all) (stands choices query sets c) (are.sound c) (are.whole c) ∙ sym (has-counting c)))
+      ∙ sym rows-counting
 
   -- what is found in order, and is all that counts, gives the answer
   pub answer-found : (found : List (List Place)) → IsRising found → ((c : List Place) → has_places c found ≡ stands choices query sets c) → map (λ c. masked_items choices query (chosen sets c)) found ≡ masked_answer choices query (rows_of sets)
