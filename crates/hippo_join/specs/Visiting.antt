@@ -1,5 +1,6 @@
 -- A walk over the combinations that count, by their places.
-use Rattle.std.specs.Prelude.{◌≡◌, Bool, true, List, ◌++◌, filter, Option}
+use Rattle.std.specs.Prelude.{◌≡◌, Bool, true, List, ◌++◌, filter, IfOk, Option, Result}
+use Rattle.hippo_values.specs.declared.memory.Memory.{Memory}
 use Rattle.hippo_model.specs.declared.query.Masked.{Masked}
 use Rattle.hippo_model.specs.Terms.{Combination, Place}
 use Rattle.hippo_model.specs.RowSets.{KeyedRows}
@@ -37,3 +38,10 @@ pub record Visited {S : Type 0}
   pub all : List (List Place)
   pub are : AreAll Is in_order all
   pub kept : KeptOn keeps onward before all state
+
+-- where a state kept what was visited before, it keeps the combinations of a kind behind that
+abbrev pub Visits : {S : Type 0} → (List Place → Type 0) → Bool
+    → (List Combination → List (List Place) → S → Type 0) → Result Onward Memory → S → S → Type 0
+Visits Is in_order keeps result old new =
+    (front : List Combination) (before : List (List Place)) → keeps front before old
+    → IfOk result (λ onward. Visited Is in_order (keeps front) onward before new)

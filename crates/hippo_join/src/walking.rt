@@ -8,7 +8,7 @@ ghost use Rattle.hippo_join.specs.Places.{in_range, rows_at, stands};
 ghost use Rattle.hippo_join.specs.Finding.{Covers};
 ghost use Rattle.hippo_join.specs.Stages.{ReachesFrom};
 ghost use Rattle.hippo_join.specs.Walking.{followed, IsWalkable, CanWalk};
-ghost use Rattle.hippo_join.specs.Visiting.{Completes, Visited};
+ghost use Rattle.hippo_join.specs.Visiting.{Completes, Visited, Visits};
 
 use crate::following::{Following, listed};
 use crate::known::is_open;
@@ -119,10 +119,9 @@ impl<'a, C: ChoiceView> Side<'a, C> {
         requires long { length slots.now ≡ length self.now.sets.now }
         requires whole { Covers [] slots.now }
         requires rows { rows.now ≡ rows_at self.now.sets.now slots.now }
-        ensures { (front : List Combination) (before : List (List Place))
-            → V.Keeps visitor.now self.now.sets.now front before state.old → IfOk result (λ onward. Visited (Completes
-            (C.choices self.now.choices.now) self.now.query.now self.now.sets.now slots.now)
-            in_order (V.Keeps visitor.now self.now.sets.now front) onward before state.new) }
+        ensures { Visits
+            (Completes (C.choices self.now.choices.now) self.now.query.now self.now.sets.now slots.now)
+            in_order (V.Keeps visitor.now self.now.sets.now) result state.old state.new }
     {
         if self.counts(slots, rows) {
             visitor.visit(alloc, state, slots, rows)
@@ -151,11 +150,10 @@ impl<'a, C: ChoiceView> Side<'a, C> {
         requires rows { rows.old ≡ rows_at self.now.sets.now slots.old }
         ensures slots { OnOk result (slots.new ≡ slice_set slots.old stage.now.table None) }
         ensures rows { OnOk result (rows.new ≡ rows_at self.now.sets.now slots.new) }
-        ensures kept { (front : List Combination) (before : List (List Place))
-            → V.Keeps visitor.now self.now.sets.now front before state.old → IfOk result (λ onward. Visited (Completes
-            (C.choices self.now.choices.now) self.now.query.now self.now.sets.now
+        ensures kept { Visits
+            (Completes (C.choices self.now.choices.now) self.now.query.now self.now.sets.now
             (slice_set slots.old stage.now.table (Some place)))
-            in_order (V.Keeps visitor.now self.now.sets.now front) onward before state.new) }
+            in_order (V.Keeps visitor.now self.now.sets.now) result state.old state.new }
     {
         slots[stage.table] = Some(place);
         self.renew(rows, slots, stage.table)?;
@@ -192,10 +190,9 @@ impl<'a, C: ChoiceView> Side<'a, C> {
         requires rows { rows.old ≡ rows_at self.now.sets.now slots.old }
         ensures slots { OnOk result (slots.new ≡ slots.old) }
         ensures rows { OnOk result (rows.new ≡ rows_at self.now.sets.now slots.new) }
-        ensures kept { (front : List Combination) (before : List (List Place))
-            → V.Keeps visitor.now self.now.sets.now front before state.old → IfOk result (λ onward. Visited (Completes
-            (C.choices self.now.choices.now) self.now.query.now self.now.sets.now slots.old)
-            in_order (V.Keeps visitor.now self.now.sets.now front) onward before state.new) }
+        ensures kept { Visits
+            (Completes (C.choices self.now.choices.now) self.now.query.now self.now.sets.now slots.old)
+            in_order (V.Keeps visitor.now self.now.sets.now) result state.old state.new }
     {
         if self.tests_hold(tests, slots, rows) {
             self.walk(alloc, rest, in_order, slots, rows, visitor, state)
@@ -222,10 +219,9 @@ impl<'a, C: ChoiceView> Side<'a, C> {
         requires rows { rows.old ≡ rows_at self.now.sets.now slots.old }
         ensures slots { OnOk result (slots.new ≡ slots.old) }
         ensures rows { OnOk result (rows.new ≡ rows_at self.now.sets.now slots.new) }
-        ensures kept { (front : List Combination) (before : List (List Place))
-            → V.Keeps visitor.now self.now.sets.now front before state.old → IfOk result (λ onward. Visited (Completes
-            (C.choices self.now.choices.now) self.now.query.now self.now.sets.now slots.old)
-            in_order (V.Keeps visitor.now self.now.sets.now front) onward before state.new) }
+        ensures kept { Visits
+            (Completes (C.choices self.now.choices.now) self.now.query.now self.now.sets.now slots.old)
+            in_order (V.Keeps visitor.now self.now.sets.now) result state.old state.new }
     {
         let Some((stage, rest)) = stages.split_first() else {
             return self.visit_whole(alloc, in_order, slots, rows, visitor, state);
@@ -260,8 +256,8 @@ impl<'a, C: ChoiceView> Side<'a, C> {
         requires whole { (table : Place) → table < length self.now.sets.now → Contains order.now table }
         requires rises { in_order ≡ true → IsStrictlyIncreasing order.now }
         ensures { (front : List Combination) (before : List (List Place))
-            → V.Keeps visitor.now self.now.sets.now front before state.old → OnOk result (Visited (λ places. stands (C.choices self.now.choices.now) self.now.query.now
-            self.now.sets.now places ≡ true)
+            → V.Keeps visitor.now self.now.sets.now front before state.old → OnOk result (Visited
+            (λ places. stands (C.choices self.now.choices.now) self.now.query.now self.now.sets.now places ≡ true)
             in_order (V.Keeps visitor.now self.now.sets.now front) MoreOn before state.new) }
     {
         let stages = self.stages_in(alloc, order, false)?;
