@@ -5,7 +5,6 @@ use Rattle.std.specs.List.{Contains, All, range_with_len}
 use Rattle.std.specs.List.Sorted.{IsPermutation, IsStrictlyIncreasing}
 use Rattle.std.proofs.lemmas.List.{length-map, take_more}
 use Rattle.std.proofs.lemmas.List.Elements.{All-push}
-use Rattle.std.proofs.lemmas.List.Folds.{list_any-append}
 use Rattle.std.proofs.lemmas.List.FromFn.{get_or-range_with_len, length-range_with_len}
 use Rattle.std.proofs.lemmas.List.Kept.{AllPairs-from_increasing}
 use Rattle.std.proofs.lemmas.List.Sorted.{All-permutation, Contains-permutation}
@@ -26,6 +25,7 @@ use Rattle.hippo_join.specs.Known.{is_chosen, is_open}
 use Rattle.hippo_join.specs.Stages.{AreStages}
 use Rattle.hippo_join.specs.Walking.{IsWalkable, AreWalkable, CanWalk}
 use Rattle.hippo_join.specs.Finding.{has_places, Covers, HasOneMore, AreFound}
+use Rattle.hippo_join.proofs.FoundLemmas.{has-both, or-cases, or-left}
 
 -- a test of places, one table after the other
 pub in_range-drop : (sets : List KeyedRows) (places : List Place) (i : ℕ) (set : KeyedRows) (place : Place) → slice_get sets i ≡ Some set → slice_get places i ≡ Some place → in_range (drop i sets) (drop i places) ≡ (nat_lt place (length set.rows) && in_range (drop (i + 1) sets) (drop (i + 1) places))
@@ -269,36 +269,22 @@ map-more f xs i made more x here y so_far within at same is pushed =
 
 -- ---- places in a set
 module _ (limit : ℕ) (visited : List (List Place)) (found : List (List Place)) (are : AreFound (λ places. has_places places visited ≡ true) limit found) where
-  either : (places : List Place) (some more : List (List Place)) → has_places places (some ++ more) ≡ (has_places places some || has_places places more)
-  either places some more = list_any-append (λ other. is_eq (slice_cmp nat_cmp places other)) some more
-
-  or_right : (a b : Bool) → b ≡ true → (a || b) ≡ true
-  or_right true b e = refl
-  or_right false b e = e
-
-  or_left : (a b : Bool) → a ≡ true → (a || b) ≡ true
-  or_left a b e = ap (λ c. c || b) e
-
   -- there are too many, whatever follows
   pub found-enough : (more : List (List Place)) → limit < length found → AreFound (λ places. has_places places (visited ++ more) ≡ true) limit found
   found-enough more many = record {
-    sound = λ places has. either places visited more ∙ or_left (has_places places visited) (has_places places more) (are.sound places has);
+    sound = λ places has. has-both places visited more ∙ or-left (has_places places visited) (has_places places more) (are.sound places has);
     whole = λ few. absurd (omega (arith, few, many));
   }
 
   -- one combination more
   pub found-more : (places : List Place) (after : List (List Place)) → length found ≤ limit → HasOneMore places found after → AreFound (λ other. has_places other (visited ++ places ∷ []) ≡ true) limit after
   found-more places after few added = record {
-    sound = λ other has. seen other ∙ swapped (is_eq (slice_cmp nat_cmp other places)) (has_places other visited) (or_cases (is_eq (slice_cmp nat_cmp other places)) (has_places other found) (sym (added other) ∙ has)) (are.sound other);
+    sound = λ other has. seen other ∙ swapped (is_eq (slice_cmp nat_cmp other places)) (has_places other visited) (or-cases (is_eq (slice_cmp nat_cmp other places)) (has_places other found) (sym (added other) ∙ has)) (are.sound other);
     whole = λ few_still other has. added other ∙ back (is_eq (slice_cmp nat_cmp other places)) (has_places other visited) (has_places other found) (sym (seen other) ∙ has) (are.whole few other);
   }
     where
-      or_cases : (a b : Bool) → (a || b) ≡ true → (a ≡ true) ⊎ (b ≡ true)
-      or_cases true b e = inl refl
-      or_cases false b e = inr e
-
       seen : (other : List Place) → has_places other (visited ++ places ∷ []) ≡ (has_places other visited || (is_eq (slice_cmp nat_cmp other places) || false))
-      seen other = either other visited (places ∷ [])
+      seen other = has-both other visited (places ∷ [])
 
       swapped : (new old : Bool) {X : Type 0} → (new ≡ true) ⊎ X → (X → old ≡ true) → (old || (new || false)) ≡ true
       swapped new true is sound = refl

@@ -5,13 +5,10 @@ use Rattle.std.specs.List.{All, AllByRecursion, Contains, range_with_len}
 use Rattle.std.specs.List.Sorted.{IsStrictlyIncreasing, IsStrictlySortedBy}
 use Rattle.std.specs.Ordering.{is_eq, nat_cmp}
 use Rattle.std.specs.Cmp.Lexicographic.{slice_cmp}
-use Rattle.std.specs.Cmp.{eq_by_cmp_equiv}
 use Rattle.std.specs.declared.cmp.Ordering.TheVariants.{Less}
 use Rattle.std.proofs.lemmas.Bool.{and_parts, false≢true}
 use Rattle.std.proofs.lemmas.Bool.Decides.{nat_tests}
-use Rattle.std.proofs.lemmas.Cmp.{nat_list_cmp_total}
 use Rattle.std.proofs.lemmas.List.{append-nil, map-append}
-use Rattle.std.proofs.lemmas.List.Folds.{list_any-append}
 use Rattle.std.proofs.lemmas.List.FromFn.{get_or-range_with_len, length-range_with_len}
 use Rattle.std.proofs.lemmas.List.Kept.{AllPairs-from_increasing, IsStrictlySortedBy-filter}
 use Rattle.std.proofs.lemmas.Option.{slice_get-get_or}
@@ -32,7 +29,7 @@ use Rattle.hippo_join.specs.declared.stages.Stage.{Stage}
 use Rattle.hippo_join.specs.Visiting.{Completes, KeptOn, AreAll, Visited}
 use Rattle.hippo_join.proofs.ExistenceLemmas.{Fits-unset, fits-itself, below_or_at, get_or_default}
 use Rattle.hippo_join.proofs.FindingLemmas.{before-chosen, open-unchosen, open-within}
-use Rattle.hippo_join.proofs.FoundLemmas.{has-filter, same_places}
+use Rattle.hippo_join.proofs.FoundLemmas.{has-both, has-filter, has-first, or-cases, or-left, or-right, same_places}
 use Rattle.hippo_join.proofs.ProductLemmas.{Below, rising-append, same-first, has-places_of, rising-places_of}
 use Rattle.hippo_join.proofs.PruneLemmas.{in-range, long-enough}
 use Rattle.hippo_join.proofs.SlotLemmas.{Fits-open, Fits-set, Fits-whole}
@@ -40,17 +37,6 @@ use Rattle.hippo_join.proofs.SlotLemmas.{Fits-open, Fits-set, Fits-whole}
 not_true : (b : Bool) → ¬ (b ≡ true) → b ≡ false
 not_true true no_way = absurd (no_way refl)
 not_true false no_way = refl
-
-or_left : (a b : Bool) → a ≡ true → (a || b) ≡ true
-or_left a b e = ap (λ c. c || b) e
-
-or_right : (a b : Bool) → b ≡ true → (a || b) ≡ true
-or_right true b e = refl
-or_right false b e = e
-
-or_cases : (a b : Bool) → (a || b) ≡ true → (a ≡ true) ⊎ (b ≡ true)
-or_cases true b e = inl refl
-or_cases false b e = inr e
 
 true_or_not : (b : Bool) → (b ≡ true) ⊎ (b ≡ false)
 true_or_not true = inl refl
@@ -70,21 +56,15 @@ module _ {A : Type 0} where
       ] (implied x)
 
 -- ---- lists of places
-has_either : (places : List Place) (some more : List (List Place)) → has_places places (some ++ more) ≡ (has_places places some || has_places places more)
-has_either places some more = list_any-append (λ other. is_eq (slice_cmp nat_cmp places other)) some more
-
-has_first : (places : List Place) (some : List (List Place)) → has_places places (places ∷ some) ≡ true
-has_first places some = or_left (is_eq (slice_cmp nat_cmp places places)) (has_places places some) ((eq_by_cmp_equiv nat_list_cmp_total).refl places)
-
 has_alone : (places other : List Place) → has_places places (other ∷ []) ≡ true → places ≡ other
-has_alone places other has = elim (or_cases (is_eq (slice_cmp nat_cmp places other)) false has) as (λ _. places ≡ other) [
+has_alone places other has = elim (or-cases (is_eq (slice_cmp nat_cmp places other)) false has) as (λ _. places ≡ other) [
   | inl same ↦ same_places places other same
   | inr wrong ↦ absurd (false≢true wrong)
 ]
 
 each_has : (P : List Place → Type 0) (some : List (List Place)) → ((places : List Place) → has_places places some ≡ true → P places) → AllByRecursion P some
 each_has P [] all = tt
-each_has P (first ∷ some) all = (all first (has_first first some), each_has P some (λ places has. all places (or_right (is_eq (slice_cmp nat_cmp places first)) (has_places places some) has)))
+each_has P (first ∷ some) all = (all first (has-first first some), each_has P some (λ places has. all places (or-right (is_eq (slice_cmp nat_cmp places first)) (has_places places some) has)))
 
 rising_both : (some more : List (List Place)) → IsRising some → IsRising more → ((p q : List Place) → has_places p some ≡ true → has_places q more ≡ true → slice_cmp nat_cmp p q ≡ Less) → IsRising (some ++ more)
 rising_both some more a b lower = rising-append some more a b (each_has (λ p. Below p more) some (λ p has. each_has (λ q. slice_cmp nat_cmp p q ≡ Less) more (λ q there. lower p q has there)))
@@ -96,13 +76,13 @@ module _ (in_order : Bool) where
 
   are_both : (P Q : List Place → Type 0) (some more : List (List Place)) → (in_order ≡ true → (p q : List Place) → P p → Q q → slice_cmp nat_cmp p q ≡ Less) → AreAll P in_order some → AreAll Q in_order more → AreAll (λ places. P places ⊎ Q places) in_order (some ++ more)
   are_both P Q some more lower a b = record {
-    sound = λ places has. elim (or_cases (has_places places some) (has_places places more) (sym (has_either places some more) ∙ has)) as (λ _. P places ⊎ Q places) [
+    sound = λ places has. elim (or-cases (has_places places some) (has_places places more) (sym (has-both places some more) ∙ has)) as (λ _. P places ⊎ Q places) [
       | inl left ↦ inl (a.sound places left)
       | inr right ↦ inr (b.sound places right)
     ];
-    whole = λ places is. has_either places some more ∙ (elim is as (λ _. (has_places places some || has_places places more) ≡ true) [
-      | inl left ↦ or_left (has_places places some) (has_places places more) (a.whole places left)
-      | inr right ↦ or_right (has_places places some) (has_places places more) (b.whole places right)
+    whole = λ places is. has-both places some more ∙ (elim is as (λ _. (has_places places some || has_places places more) ≡ true) [
+      | inl left ↦ or-left (has_places places some) (has_places places more) (a.whole places left)
+      | inr right ↦ or-right (has_places places some) (has_places places more) (b.whole places right)
     ]);
     rising = λ asked. rising_both some more (a.rising asked) (b.rising asked) (λ p q has there. lower asked p q (a.sound p has) (b.sound q there));
   }
@@ -115,7 +95,7 @@ module _ (in_order : Bool) where
   unfolding IsStrictlySortedBy
   are_one P places is only = record {
     sound = λ other has. subst P (sym (has_alone other places has)) is;
-    whole = λ other too. subst (λ (one : List Place). has_places one (places ∷ []) ≡ true) (only other too) (has_first places []);
+    whole = λ other too. subst (λ (one : List Place). has_places one (places ∷ []) ≡ true) (only other too) (has-first places []);
     rising = λ asked. (tt, tt);
   }
 
