@@ -1,41 +1,37 @@
 -- Whether some combination counts that has the rows that are chosen.
-use Rattle.std.proofs.Common.{◌≡◌, ℕ, zero, suc, ◌+◌, ◌<◌, ◌≤◌, Bool, true, false, ◌&&◌, List, [], ◌∷◌, map, length, refl, sym, ap, subst, ◌∙◌, Option, Some, None, inl, inr, ◌⊎◌, arith, get_or, unwrap_or}
-use Rattle.std.specs.Prelude.{slice_get, slice_set, Ok}
-use Rattle.std.proofs.lemmas.Bool.{and_parts, false≢true}
-use Rattle.std.proofs.lemmas.Option.{slice_get-get_or}
+use Rattle.std.proofs.Common.{◌≡◌, ℕ, zero, suc, ◌+◌, ◌<◌, Bool, true, false, ◌||◌, List, [], ◌∷◌, ◌++◌, map, length, refl, sym, ap, ◌∙◌, Option, Some, None, ◌⊎◌, arith, get_or, unwrap_or}
+use Rattle.std.specs.Prelude.{slice_set, Ok}
+use Rattle.std.specs.List.{list_any}
+use Rattle.std.specs.Ordering.{is_eq, nat_cmp}
+use Rattle.std.specs.Cmp.Lexicographic.{slice_cmp}
+use Rattle.std.specs.Cmp.{eq_by_cmp_equiv}
+use Rattle.std.proofs.lemmas.Bool.{false≢true}
+use Rattle.std.proofs.lemmas.Cmp.{nat_list_cmp_total}
+use Rattle.std.proofs.lemmas.List.Folds.{Any-from_list_any, list_any-append, list_any_at}
 use Rattle.hippo_model.specs.declared.query.Expr.{Expr}
 use Rattle.hippo_model.specs.declared.query.Masked.{Masked}
-use Rattle.hippo_model.specs.Terms.{Combination, Place}
+use Rattle.hippo_model.specs.Terms.{Place}
 use Rattle.hippo_model.specs.RowSets.{KeyedRows}
 use Rattle.hippo_model.specs.Masking.{Choices}
-use Rattle.hippo_join.specs.Places.{Fits, rows_at, chosen, stands}
+use Rattle.hippo_join.specs.Places.{Fits, chosen}
 use Rattle.hippo_join.specs.Known.{is_chosen}
-use Rattle.hippo_join.specs.Finding.{Covers}
-use Rattle.hippo_join.specs.Stages.{ReachesFrom}
+use Rattle.hippo_join.specs.Finding.{Covers, has_places}
+use Rattle.hippo_join.specs.Visiting.{AreAll, Completes}
 use Rattle.hippo_join.specs.Existence.{are_shown, HasOne, Decides}
-use Rattle.hippo_join.proofs.SlotLemmas.{Fits-set, Fits-whole}
-use Rattle.hippo_join.proofs.PruneLemmas.{long-enough}
 use Rattle.hippo_join.proofs.FindingLemmas.{whole-chosen, covered-whole}
+use Rattle.hippo_join.proofs.FoundLemmas.{same_places}
 
 pub decided : (fact : Type 0) (answer : Bool) → (answer ≡ true → fact) → (answer ≡ false → ¬ fact) → Decides fact (Ok answer)
 decided fact true so not = so refl
 decided fact false so not = not refl
 
-pub told-so : (fact : Type 0) (answer : Bool) → Decides fact (Ok answer) → answer ≡ true → fact
-told-so fact true told is = told
-told-so fact false told is = absurd (false≢true is)
-
-pub told-not : (fact : Type 0) (answer : Bool) → Decides fact (Ok answer) → answer ≡ false → ¬ fact
-told-not fact true told is = absurd (false≢true (sym is))
-told-not fact false told is = told
-
 -- where no stage is left, each row is chosen
 pub all-chosen : (slots : List (Option Place)) (places : List Place) → Covers [] slots → places ≡ map (λ slot. unwrap_or slot 0) slots → slots ≡ map Some places
 all-chosen slots places covers is = whole-chosen slots (covered-whole slots covers) ∙ ap (map Some) (sym is)
 
-fits_itself : (places : List Place) → Fits (map Some places) places
-fits_itself [] = tt
-fits_itself (place ∷ places) = (refl, fits_itself places)
+pub fits-itself : (places : List Place) → Fits (map Some places) places
+fits-itself [] = tt
+fits-itself (place ∷ places) = (refl, fits-itself places)
 
 -- a place that is not chosen any more
 pub Fits-unset : (slots : List (Option Place)) (places : List Place) (table place : Place) → is_chosen slots table ≡ false → Fits (slice_set slots table (Some place)) places → Fits slots places
@@ -55,48 +51,42 @@ get_or_default [] k d e within = absurd (omega arith)
 get_or_default (x ∷ xs) zero d e within = refl
 get_or_default (x ∷ xs) (suc k) d e within = get_or_default xs k d e (omega arith)
 
-module _ (choices : Choices) (query : Masked) (seen : List Expr) (sets : List KeyedRows) where
-  -- where each row is chosen, there is one combination to be tested
-  pub one-chosen : (slots : List (Option Place)) (places : List Place) (rows : Combination) (answer : Bool) → slots ≡ map Some places → rows ≡ rows_at sets slots → answer ≡ (stands choices query sets places && are_shown choices seen rows)
-      → Decides (HasOne choices query seen sets slots) (Ok answer)
-  one-chosen slots places rows answer whole is_rows is =
-      let these : rows ≡ chosen sets places = is_rows ∙ ap (rows_at sets) whole in
-      decided (HasOne choices query seen sets slots) answer
-      (λ yes. let both = and_parts (stands choices query sets places) (are_shown choices seen rows) (sym is ∙ yes) in record {
-        places = places;
-        fits = subst (λ (s : List (Option Place)). Fits s places) (sym whole) (fits_itself places);
-        counts = both.0;
-        shows = sym (ap (are_shown choices seen) these) ∙ both.1;
-      })
-      (λ not_so one.
-      let same : places ≡ one.places = Fits-whole slots one.places places whole one.fits in
-      let counted : stands choices query sets places ≡ true = ap (stands choices query sets) same ∙ one.counts in
-      let shown : are_shown choices seen rows ≡ true = ap (are_shown choices seen) (these ∙ ap (chosen sets) same) ∙ one.shows in
-      false≢true (sym not_so ∙ is ∙ (λ i. counted i && shown i)))
+-- whether some of those that were visited pass a test
+pub any-of : (test : List Place → Bool) (some : List (List Place)) → list_any test some ≡ true → (places : List Place) × (has_places places some ≡ true) × (test places ≡ true)
+any-of test some any =
+    let one = Any-from_list_any test some any in
+    let at : get_or some one.0 one.1 ≡ one.1 = one.3 in (
+      one.1,
+      list_any_at (λ other. is_eq (slice_cmp nat_cmp one.1 other)) some one.0 one.1 one.2 (ap (λ (other : List Place). is_eq (slice_cmp nat_cmp one.1 other)) at ∙ (eq_by_cmp_equiv nat_list_cmp_total).refl one.1),
+      one.4,
+    )
 
-  -- with one row less that is chosen
-  pub one-unset : (slots : List (Option Place)) (table place : Place) → is_chosen slots table ≡ false → HasOne choices query seen sets (slice_set slots table (Some place)) → HasOne choices query seen sets slots
-  one-unset slots table place unchosen one = record { places = one.places; fits = Fits-unset slots one.places table place unchosen one.fits; counts = one.counts; shows = one.shows }
+pub any-has : (test : List Place → Bool) (some : List (List Place)) (places : List Place) → has_places places some ≡ true → test places ≡ true → list_any test some ≡ true
+any-has test some places has passes =
+    let one = Any-from_list_any (λ other. is_eq (slice_cmp nat_cmp places other)) some has in
+    let at : get_or some one.0 one.1 ≡ one.1 = one.3 in
+    list_any_at test some one.0 one.1 one.2 (ap test (at ∙ sym (same_places places one.1 one.4)) ∙ passes)
 
-  pub one-set : (slots : List (Option Place)) (table place : Place) → (one : HasOne choices query seen sets slots) → slice_get one.places table ≡ Some place → HasOne choices query seen sets (slice_set slots table (Some place))
-  one-set slots table place one at = record { places = one.places; fits = Fits-set slots one.places table place one.fits at; counts = one.counts; shows = one.shows }
+-- what is found among all that count and have the rows that are chosen
+pub one-found : (choices : Choices) (query : Masked) (seen : List Expr) (sets : List KeyedRows) (slots : List (Option Place)) (in_order : Bool) (all : List (List Place)) (found : Bool) → AreAll (Completes choices query sets slots) in_order all
+    → found ≡ list_any (λ places. are_shown choices seen (chosen sets places)) all → Decides (HasOne choices query seen sets slots) (Ok found)
+one-found choices query seen sets slots in_order all found are is =
+    decided (HasOne choices query seen sets slots) found
+    (λ yes. let one = any-of (λ places. are_shown choices seen (chosen sets places)) all (sym is ∙ yes) in let counts = are.sound one.0 one.1 in record { places = one.0; fits = counts.0; counts = counts.1; shows = one.2 })
+    (λ not_so one. false≢true (sym not_so ∙ is ∙ any-has (λ places. are_shown choices seen (chosen sets places)) all one.places (are.whole one.places (one.fits, one.counts)) one.shows))
 
-  -- where nothing counts that has the rows that are chosen
-  pub none-may : (slots : List (Option Place)) (may : Bool) → may ≡ false → ((places : List Place) → Fits slots places → stands choices query sets places ≡ true → may ≡ true) → ¬ HasOne choices query seen sets slots
-  none-may slots may not_may all one = false≢true (sym not_may ∙ all one.places one.fits one.counts)
+-- one more that was visited, which passes or does not
+module _ (test : List Place → Bool) (before : List (List Place)) (places : List Place) where
+  pub any-there : (later : List (List Place)) → test places ≡ true → true ≡ list_any test (before ++ places ∷ [] ++ later)
+  any-there later passes = sym (list_any-append test (before ++ places ∷ []) later ∙ ap (λ b. b || list_any test later) (list_any-append test before (places ∷ []) ∙ last (list_any test before) (test places) passes))
+    where
+      last : (old new : Bool) → new ≡ true → (old || (new || false)) ≡ true
+      last true new e = refl
+      last false new e = ap (λ b. b || false) e
 
-  pub none-so-far : (slots : List (Option Place)) (table : Place) (some : List Place) (i : ℕ) → ¬ HasOne choices query seen sets (slice_set slots table (Some (get_or some i 0)))
-      → ((k : ℕ) → k < i → ¬ HasOne choices query seen sets (slice_set slots table (Some (get_or some k 0)))) → (k : ℕ) → k < i + 1 → ¬ HasOne choices query seen sets (slice_set slots table (Some (get_or some k 0)))
-  none-so-far slots table some i not_here so_far k lower one = elim (below_or_at k i lower) as (λ _. ⊥) [
-    | inl earlier ↦ so_far k earlier one
-    | inr here ↦ not_here (subst (λ (j : ℕ). HasOne choices query seen sets (slice_set slots table (Some (get_or some j 0)))) here one)
-  ]
-
-  -- all places of a stage's were tried
-  pub none-tried : (slots : List (Option Place)) (table : Place) (some : List Place) (i : ℕ) → table < length sets → length some ≤ i → ReachesFrom choices query sets slots table some
-      → ((k : ℕ) → k < i → ¬ HasOne choices query seen sets (slice_set slots table (Some (get_or some k 0)))) → ¬ HasOne choices query seen sets slots
-  none-tried slots table some i within past reaches so_far one =
-      let long = long-enough choices query sets one.places one.counts in
-      let at = slice_get-get_or one.places table 0 (omega (arith, long)) in
-      let has = reaches one.places one.fits one.counts (get_or one.places table 0) at in
-      so_far has.0 (omega (arith, has.1)) (one-set slots table (get_or some has.0 0) one (at ∙ ap Some (sym (get_or_default some has.0 (get_or one.places table 0) 0 has.1 ∙ has.2))))
+  pub any-not : test places ≡ false → list_any test before ≡ list_any test (before ++ places ∷ [])
+  any-not fails = sym (list_any-append test before (places ∷ []) ∙ last (list_any test before) (test places) fails)
+    where
+      last : (old new : Bool) → new ≡ false → (old || (new || false)) ≡ old
+      last true new e = refl
+      last false new e = ap (λ b. b || false) e

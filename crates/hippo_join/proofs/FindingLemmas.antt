@@ -1,35 +1,31 @@
 -- What is found while a join goes on.
-use Rattle.std.proofs.Common.{◌≡◌, ℕ, zero, suc, ◌+◌, ◌<◌, ◌≤◌, Bool, true, false, ◌&&◌, ◌||◌, cond, List, [], ◌∷◌, map, length, drop, nat_lt, refl, sym, ap, subst, ◌∙◌, Option, Some, None, unwrap_or, inl, inr, ◌⊎◌, arith, add-one, get_or, length-set, take, ◌++◌, replicate, zero-add}
-use Rattle.std.specs.Prelude.{slice_get, slice_set, Result, Ok, Err, OnOk}
+use Rattle.std.proofs.Common.{◌≡◌, ℕ, zero, suc, ◌+◌, ◌<◌, ◌≤◌, Bool, true, false, ◌&&◌, ◌||◌, cond, List, [], ◌∷◌, map, length, drop, nat_lt, refl, sym, ap, subst, ◌∙◌, Option, Some, None, unwrap_or, inl, inr, ◌⊎◌, arith, add-one, get_or, length-set, take, ◌++◌, zero-add}
+use Rattle.std.specs.Prelude.{slice_get, slice_set}
 use Rattle.std.specs.List.{Contains, All, range_with_len}
-use Rattle.std.specs.List.Sorted.{IsPermutation}
-use Rattle.std.proofs.lemmas.List.{take_more}
+use Rattle.std.specs.List.Sorted.{IsPermutation, IsStrictlyIncreasing}
+use Rattle.std.proofs.lemmas.List.{length-map, take_more}
 use Rattle.std.proofs.lemmas.List.Elements.{All-push}
 use Rattle.std.proofs.lemmas.List.FromFn.{get_or-range_with_len, length-range_with_len}
+use Rattle.std.proofs.lemmas.List.Kept.{AllPairs-from_increasing}
 use Rattle.std.proofs.lemmas.List.Sorted.{All-permutation, Contains-permutation}
 use Rattle.std.specs.Ordering.{is_eq, nat_cmp}
 use Rattle.std.specs.Cmp.Lexicographic.{slice_cmp}
 use Rattle.std.specs.Cmp.{eq_by_cmp_equiv}
 use Rattle.std.proofs.lemmas.Cmp.{nat_list_cmp_total}
-use Rattle.std.specs.declared.cmp.Ordering.TheVariants.{Less, Equal, Greater}
 use Rattle.std.proofs.lemmas.Bool.{false≢true}
 use Rattle.std.proofs.lemmas.Bool.Decides.{nat_tests}
 use Rattle.std.proofs.lemmas.Option.{slice_get-get_or}
-use Rattle.std.proofs.lemmas.Map.Lookups.{exact_bytes}
 use Rattle.hippo_model.specs.declared.query.Masked.{Masked}
 use Rattle.hippo_model.specs.Terms.{Combination, Place}
 use Rattle.hippo_model.specs.RowSets.{KeyedRows}
 use Rattle.hippo_model.specs.Masking.{Choices, is_guarded, masked_passes}
-use Rattle.hippo_eval.specs.declared.answers.EvalFault.{EvalFault}
-use Rattle.hippo_eval.specs.declared.answers.EvalFault.TheVariants.{TooManyRows, Memory}
 use Rattle.hippo_join.specs.declared.stages.Stage.{Stage}
-use Rattle.hippo_join.specs.Places.{Fits, chosen, in_range, stays, stands}
+use Rattle.hippo_join.specs.Places.{chosen, in_range, stays, stands}
 use Rattle.hippo_join.specs.Known.{is_chosen, is_open}
-use Rattle.hippo_join.specs.Stages.{ReachesFrom, AreStages}
+use Rattle.hippo_join.specs.Stages.{AreStages}
 use Rattle.hippo_join.specs.Walking.{IsWalkable, AreWalkable, CanWalk}
-use Rattle.hippo_join.specs.Finding.{has_places, Covers, AllCount, Grows, IsFound, HasOneMore, IsAdded}
-use Rattle.hippo_join.proofs.SlotLemmas.{Fits-open, Fits-set, Fits-whole}
-use Rattle.hippo_join.proofs.PruneLemmas.{long-enough}
+use Rattle.hippo_join.specs.Finding.{has_places, Covers, HasOneMore, AreFound}
+use Rattle.hippo_join.proofs.FoundLemmas.{has-both, or-cases, or-left}
 
 -- a test of places, one table after the other
 pub in_range-drop : (sets : List KeyedRows) (places : List Place) (i : ℕ) (set : KeyedRows) (place : Place) → slice_get sets i ≡ Some set → slice_get places i ≡ Some place → in_range (drop i sets) (drop i places) ≡ (nat_lt place (length set.rows) && in_range (drop (i + 1) sets) (drop (i + 1) places))
@@ -64,65 +60,23 @@ in-range-more sets places i set at within below =
     let test : nat_lt (get_or places i 0) (length set.rows) ≡ true = grind (arith, nat_tests) in
     in_range-drop sets places i set (get_or places i 0) at (slice_get-get_or places i 0 within) ∙ ap (λ b. b && in_range (drop (i + 1) sets) (drop (i + 1) places)) test
 
-module _ (choices : Choices) (query : Masked) (sets : List KeyedRows) where
-  pub counts-is : (places : List Place) (rows : Combination) (result : Bool) → in_range sets places ≡ true → rows ≡ chosen sets places → result ≡ (is_guarded choices query rows && masked_passes choices query rows) → result ≡ stands choices query sets places
-  unfolding stays
-  counts-is places rows result within same is = is ∙ ap (stays choices query) same ∙ sym (ap (λ b. b && stays choices query (chosen sets places)) within)
+-- a place that is chosen, where all are
+pub chosen-place : (slots : List (Option Place)) (places : List Place) (i : ℕ) (d : Option Place) → slots ≡ map Some places → i < length slots → unwrap_or (get_or slots i d) 0 ≡ get_or places i 0
+chosen-place slots places i d whole within = ap (λ (s : List (Option Place)). unwrap_or (get_or s i d) 0) whole ∙ at places i (omega (arith, within, ap length whole, length-map places Some))
+  where
+    at : (places : List Place) (i : ℕ) → i < length places → unwrap_or (get_or (map Some places) i d) 0 ≡ get_or places i 0
+    at [] i within = absurd (omega arith)
+    at (place ∷ places) zero within = refl
+    at (place ∷ places) (suc i) within = at places i (omega arith)
 
-  or_right : (a b : Bool) → b ≡ true → (a || b) ≡ true
-  or_right true b e = refl
-  or_right false b e = e
+pub counts-is : (choices : Choices) (query : Masked) (sets : List KeyedRows) (places : List Place) (rows : Combination) (result : Bool) → in_range sets places ≡ true → rows ≡ chosen sets places → result ≡ (is_guarded choices query rows && masked_passes choices query rows)
+    → result ≡ stands choices query sets places
+unfolding stays
+counts-is choices query sets places rows result within same is = is ∙ ap (stays choices query) same ∙ sym (ap (λ b. b && stays choices query (chosen sets places)) within)
 
-  or_left : (a b : Bool) → a ≡ true → (a || b) ≡ true
-  or_left a b e = ap (λ c. c || b) e
-
-  or_cases : (a b : Bool) → (a || b) ≡ true → (a ≡ true) ⊎ (b ≡ true)
-  or_cases true b e = inl refl
-  or_cases false b e = inr e
-
-  same_places : (c d : List Place) → is_eq (slice_cmp nat_cmp c d) ≡ true → c ≡ d
-  same_places c d same = elim (slice_cmp nat_cmp c d) as (λ o. slice_cmp nat_cmp c d ≡ o → is_eq o ≡ true → c ≡ d) [
-    | Less ↦ λ e wrong. absurd (false≢true wrong)
-    | Equal ↦ λ e right. exact_bytes c d e
-    | Greater ↦ λ e wrong. absurd (false≢true wrong)
-  ] refl same
-
-  grows_by : (places : List Place) (before after : List (List Place)) → stands choices query sets places ≡ true → HasOneMore places before after → Grows choices query sets before after
-  grows_by places before after counts added = record {
-    keeps = λ other had. added other ∙ or_right (is_eq (slice_cmp nat_cmp other places)) (has_places other before) had;
-    sound = λ all other has. elim (or_cases (is_eq (slice_cmp nat_cmp other places)) (has_places other before) (sym (added other) ∙ has)) as (λ _. stands choices query sets other ≡ true) [
-      | inl same ↦ ap (stands choices query sets) (same_places other places same) ∙ counts
-      | inr had ↦ all other had
-    ];
-  }
-
-  pub Grows-refl : (some : List (List Place)) → Grows choices query sets some some
-  Grows-refl some = record { keeps = λ places had. had; sound = λ all. all }
-
-  pub Grows-trans : (some more most : List (List Place)) → Grows choices query sets some more → Grows choices query sets more most → Grows choices query sets some most
-  Grows-trans some more most a b = record { keeps = λ places had. b.keeps places (a.keeps places had); sound = λ all. b.sound (a.sound all) }
-
-  grows_same : (before after : List (List Place)) → after ≡ before → Grows choices query sets before after
-  grows_same before after same = subst (λ (l : List (List Place)). Grows choices query sets before l) (sym same) (Grows-refl before)
-
-  -- one combination more, that counts
-  pub grows-added : (places : List Place) (limit : ℕ) (before after : List (List Place)) (result : Result (Unit {0}) EvalFault) → stands choices query sets places ≡ true → IsAdded places limit before after result → Grows choices query sets before after
-  grows-added places limit before after (Ok done) counts added = grows_by places before after counts added
-  grows-added places limit before after (Err TooManyRows) counts added = grows_by places before after counts added.0
-  grows-added places limit before after (Err Memory) counts added = grows_same before after added
-
-  pub found-added : (slots : List (Option Place)) (places : List Place) (limit : ℕ) (before after : List (List Place)) (result : Result (Unit {0}) EvalFault) → slots ≡ map Some places → IsAdded places limit before after result → IsFound choices query sets slots limit after result
-  found-added slots places limit before after (Ok done) whole added = λ other fits counts.
-      let one : places ≡ other = Fits-whole slots other places whole fits in
-      subst (λ (c : List Place). has_places c after ≡ true) one (added places ∙ or_left (is_eq (slice_cmp nat_cmp places places)) (has_places places before) ((eq_by_cmp_equiv nat_list_cmp_total).refl places))
-  found-added slots places limit before after (Err TooManyRows) whole added = added.1
-  found-added slots places limit before after (Err Memory) whole added = tt
-
-  -- where the one combination that fits does not count, nothing is to be found
-  pub found-none : (slots : List (Option Place)) (places : List Place) (limit : ℕ) (found : List (List Place)) → slots ≡ map Some places → stands choices query sets places ≡ false → IsFound choices query sets slots limit found (Ok tt)
-  found-none slots places limit found whole not_counts = λ other fits counts.
-      let one : places ≡ other = Fits-whole slots other places whole fits in
-      absurd (false≢true (sym not_counts ∙ ap (stands choices query sets) one ∙ counts))
+pub places-back : (places : List Place) → map (λ slot. unwrap_or slot 0) (map Some places) ≡ places
+places-back [] = refl
+places-back (place ∷ places) = ap (λ l. place ∷ l) (places-back places)
 
 -- where each row is chosen, the slots are the places
 pub whole-chosen : (slots : List (Option Place)) → ((table : Place) → table < length slots → is_chosen slots table ≡ true) → slots ≡ map Some (map (λ slot. unwrap_or slot 0) slots)
@@ -206,41 +160,20 @@ unchosen-same (None ∷ slots) zero none = refl
 unchosen-same (Some place ∷ slots) zero none = absurd (false≢true (sym none))
 unchosen-same (slot ∷ slots) (suc table) none = ap (λ l. slot ∷ l) (unchosen-same slots table none)
 
-module _ (choices : Choices) (query : Masked) (sets : List KeyedRows) where
-  -- a place more of a stage's was tried
-  pub so-far-more : (slots : List (Option Place)) (table : Place) (some : List Place) (i : ℕ) (before after : List (List Place)) → Grows choices query sets before after
-      → ((places : List Place) → Fits (slice_set slots table (Some (get_or some i 0))) places → stands choices query sets places ≡ true → has_places places after ≡ true)
-      → ((places : List Place) → Fits slots places → stands choices query sets places ≡ true → (k : ℕ) → k < i → slice_get places table ≡ Some (get_or some k 0) → has_places places before ≡ true)
-      → (places : List Place) → Fits slots places → stands choices query sets places ≡ true → (k : ℕ) → k < i + 1 → slice_get places table ≡ Some (get_or some k 0) → has_places places after ≡ true
-  so-far-more slots table some i before after grows found so_far places fits counts k lower at =
-      elim (below_or_at k i lower) as (λ _. has_places places after ≡ true) [
-        | inl earlier ↦ grows.keeps places (so_far places fits counts k earlier at)
-        | inr here ↦
-            let at_i : slice_get places table ≡ Some (get_or some i 0) = at ∙ ap (λ j. Some (get_or some j 0)) here in
-            found places (Fits-set slots places table (get_or some i 0) fits at_i) counts
-      ]
-    where
-      below_or_at : (k n : ℕ) → k < n + 1 → (k < n) ⊎ (k ≡ n)
-      below_or_at k n lower = grind arith
+-- the numbers behind the first of those that rise
+rises_rest : (first : ℕ) (rest : List ℕ) → IsStrictlyIncreasing (first ∷ rest) → IsStrictlyIncreasing rest
+rises_rest first rest rising k within = let further : suc k + 1 ≡ suc (k + 1) = omega arith in rw further at (rising (suc k) (omega (arith, within)))
 
-  -- all places of a stage's were tried
-  pub all-tried : (slots : List (Option Place)) (table : Place) (some : List Place) (i : ℕ) (found : List (List Place)) → table < length sets → length some ≤ i → ReachesFrom choices query sets slots table some
-      → ((places : List Place) → Fits slots places → stands choices query sets places ≡ true → (k : ℕ) → k < i → slice_get places table ≡ Some (get_or some k 0) → has_places places found ≡ true)
-      → (places : List Place) → Fits slots places → stands choices query sets places ≡ true → has_places places found ≡ true
-  all-tried slots table some i found within past reaches so_far places fits counts =
-      let long = long-enough choices query sets places counts in
-      let at = slice_get-get_or places table 0 (omega (arith, long)) in
-      let has = reaches places fits counts (get_or places table 0) at in
-      so_far places fits counts has.0 (omega (arith, has.1)) (at ∙ ap Some (sym (get_or_default some has.0 (get_or places table 0) 0 has.1 ∙ has.2)))
-    where
-      get_or_default : (xs : List ℕ) (k d e : ℕ) → k < length xs → get_or xs k e ≡ get_or xs k d
-      get_or_default [] k d e within = absurd (omega arith)
-      get_or_default (x ∷ xs) zero d e within = refl
-      get_or_default (x ∷ xs) (suc k) d e within = get_or_default xs k d e (omega arith)
+pub first-lowest : (first : ℕ) (rest : List ℕ) → IsStrictlyIncreasing (first ∷ rest) → (other : ℕ) → Contains (first ∷ rest) other → first ≤ other
+first-lowest first rest rising other has = by_index has.0 has.1 has.2
+  where
+    by_index : (k : ℕ) → k < suc (length rest) → get_or (first ∷ rest) k other ≡ other → first ≤ other
+    by_index zero within at = omega (arith, at)
+    by_index (suc k) within at = let above = AllPairs-from_increasing (first ∷ rest) rising 0 (suc k) other (omega arith) within in omega (arith, above, at)
 
-  -- where nothing that counts has the rows that are chosen
-  pub nothing-fits : (slots : List (Option Place)) (limit : ℕ) (found : List (List Place)) (may : Bool) → may ≡ false → ((places : List Place) → Fits slots places → stands choices query sets places ≡ true → may ≡ true) → IsFound choices query sets slots limit found (Ok tt)
-  nothing-fits slots limit found may not_may all = λ places fits counts. absurd (false≢true (sym not_may ∙ all places fits counts))
+-- a place that was chosen, and is not any more
+pub put-back : (slots now after : List (Option Place)) (table : Place) → is_open slots table ≡ true → now ≡ slots → after ≡ slice_set now table None → after ≡ slots
+put-back slots now after table still same is = is ∙ ap (λ (s : List (Option Place)). slice_set s table None) same ∙ unchosen-same slots table (open-unchosen slots table still)
 
 -- the first of some stages, and the others
 pub all-first : {X : Type 0} (P : X → Type 0) (xs : List X) (x : X) (rest : List X) → All P xs → xs ≡ x ∷ rest → P x
@@ -255,11 +188,6 @@ covers-first stages stage rest slots covers is = let P : List Stage → Type 0 =
 map_push : {A B : Type 0} (f : A → B) (xs : List A) (x : A) → map f (xs ++ x ∷ []) ≡ map f xs ++ f x ∷ []
 map_push f [] x = refl
 map_push f (y ∷ xs) x = ap (λ l. f y ∷ l) (map_push f xs x)
-
-same_tests : (a b : Bool) → (a ≡ true → b ≡ true) → (b ≡ true → a ≡ true) → a ≡ b
-same_tests true b there back = sym (there refl)
-same_tests false true there back = back refl
-same_tests false false there back = refl
 
 module _ (choices : Choices) (query : Masked) (sets : List KeyedRows) where
   covers-all : (order : List Place) (stages : List Stage) (slots : List (Option Place)) → map (λ stage. stage.table) stages ≡ order → length slots ≡ length sets → ((table : Place) → table < length sets → Contains order table) → Covers stages slots
@@ -284,40 +212,48 @@ module _ (choices : Choices) (query : Masked) (sets : List KeyedRows) where
   }
 
   -- at the beginning of a walk
-  pub walk-all : (order : List Place) (stages here : List Stage) (slots : List (Option Place)) → AreWalkable choices query sets false order stages → here ≡ stages → length slots ≡ length sets → ((table : Place) → table < length sets → Contains order table) → CanWalk choices query sets here slots
-  walk-all order stages here slots are same long whole = record {
+  pub walk-all : (in_order : Bool) (order : List Place) (stages here : List Stage) (slots : List (Option Place)) → AreWalkable choices query sets false order stages → here ≡ stages → length slots ≡ length sets → ((table : Place) → table < length sets → Contains order table)
+      → (in_order ≡ true → IsStrictlyIncreasing order) → CanWalk choices query sets in_order here slots
+  walk-all in_order order stages here slots are same long whole rises = record {
     long = long;
     walkable = subst (λ l. All (IsWalkable choices query sets) l) (sym same) (λ k d within. (are.each k d within).0);
     covers = covers-all order here slots (ap (λ (l : List Stage). map (λ s. s.table) l) same ∙ are.tables) long whole;
+    rises = λ asked. subst IsStrictlyIncreasing (sym (ap (λ (l : List Stage). map (λ s. s.table) l) same ∙ are.tables)) (rises asked);
   }
 
-  -- behind the first stage
-  pub walk-first : (stages : List Stage) (stage : Stage) (rest : List Stage) (slots now : List (Option Place)) → CanWalk choices query sets stages slots → stages ≡ stage ∷ rest → now ≡ slots → CanWalk choices query sets (stage ∷ rest) now
-  walk-first stages stage rest slots now can first same =
-      subst (λ (s : List (Option Place)). CanWalk choices query sets (stage ∷ rest) s) (sym same) (subst (λ (l : List Stage). CanWalk choices query sets l slots) first can)
+  module _ (in_order : Bool) where
+    -- behind the first stage
+    pub walk-first : (stages : List Stage) (stage : Stage) (rest : List Stage) (slots now : List (Option Place)) → CanWalk choices query sets in_order stages slots → stages ≡ stage ∷ rest → now ≡ slots → CanWalk choices query sets in_order (stage ∷ rest) now
+    walk-first stages stage rest slots now can first same =
+        subst (λ (s : List (Option Place)). CanWalk choices query sets in_order (stage ∷ rest) s) (sym same) (subst (λ (l : List Stage). CanWalk choices query sets in_order l slots) first can)
 
-  pub walk-closed : (stages : List Stage) (stage : Stage) (rest : List Stage) (slots : List (Option Place)) → CanWalk choices query sets stages slots → stages ≡ stage ∷ rest → is_open slots stage.table ≡ false → CanWalk choices query sets rest slots
-  walk-closed stages stage rest slots can first closed =
-      let whole = walk-first stages stage rest slots slots can first refl in
-      record { long = whole.long; walkable = all-rest (IsWalkable choices query sets) stages stage rest can.walkable first; covers = covers-closed stage rest slots whole.covers closed }
+    pub walk-closed : (stages : List Stage) (stage : Stage) (rest : List Stage) (slots : List (Option Place)) → CanWalk choices query sets in_order stages slots → stages ≡ stage ∷ rest → is_open slots stage.table ≡ false → CanWalk choices query sets in_order rest slots
+    walk-closed stages stage rest slots can first closed =
+        let whole = walk-first stages stage rest slots slots can first refl in
+        record {
+          long = whole.long;
+          walkable = all-rest (IsWalkable choices query sets) stages stage rest can.walkable first;
+          covers = covers-closed stage rest slots whole.covers closed;
+          rises = λ asked. rises_rest stage.table (map (λ s. s.table) rest) (whole.rises asked);
+        }
 
-  pub walk-chosen : (stage : Stage) (rest : List Stage) (slots : List (Option Place)) (place : Place) → CanWalk choices query sets (stage ∷ rest) slots → stage.table < length slots → CanWalk choices query sets rest (slice_set slots stage.table (Some place))
-  walk-chosen stage rest slots place can within = record {
-    long = let long = can.long in simp length-set long;
-    walkable = all-rest (IsWalkable choices query sets) (stage ∷ rest) stage rest can.walkable refl;
-    covers = covers-more stage rest slots place can.covers within;
-  }
+    pub walk-chosen : (stage : Stage) (rest : List Stage) (slots : List (Option Place)) (place : Place) → CanWalk choices query sets in_order (stage ∷ rest) slots → stage.table < length slots → CanWalk choices query sets in_order rest (slice_set slots stage.table (Some place))
+    walk-chosen stage rest slots place can within = record {
+      long = let long = can.long in simp length-set long;
+      walkable = all-rest (IsWalkable choices query sets) (stage ∷ rest) stage rest can.walkable refl;
+      covers = covers-more stage rest slots place can.covers within;
+      rises = λ asked. rises_rest stage.table (map (λ s. s.table) rest) (can.rises asked);
+    }
 
-  pub none-count : (some : List (List Place)) → some ≡ [] → AllCount choices query sets some
-  none-count some none places has = absurd (false≢true (sym (ap (has_places places) none) ∙ has))
-
-  -- at the end exactly what counts was found
-  pub found-exact : (slots : List (Option Place)) (limit : ℕ) (found : List (List Place)) (result : Result (Unit {0}) EvalFault) → slots ≡ replicate (length sets) None → AllCount choices query sets found → IsFound choices query sets slots limit found result
-      → OnOk result ((places : List Place) → has_places places found ≡ stands choices query sets places)
-  found-exact slots limit found (Ok done) unchosen sound all = λ places.
-      same_tests (has_places places found) (stands choices query sets places) (sound places) (λ counts.
-      all places (subst (λ (s : List (Option Place)). Fits s places) (sym unchosen) (Fits-open places (length sets) (long-enough choices query sets places counts))) counts)
-  found-exact slots limit found (Err stop) unchosen sound all = tt
+    -- in the order of FROM the rows of all tables before an open stage's are chosen
+    pub before-chosen : (stages : List Stage) (stage : Stage) (rest : List Stage) (slots : List (Option Place)) → CanWalk choices query sets in_order stages slots → stages ≡ stage ∷ rest → stage.table < length slots
+        → in_order ≡ true → (earlier : Place) → earlier < stage.table → is_chosen slots earlier ≡ true
+    before-chosen stages stage rest slots can first within asked earlier lower =
+        let whole = walk-first stages stage rest slots slots can first refl in
+        elim (whole.covers earlier (omega (arith, lower, within))) as (λ _. is_chosen slots earlier ≡ true) [
+          | inl chosen ↦ chosen
+          | inr left ↦ let lowest = first-lowest stage.table (map (λ s. s.table) rest) (whole.rises asked) earlier left in absurd (omega (arith, lowest, lower))
+        ]
 
 -- an order that has each table once
 pub below-order : (n : ℕ) (order : List Place) → IsPermutation (range_with_len 0 n) order → All (λ table. table < n) order
@@ -330,3 +266,44 @@ whole-order n order moved table within = Contains-permutation (range_with_len 0 
 pub map-more : {A B : Type 0} (f : A → B) (xs : List A) (i : ℕ) (made more : List B) (x here : A) (y : B) → made ≡ map f (take i xs) → i < length xs → x ≡ get_or xs i x → here ≡ x → y ≡ f here → more ≡ made ++ y ∷ [] → more ≡ map f (take (i + 1) xs)
 map-more f xs i made more x here y so_far within at same is pushed =
     pushed ∙ (λ j. so_far j ++ is j ∷ []) ∙ sym (map_push f (take i xs) here) ∙ ap (map f) (ap (λ z. take i xs ++ z ∷ []) (same ∙ at) ∙ sym (take_more xs i x within))
+
+-- ---- places in a set
+module _ (limit : ℕ) (visited : List (List Place)) (found : List (List Place)) (are : AreFound (λ places. has_places places visited ≡ true) limit found) where
+  -- there are too many, whatever follows
+  pub found-enough : (more : List (List Place)) → limit < length found → AreFound (λ places. has_places places (visited ++ more) ≡ true) limit found
+  found-enough more many = record {
+    sound = λ places has. has-both places visited more ∙ or-left (has_places places visited) (has_places places more) (are.sound places has);
+    whole = λ few. absurd (omega (arith, few, many));
+  }
+
+  -- one combination more
+  pub found-more : (places : List Place) (after : List (List Place)) → length found ≤ limit → HasOneMore places found after → AreFound (λ other. has_places other (visited ++ places ∷ []) ≡ true) limit after
+  found-more places after few added = record {
+    sound = λ other has. seen other ∙ swapped (is_eq (slice_cmp nat_cmp other places)) (has_places other visited) (or-cases (is_eq (slice_cmp nat_cmp other places)) (has_places other found) (sym (added other) ∙ has)) (are.sound other);
+    whole = λ few_still other has. added other ∙ back (is_eq (slice_cmp nat_cmp other places)) (has_places other visited) (has_places other found) (sym (seen other) ∙ has) (are.whole few other);
+  }
+    where
+      seen : (other : List Place) → has_places other (visited ++ places ∷ []) ≡ (has_places other visited || (is_eq (slice_cmp nat_cmp other places) || false))
+      seen other = has-both other visited (places ∷ [])
+
+      swapped : (new old : Bool) {X : Type 0} → (new ≡ true) ⊎ X → (X → old ≡ true) → (old || (new || false)) ≡ true
+      swapped new true is sound = refl
+      swapped new false (inl e) sound = ap (λ b. b || false) e
+      swapped new false (inr x) sound = absurd (false≢true (sound x))
+
+      back : (new old had : Bool) → (old || (new || false)) ≡ true → (old ≡ true → had ≡ true) → (new || had) ≡ true
+      back true old had e whole = refl
+      back false true had e whole = whole refl
+      back false false had e whole = absurd (false≢true e)
+
+-- at the beginning nothing is visited or found
+pub found-none : (limit : ℕ) (found : List (List Place)) → found ≡ [] → AreFound (λ places. has_places places [] ≡ true) limit found
+found-none limit found none = record {
+  sound = λ places has. sym (ap (has_places places) none) ∙ has;
+  whole = λ few places has. absurd (false≢true has);
+}
+
+-- at the end all that were visited are those of a kind
+pub found-are : (Is : List Place → Type 0) (limit : ℕ) (visited found : List (List Place)) → ((places : List Place) → has_places places visited ≡ true → Is places) → ((places : List Place) → Is places → has_places places visited ≡ true)
+    → AreFound (λ places. has_places places visited ≡ true) limit found → AreFound Is limit found
+found-are Is limit visited found there back are = record { sound = λ places has. there places (are.sound places has); whole = λ few places is. are.whole few places (back places is) }

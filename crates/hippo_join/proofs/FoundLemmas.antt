@@ -1,5 +1,5 @@
 -- What is found in ascending order is what counts of the product.
-use Rattle.std.proofs.Common.{◌≡◌, ◌≤◌, suc, Bool, true, false, ◌&&◌, ◌||◌, cond, List, [], ◌∷◌, map, length, refl, sym, ap, ◌∙◌}
+use Rattle.std.proofs.Common.{◌≡◌, ◌≤◌, suc, Bool, true, false, ◌&&◌, ◌||◌, cond, List, [], ◌∷◌, ◌++◌, map, length, refl, sym, ap, ◌∙◌, inl, inr, ◌⊎◌}
 use Rattle.std.specs.Prelude.{filter}
 use Rattle.std.specs.List.Sorted.{IsStrictlySortedBy}
 use Rattle.std.specs.Ordering.{is_eq, nat_cmp, ordering_reverse}
@@ -9,6 +9,7 @@ use Rattle.std.specs.Cmp.Lexicographic.{slice_cmp}
 use Rattle.std.specs.Cmp.{IsTotalOrder, eq_by_cmp_equiv}
 use Rattle.std.proofs.lemmas.Bool.{false≢true}
 use Rattle.std.proofs.lemmas.Cmp.{nat_list_cmp_total}
+use Rattle.std.proofs.lemmas.List.Folds.{list_any-append}
 use Rattle.std.proofs.lemmas.List.Kept.{IsStrictlySortedBy-filter}
 use Rattle.std.proofs.lemmas.Map.Lookups.{exact_bytes}
 use Rattle.std.proofs.lemmas.Map.Keys.{IsDistinct-from_sorted}
@@ -16,10 +17,12 @@ use Rattle.std.proofs.lemmas.Map.Made.{length-le_from_is_member}
 use Rattle.hippo_model.specs.declared.query.Masked.{Masked}
 use Rattle.hippo_model.specs.Terms.{Place}
 use Rattle.hippo_model.specs.RowSets.{KeyedRows}
+use Rattle.hippo_model.specs.Answers.{product}
 use Rattle.hippo_model.specs.Masking.{Choices, masked_items, masked_answer}
 use Rattle.hippo_eval.specs.Walks.{rows_of}
 use Rattle.hippo_join.specs.Finding.{has_places, IsRising}
 use Rattle.hippo_join.specs.Places.{chosen, places_of, stays, stands}
+use Rattle.hippo_join.specs.Visiting.{AreAll}
 use Rattle.hippo_join.proofs.ProductLemmas.{Below, product-rows, has-places_of, rising-places_of, filter-map, map-map}
 
 total : IsTotalOrder (slice_cmp nat_cmp)
@@ -36,8 +39,20 @@ same_as_itself c = (eq_by_cmp_equiv total).refl c
 pub same_places : (c d : List Place) → is_eq (slice_cmp nat_cmp c d) ≡ true → c ≡ d
 same_places c d same = by_order (slice_cmp nat_cmp c d) (λ e. absurd (false≢true (sym (ap is_eq e) ∙ same))) (λ e. exact_bytes c d e) (λ e. absurd (false≢true (sym (ap is_eq e) ∙ same)))
 
-or_left : (x y : Bool) → x ≡ true → (x || y) ≡ true
-or_left x y e = ap (λ b. b || y) e
+pub or-left : (x y : Bool) → x ≡ true → (x || y) ≡ true
+or-left x y e = ap (λ b. b || y) e
+
+pub or-right : (x y : Bool) → y ≡ true → (x || y) ≡ true
+or-right true y e = refl
+or-right false y e = e
+
+pub or-cases : (x y : Bool) → (x || y) ≡ true → (x ≡ true) ⊎ (y ≡ true)
+or-cases true y e = inl refl
+or-cases false y e = inr e
+
+-- whether places stand in two lists, one behind the other
+pub has-both : (c : List Place) (some more : List (List Place)) → has_places c (some ++ more) ≡ (has_places c some || has_places c more)
+has-both c some more = list_any-append (λ other. is_eq (slice_cmp nat_cmp c other)) some more
 
 -- the first of rising combinations, and any below it, stands nowhere behind
 absent : (c : List Place) (rest : List (List Place)) → Below c rest → has_places c rest ≡ false
@@ -48,8 +63,8 @@ lower : (c d : List Place) (rest : List (List Place)) → slice_cmp nat_cmp c d 
 lower c d [] less below = tt
 lower c d (other ∷ rest) less below = (total.trans c d other less below.0, lower c d rest less below.1)
 
-here : (c : List Place) (rest : List (List Place)) → has_places c (c ∷ rest) ≡ true
-here c rest = or_left (is_eq (slice_cmp nat_cmp c c)) (has_places c rest) (same_as_itself c)
+pub has-first : (c : List Place) (rest : List (List Place)) → has_places c (c ∷ rest) ≡ true
+has-first c rest = or-left (is_eq (slice_cmp nat_cmp c c)) (has_places c rest) (same_as_itself c)
 
 not_here : (c d : List Place) (rest : List (List Place)) → slice_cmp nat_cmp c d ≡ Less → Below d rest → has_places c (d ∷ rest) ≡ false
 not_here c d rest less below = absent c (d ∷ rest) (less, lower c d rest less below)
@@ -65,11 +80,11 @@ behind_both false a b left right e = e
 pub same_rising : (some others : List (List Place)) → IsRising some → IsRising others → ((c : List Place) → has_places c some ≡ has_places c others) → some ≡ others
 unfolding IsStrictlySortedBy
 same_rising [] [] a b same = refl
-same_rising [] (d ∷ others) a b same = absurd (false≢true (same d ∙ here d others))
-same_rising (c ∷ some) [] a b same = absurd (false≢true (sym (same c) ∙ here c some))
+same_rising [] (d ∷ others) a b same = absurd (false≢true (same d ∙ has-first d others))
+same_rising (c ∷ some) [] a b same = absurd (false≢true (sym (same c) ∙ has-first c some))
 same_rising (c ∷ some) (d ∷ others) a b same =
     by_order (slice_cmp nat_cmp c d)
-    (λ less. absurd (false≢true (sym (not_here c d others less b.0) ∙ sym (same c) ∙ here c some)))
+    (λ less. absurd (false≢true (sym (not_here c d others less b.0) ∙ sym (same c) ∙ has-first c some)))
     (λ equal. let one : c ≡ d = exact_bytes c d equal in
     let behind : (q : List Place) → has_places q some ≡ has_places q others = λ q.
     behind_both (is_eq (slice_cmp nat_cmp q c)) (has_places q some) (has_places q others)
@@ -77,7 +92,7 @@ same_rising (c ∷ some) (d ∷ others) a b same =
     (λ e. ap (λ (k : List Place). has_places k others) (same_places q c e ∙ one) ∙ absent d others b.0)
     (same q ∙ ap (λ (k : List Place). is_eq (slice_cmp nat_cmp q k) || has_places q others) (sym one)) in
     λ i. one i ∷ same_rising some others a.1 b.1 behind i)
-    (λ greater. absurd (false≢true (sym (not_here d c some (other_way c d greater) a.0) ∙ same d ∙ here d others)))
+    (λ greater. absurd (false≢true (sym (not_here d c some (other_way c d greater) a.0) ∙ same d ∙ has-first d others)))
 
 -- what rises within other combinations is no longer than these
 pub length-rising : (some others : List (List Place)) → IsRising some → ((c : List Place) → has_places c some ≡ true → has_places c others ≡ true) → length some ≤ length others
@@ -97,11 +112,16 @@ has_either : (c first : List Place) (test : Bool) (rest : List (List Place)) →
 has_either c first true rest = refl
 has_either c first false rest = refl
 
-has-filter : (p : List Place → Bool) (c : List Place) (some : List (List Place)) → has_places c (filter p some) ≡ (has_places c some && p c)
+pub has-filter : (p : List Place → Bool) (c : List Place) (some : List (List Place)) → has_places c (filter p some) ≡ (has_places c some && p c)
 has-filter p c [] = refl
 has-filter p c (first ∷ some) =
     has_either c first (p first) (filter p some)
     ∙ rw (has-filter p c some) (kept_here (is_eq (slice_cmp nat_cmp c first)) (p first) (has_places c some) (p c) (λ e. ap p (sym (same_places c first e))))
+
+pub same_tests : (a b : Bool) → (a ≡ true → b ≡ true) → (b ≡ true → a ≡ true) → a ≡ b
+same_tests true b there back = sym (there refl)
+same_tests false true there back = back refl
+same_tests false false there back = refl
 
 module _ (choices : Choices) (query : Masked) (sets : List KeyedRows) where
   abbrev counting : List (List Place)
@@ -113,12 +133,18 @@ module _ (choices : Choices) (query : Masked) (sets : List KeyedRows) where
   rising-counting : IsRising counting
   rising-counting = IsStrictlySortedBy-filter (slice_cmp nat_cmp) (λ c. stays choices query (chosen sets c)) (places_of sets) (rising-places_of sets)
 
+  rows-counting : filter (stays choices query) (product (rows_of sets)) ≡ map (chosen sets) counting
+  rows-counting = ap (filter (stays choices query)) (product-rows sets) ∙ filter-map (stays choices query) (chosen sets) (places_of sets)
+
   answer-counting : masked_answer choices query (rows_of sets) ≡ map (λ c. masked_items choices query (chosen sets c)) counting
   unfolding stays
-  answer-counting =
-      ap (λ combinations. map (masked_items choices query) (filter (stays choices query) combinations)) (product-rows sets)
-      ∙ ap (map (masked_items choices query)) (filter-map (stays choices query) (chosen sets) (places_of sets))
-      ∙ map-map (masked_items choices query) (chosen sets) counting
+  answer-counting = ap (map (masked_items choices query)) rows-counting ∙ map-map (masked_items choices query) (chosen sets) counting
+
+  -- all that count, in the order of the product
+  pub rows-in-order : (all : List (List Place)) → AreAll (λ c. stands choices query sets c ≡ true) true all → map (chosen sets) all ≡ filter (stays choices query) (product (rows_of sets))
+  rows-in-order all are =
+      ap (map (chosen sets)) (same_rising all counting (are.rising refl) rising-counting (λ c. same_tests (has_places c all) (stands choices query sets c) (are.sound c) (are.whole c) ∙ sym (has-counting c)))
+      ∙ sym rows-counting
 
   -- what is found in order, and is all that counts, gives the answer
   pub answer-found : (found : List (List Place)) → IsRising found → ((c : List Place) → has_places c found ≡ stands choices query sets c) → map (λ c. masked_items choices query (chosen sets c)) found ≡ masked_answer choices query (rows_of sets)

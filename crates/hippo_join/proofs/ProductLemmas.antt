@@ -130,17 +130,17 @@ All-append : {X : Type 0} (P : X → Type 0) (xs ys : List X) → AllByRecursion
 All-append P [] ys a b = b
 All-append P (x ∷ xs) ys a b = (a.0, All-append P xs ys a.1 b)
 
-rising-append : (xs ys : List (List Place)) → IsRising xs → IsRising ys → AllByRecursion (λ x. Below x ys) xs → IsRising (xs ++ ys)
+pub rising-append : (xs ys : List (List Place)) → IsRising xs → IsRising ys → AllByRecursion (λ x. Below x ys) xs → IsRising (xs ++ ys)
 unfolding IsStrictlySortedBy
 rising-append [] ys a b below = b
 rising-append (x ∷ xs) ys a b below = (All-append (λ other. slice_cmp nat_cmp x other ≡ Less) xs ys a.0 below.0, rising-append xs ys a.1 b below.1)
 
-same_first : (p : Place) (o : Ordering) → ordering_then (nat_cmp p p) o ≡ o
-same_first p o = let e : nat_cmp p p ≡ Equal = grind (arith, nat_tests) in rw e refl
+pub same-first : (p : Place) (o : Ordering) → ordering_then (nat_cmp p p) o ≡ o
+same-first p o = let e : nat_cmp p p ≡ Equal = grind (arith, nat_tests) in rw e refl
 
 below_behind : (p : Place) (first : List Place) (rest : List (List Place)) → Below first rest → Below (p ∷ first) (map (λ others. p ∷ others) rest)
 below_behind p first [] below = tt
-below_behind p first (other ∷ rest) below = (same_first p (slice_cmp nat_cmp first other) ∙ below.0, below_behind p first rest below.1)
+below_behind p first (other ∷ rest) below = (same-first p (slice_cmp nat_cmp first other) ∙ below.0, below_behind p first rest below.1)
 
 rising-behind : (p : Place) (some : List (List Place)) → IsRising some → IsRising (map (λ others. p ∷ others) some)
 unfolding IsStrictlySortedBy

@@ -1,5 +1,5 @@
 -- Lists of places that have each place that counts.
-use Rattle.std.proofs.Common.{◌≡◌, ℕ, zero, suc, ◌+◌, ◌<◌, ◌≤◌, Bool, true, false, List, [], ◌∷◌, ◌++◌, length, get_or, refl, sym, ap, subst, ◌∙◌, Option, Some, None, inl, inr, ◌⊎◌, arith}
+use Rattle.std.proofs.Common.{◌≡◌, ℕ, zero, suc, ◌+◌, ◌<◌, ◌≤◌, Bool, true, false, List, [], ◌∷◌, ◌++◌, length, get_or, refl, sym, ap, subst, ◌∙◌, Option, Some, None, inl, inr, arith}
 use Rattle.std.specs.Prelude.{slice_get, slice_set, replicate, if◌then◌else◌}
 use Rattle.std.specs.List.{Contains, list_all}
 use Rattle.hippo_model.specs.declared.query.CondOf.{CondOf}
@@ -25,16 +25,9 @@ use Rattle.hippo_join.specs.declared.ties.Tie.{Tie}
 use Rattle.hippo_join.specs.Places.{chosen, Fits, slot_at, stands}
 use Rattle.hippo_join.specs.Ties.{holds, AreEqual, IsTieOf}
 use Rattle.hippo_join.specs.Stages.{IsStage}
+use Rattle.hippo_join.proofs.ExistenceLemmas.{below_or_at, get_or_default}
 use Rattle.hippo_join.proofs.PruneLemmas.{all-hold, value-tied}
 use Rattle.hippo_join.proofs.SlotLemmas.{Fits-open, Fits-set}
-
-below_or_at : (k n : ℕ) → k < n + 1 → (k < n) ⊎ (k ≡ n)
-below_or_at k n lower = grind arith
-
-get_or_default : (xs : List ℕ) (k d e : ℕ) → k < length xs → get_or xs k e ≡ get_or xs k d
-get_or_default [] k d e within = absurd (omega arith)
-get_or_default (x ∷ xs) zero d e within = refl
-get_or_default (x ∷ xs) (suc k) d e within = get_or_default xs k d e (omega arith)
 
 kept : (test : Bool) (xs : List Place) (n p : Place) → Contains xs p → Contains (if test then xs ++ n ∷ [] else xs) p
 kept true xs n p has = Contains-append_left xs (n ∷ []) p has

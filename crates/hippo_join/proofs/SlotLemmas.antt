@@ -1,5 +1,5 @@
 -- Rows that are chosen, and combinations that agree with them.
-use Rattle.std.proofs.Common.{◌≡◌, ℕ, zero, suc, ◌+◌, ◌≤◌, true, false, ◌&&◌, List, [], ◌∷◌, ◌++◌, map, length, drop, refl, sym, ap, ◌∙◌, arith, Option, Some, None, unwrap_or, add-one, append_assoc, subst, not, nat_lt, ℤ, int_le}
+use Rattle.std.proofs.Common.{◌≡◌, ℕ, zero, suc, ◌+◌, ◌-◌, ◌<◌, ◌≤◌, take, true, false, ◌&&◌, List, [], ◌∷◌, ◌++◌, map, length, drop, refl, sym, ap, ◌∙◌, arith, Option, Some, None, unwrap_or, add-one, append_assoc, subst, not, nat_lt, ℤ, int_le}
 use Rattle.std.specs.Prelude.{slice_get, option_map}
 use Rattle.std.specs.Prelude.{replicate, slice_set}
 use Rattle.std.specs.Option.{option_map_or}
@@ -143,3 +143,25 @@ rows-more sets slots i set slot empty rows more whole at of_slot of_blank pushed
 pub rows-all : (sets : List KeyedRows) (slots : List (Option Place)) (i : ℕ) (rows whole : Combination) → length sets ≤ i → rows ++ rows_at (drop i sets) (drop i slots) ≡ whole → rows ≡ whole
 rows-all sets slots i rows whole past so_far =
     sym (append-nil rows) ∙ sym (ap (λ (s : List KeyedRows). rows ++ rows_at s (drop i slots)) (drop_all i sets past)) ∙ so_far
+
+-- rows before a table, and those from it on
+pub rows-parted : (sets : List KeyedRows) (slots : List (Option Place)) (table : ℕ) → take table (rows_at sets slots) ++ rows_at (drop table sets) (drop table slots) ≡ rows_at sets slots
+rows-parted sets slots zero = refl
+rows-parted [] slots (suc table) = refl
+rows-parted (set ∷ sets) [] (suc table) = ap (λ l. blank ∷ l) (subst (λ (l : List (Option Place)). take table (rows_at sets []) ++ rows_at (drop table sets) l ≡ rows_at sets []) (drop-nil table) (rows-parted sets [] table))
+rows-parted (set ∷ sets) (slot ∷ slots) (suc table) = ap (λ l. option_map_or (row_at set.rows) slot blank ∷ l) (rows-parted sets slots table)
+
+pub rows-before : (sets : List KeyedRows) (slots : List (Option Place)) (table : ℕ) (slot : Option Place) → take table (rows_at sets (slice_set slots table slot)) ≡ take table (rows_at sets slots)
+rows-before sets slots zero slot = refl
+rows-before [] slots (suc table) slot = refl
+rows-before (set ∷ sets) [] (suc table) slot = refl
+rows-before (set ∷ sets) (first ∷ slots) (suc table) slot = ap (λ l. option_map_or (row_at set.rows) first blank ∷ l) (rows-before sets slots table slot)
+
+pub take-fewer : {X : Type 0} (table : ℕ) (xs : List X) → table < length xs → take table (take (length xs - 1) xs) ≡ take table xs
+take-fewer table xs within = shorter table (length xs - 1) xs (omega (arith, within))
+  where
+    shorter : {X : Type 0} (m n : ℕ) (xs : List X) → m ≤ n → take m (take n xs) ≡ take m xs
+    shorter zero n xs below = refl
+    shorter (suc m) zero xs below = absurd (omega (arith, below))
+    shorter (suc m) (suc n) [] below = refl
+    shorter (suc m) (suc n) (x ∷ xs) below = ap (λ l. x ∷ l) (shorter m n xs (omega (arith, below)))

@@ -1,129 +1,48 @@
--- What counts, by the rows of one table after the other.
-use Rattle.std.proofs.Common.{◌≡◌, ℕ, zero, suc, ◌+◌, ◌<◌, ◌≤◌, Bool, true, false, ◌&&◌, ◌||◌, cond, List, [], ◌∷◌, ◌++◌, map, take, drop, length, nat_lt, refl, sym, ap, subst, ◌∙◌, append_assoc, arith, length-set, Option, Some, None, inl, inr, ◌⊎◌}
-use Rattle.std.specs.Prelude.{filter, slice_get, slice_set, replicate, Result, Ok}
-use Rattle.std.specs.List.{All, Contains, flat_map, range_with_len}
-use Rattle.std.specs.List.Sorted.{IsStrictlyIncreasing}
-use Rattle.std.specs.Option.{option_map_or}
+-- What is visited of the combinations that count, place by place.
+use Rattle.std.proofs.Common.{◌≡◌, ℕ, zero, suc, ◌+◌, ◌<◌, ◌≤◌, Bool, true, false, ◌&&◌, ◌||◌, cond, not, List, [], ◌∷◌, ◌++◌, map, length, get_or, refl, sym, ap, subst, ◌∙◌, append_assoc, arith, Option, Some, None, inl, inr, ◌⊎◌, nat_eq, replicate, zero-add}
+use Rattle.std.specs.Prelude.{filter, slice_get, slice_set, Result, Ok, Err, IfOk}
+use Rattle.std.specs.List.{All, AllByRecursion, Contains, range_with_len}
+use Rattle.std.specs.List.Sorted.{IsStrictlyIncreasing, IsStrictlySortedBy}
 use Rattle.std.specs.Ordering.{is_eq, nat_cmp}
 use Rattle.std.specs.Cmp.Lexicographic.{slice_cmp}
-use Rattle.std.specs.Cmp.{eq_by_cmp_equiv}
-use Rattle.std.proofs.lemmas.Bool.{false≢true}
+use Rattle.std.specs.declared.cmp.Ordering.TheVariants.{Less}
+use Rattle.std.proofs.lemmas.Bool.{and_parts, false≢true}
 use Rattle.std.proofs.lemmas.Bool.Decides.{nat_tests}
-use Rattle.std.proofs.lemmas.Cmp.{nat_list_cmp_total}
-use Rattle.std.proofs.lemmas.List.{append-nil, drop_all, length-append, length-map, map-id, take-append-drop}
-use Rattle.std.proofs.lemmas.List.Concat.{flat_map-append}
-use Rattle.std.proofs.lemmas.List.Elements.{filter-append}
-use Rattle.std.proofs.lemmas.List.Folds.{flat_map-map}
+use Rattle.std.proofs.lemmas.List.{append-nil, map-append}
 use Rattle.std.proofs.lemmas.List.FromFn.{get_or-range_with_len, length-range_with_len}
-use Rattle.std.proofs.lemmas.Option.{slice_get_within, get_or_from_slice_get}
-use Rattle.hippo_values.specs.declared.memory.Memory.{Memory}
-use Rattle.hippo_model.specs.declared.born_row.BornRow.{BornRow}
+use Rattle.std.proofs.lemmas.List.Kept.{AllPairs-from_increasing, IsStrictlySortedBy-filter}
+use Rattle.std.proofs.lemmas.Option.{slice_get-get_or}
 use Rattle.hippo_model.specs.declared.query.Masked.{Masked}
 use Rattle.hippo_model.specs.Terms.{Combination, Place}
 use Rattle.hippo_model.specs.RowSets.{KeyedRows}
-use Rattle.hippo_model.specs.Answers.{product}
-use Rattle.hippo_model.specs.Masking.{Choices, is_guarded, masked_passes}
+use Rattle.hippo_model.specs.Masking.{Choices}
+use Rattle.hippo_values.specs.declared.memory.Memory.{Memory}
+use Rattle.hippo_eval.specs.Walks.{KeptAfter}
 use Rattle.hippo_eval.specs.declared.walks.Onward.{Onward}
-use Rattle.hippo_eval.specs.declared.walks.Onward.TheVariants.{Enough}
-use Rattle.hippo_eval.specs.Walks.{rows_of, continued, KeptAfter}
-use Rattle.hippo_eval.proofs.WalkLemmas.{beginning, take_row, drop_at}
-use Rattle.hippo_eval.proofs.KeptLemmas.{kept_whole, product_at}
-use Rattle.hippo_join.specs.declared.stages.Stage.{Stage}
-use Rattle.hippo_join.specs.Places.{Fits, chosen, in_range, places_of, row_at, stands, stays}
-use Rattle.hippo_join.specs.Known.{is_chosen}
-use Rattle.hippo_join.specs.Finding.{has_places}
+use Rattle.hippo_eval.specs.declared.walks.Onward.TheVariants.{More, Enough}
+use Rattle.hippo_join.specs.Places.{Fits, chosen, in_range, places_of, stands}
+use Rattle.hippo_join.specs.Known.{is_chosen, is_open}
+use Rattle.hippo_join.specs.Finding.{has_places, IsRising}
 use Rattle.hippo_join.specs.Stages.{ReachesFrom}
-use Rattle.hippo_join.specs.Walking.{IsWalkable, AreWalkable}
-use Rattle.hippo_join.specs.Visiting.{counting, counting_from, counting_with, rows_in, IsFront, CanVisit}
-use Rattle.hippo_join.proofs.ExistenceLemmas.{Fits-unset}
-use Rattle.hippo_join.proofs.FindingLemmas.{first_or_later}
-use Rattle.hippo_join.proofs.ReachLemmas.{length-unchosen}
-use Rattle.hippo_join.proofs.ProductLemmas.{map-flat_map, map-map, filter-map, product-rows, each_row, has-places_of}
-use Rattle.hippo_join.proofs.SlotLemmas.{Fits-open, Fits-set, length-in_range}
+use Rattle.hippo_join.specs.Walking.{CanWalk}
+use Rattle.hippo_join.specs.declared.stages.Stage.{Stage}
+use Rattle.hippo_join.specs.Visiting.{Completes, KeptOn, AreAll, Visited}
+use Rattle.hippo_join.proofs.ExistenceLemmas.{Fits-unset, fits-itself, below_or_at, get_or_default}
+use Rattle.hippo_join.proofs.FindingLemmas.{before-chosen, open-unchosen, open-within}
+use Rattle.hippo_join.proofs.FoundLemmas.{has-both, has-filter, has-first, or-cases, or-left, or-right, same_places}
+use Rattle.hippo_join.proofs.ProductLemmas.{Below, rising-append, same-first, has-places_of, rising-places_of}
+use Rattle.hippo_join.proofs.PruneLemmas.{in-range, long-enough}
+use Rattle.hippo_join.proofs.SlotLemmas.{Fits-open, Fits-set, Fits-whole}
 
--- ---- lists
 not_true : (b : Bool) → ¬ (b ≡ true) → b ≡ false
 not_true true no_way = absurd (no_way refl)
 not_true false no_way = refl
 
-or_left : (a b : Bool) → a ≡ true → (a || b) ≡ true
-or_left a b e = ap (λ c. c || b) e
-
-or_right : (a b : Bool) → b ≡ true → (a || b) ≡ true
-or_right true b e = refl
-or_right false b e = e
-
-none_passes : (test : List Place → Bool) (some : List (List Place)) → ((one : List Place) → has_places one some ≡ true → test one ≡ false) → filter test some ≡ []
-none_passes test [] none = refl
-none_passes test (one ∷ some) none =
-    let later = none_passes test some (λ other has. none other (or_right (is_eq (slice_cmp nat_cmp other one)) (has_places other some) has)) in
-    let first : test one ≡ false = none one (or_left (is_eq (slice_cmp nat_cmp one one)) (has_places one some) ((eq_by_cmp_equiv nat_list_cmp_total).refl one)) in
-    λ i. cond (first i) (one ∷ later i) (later i)
-
--- numbers that rise, from one on
-abbrev pub Ascends : ℕ → List ℕ → Type 0
-Ascends start [] = Unit {0}
-Ascends start (place ∷ places) = (start ≤ place) × Ascends (suc place) places
-
-ascends_from : (start first : ℕ) (rest : List ℕ) → start ≤ first → IsStrictlyIncreasing (first ∷ rest) → Ascends start (first ∷ rest)
-ascends_from start first [] least rising = (least, tt)
-ascends_from start first (next ∷ rest) least rising =
-    let above : first < next = rising 0 (omega arith) in
-    (least, ascends_from (suc first) next rest (omega (arith, above)) (λ k within. let further : suc k + 1 ≡ suc (k + 1) = omega arith in rw further at (rising (suc k) (omega (arith, within)))))
-
-pub ascends : (places : List ℕ) → IsStrictlyIncreasing places → Ascends 0 places
-ascends [] rising = tt
-ascends (first ∷ rest) rising = ascends_from 0 first rest (omega arith) rising
-
-lowest : (start : ℕ) (places : List ℕ) → Ascends start places → (place : ℕ) → Contains places place → start ≤ place
-lowest start [] rising place has = absurd (omega (arith, has.1))
-lowest start (first ∷ rest) rising place has =
-    let least : start ≤ first = rising.0 in
-    elim (first_or_later first rest place has) as (λ _. start ≤ place) [
-      | inl here ↦ omega (arith, least, here)
-      | inr later ↦ let above = lowest (suc first) rest rising.1 place later in omega (arith, least, above)
-    ]
-
-at_or_above : (start first : ℕ) → start ≤ first → (start ≡ first) ⊎ (start + 1 ≤ first)
-at_or_above start first least = grind arith
+true_or_not : (b : Bool) → (b ≡ true) ⊎ (b ≡ false)
+true_or_not true = inl refl
+true_or_not false = inr refl
 
 module _ {A : Type 0} where
-  nothing_above : (g : ℕ → List A) (places : List ℕ) (start : ℕ) → Ascends start places → ((p : ℕ) → start ≤ p → g p ≡ []) → flat_map g places ≡ []
-  nothing_above g [] start rising none = refl
-  nothing_above g (first ∷ rest) start rising none =
-      let least : start ≤ first = rising.0 in
-      let here : g first ≡ [] = none first least in
-      let later = nothing_above g rest (suc first) rising.1 (λ p above. none p (omega (arith, least, above))) in
-      λ i. here i ++ later i
-
-  -- what is made of all numbers is made of some, where the others make nothing
-  pub sparse : (f g : ℕ → List A) (places : List ℕ) (start n : ℕ) → Ascends start places → ((p : ℕ) → p < start + n → f p ≡ g p) → ((p : ℕ) → start ≤ p → ¬ Contains places p → g p ≡ [])
-      → ((p : ℕ) → start + n ≤ p → g p ≡ []) → flat_map f (range_with_len start n) ≡ flat_map g places
-  sparse f g places start zero rising same absent past = sym (nothing_above g places start rising (λ p above. past p (omega (arith, above))))
-  sparse f g [] start (suc n) rising same absent past =
-      let here : f start ≡ [] = same start (omega arith) ∙ absent start (omega arith) (λ has. absurd (omega (arith, has.1))) in
-      let later =
-      sparse f g [] (start + 1) n tt (λ p within. same p (omega (arith, within))) (λ p above none. absent p (omega (arith, above)) none) (λ p above. past p (omega (arith, above))) in
-      λ i. here i ++ later i
-  sparse f g (first ∷ rest) start (suc n) rising same absent past = elim (at_or_above start first rising.0) as (λ _. flat_map f (range_with_len start (suc n)) ≡ flat_map g (first ∷ rest)) [
-    | inl at ↦
-        let here : f start ≡ g first = same start (omega arith) ∙ ap g at in
-        let next : suc first ≡ start + 1 = omega (arith, at) in
-        let later =
-        sparse f g rest (start + 1) n (subst (λ (s : ℕ). Ascends s rest) next rising.1) (λ p within. same p (omega (arith, within)))
-        (λ p above none. absent p (omega (arith, above)) (λ has. elim (first_or_later first rest p has) as (λ _. ⊥) [ inl this ↦ omega (arith, this, at, above) | inr behind ↦ none behind ])) (λ p above. past p (omega (arith, above))) in
-        λ i. here i ++ later i
-    | inr above ↦
-        let missing : ¬ Contains (first ∷ rest) start = λ has. let low = lowest (start + 1) (first ∷ rest) (above, rising.1) start has in omega (arith, low) in
-        let here : f start ≡ [] = same start (omega arith) ∙ absent start (omega arith) missing in
-        let later = sparse f g (first ∷ rest) (start + 1) n (above, rising.1) (λ p within. same p (omega (arith, within))) (λ p least none. absent p (omega (arith, least)) none) (λ p least. past p (omega (arith, least))) in
-        λ i. here i ++ later i
-  ]
-
-  filter-flat_map : {X : Type 0} (test : A → Bool) (g : X → List A) (xs : List X) → filter test (flat_map g xs) ≡ flat_map (λ x. filter test (g x)) xs
-  filter-flat_map test g [] = refl
-  filter-flat_map test g (x ∷ xs) = filter-append test (g x) (flat_map g xs) ∙ ap (λ l. filter test (g x) ++ l) (filter-flat_map test g xs)
-
   -- where one test implies another, it is enough to make the narrower one
   pub filter-implied : (wide narrow : A → Bool) → ((x : A) → narrow x ≡ true → wide x ≡ true) → (xs : List A) → filter narrow (filter wide xs) ≡ filter narrow xs
   filter-implied wide narrow implied [] = refl
@@ -136,25 +55,51 @@ module _ {A : Type 0} where
             later ∙ sym (λ i. cond (none i) (x ∷ filter narrow xs) (filter narrow xs))
       ] (implied x)
 
--- a place of a list, and what is chosen there
-seam : (front : List ℕ) (place : ℕ) (rest : List ℕ) (n : ℕ) → length front ≡ n → slice_get (front ++ place ∷ rest) n ≡ Some place
-seam [] place rest zero long = refl
-seam [] place rest (suc n) long = absurd (omega (arith, long))
-seam (first ∷ front) place rest zero long = absurd (omega (arith, long))
-seam (first ∷ front) place rest (suc n) long = seam front place rest n (omega (arith, long))
+-- ---- lists of places
+has_alone : (places other : List Place) → has_places places (other ∷ []) ≡ true → places ≡ other
+has_alone places other has = elim (or-cases (is_eq (slice_cmp nat_cmp places other)) false has) as (λ _. places ≡ other) [
+  | inl same ↦ same_places places other same
+  | inr wrong ↦ absurd (false≢true wrong)
+]
 
-none_chosen : (n later : ℕ) → is_chosen (replicate n None) later ≡ false
-none_chosen zero later = refl
-none_chosen (suc n) zero = refl
-none_chosen (suc n) (suc later) = none_chosen n later
+each_has : (P : List Place → Type 0) (some : List (List Place)) → ((places : List Place) → has_places places some ≡ true → P places) → AllByRecursion P some
+each_has P [] all = tt
+each_has P (first ∷ some) all = (all first (has-first first some), each_has P some (λ places has. all places (or-right (is_eq (slice_cmp nat_cmp places first)) (has_places places some) has)))
 
-still_open : (slots : List (Option Place)) (table later place : ℕ) → table < later → is_chosen (slice_set slots table (Some place)) later ≡ is_chosen slots later
-still_open [] table later place above = refl
-still_open (slot ∷ slots) zero zero place above = absurd (omega (arith, above))
-still_open (slot ∷ slots) zero (suc later) place above = refl
-still_open (slot ∷ slots) (suc table) zero place above = absurd (omega (arith, above))
-still_open (slot ∷ slots) (suc table) (suc later) place above = still_open slots table later place (omega (arith, above))
+rising_both : (some more : List (List Place)) → IsRising some → IsRising more → ((p q : List Place) → has_places p some ≡ true → has_places q more ≡ true → slice_cmp nat_cmp p q ≡ Less) → IsRising (some ++ more)
+rising_both some more a b lower = rising-append some more a b (each_has (λ p. Below p more) some (λ p has. each_has (λ q. slice_cmp nat_cmp p q ≡ Less) more (λ q there. lower p q has there)))
 
+-- ---- all combinations of a kind
+module _ (in_order : Bool) where
+  are_same : (P Q : List Place → Type 0) (all : List (List Place)) → ((places : List Place) → P places → Q places) → ((places : List Place) → Q places → P places) → AreAll P in_order all → AreAll Q in_order all
+  are_same P Q all there back are = record { sound = λ places has. there places (are.sound places has); whole = λ places is. are.whole places (back places is); rising = are.rising }
+
+  are_both : (P Q : List Place → Type 0) (some more : List (List Place)) → (in_order ≡ true → (p q : List Place) → P p → Q q → slice_cmp nat_cmp p q ≡ Less) → AreAll P in_order some → AreAll Q in_order more → AreAll (λ places. P places ⊎ Q places) in_order (some ++ more)
+  are_both P Q some more lower a b = record {
+    sound = λ places has. elim (or-cases (has_places places some) (has_places places more) (sym (has-both places some more) ∙ has)) as (λ _. P places ⊎ Q places) [
+      | inl left ↦ inl (a.sound places left)
+      | inr right ↦ inr (b.sound places right)
+    ];
+    whole = λ places is. has-both places some more ∙ (elim is as (λ _. (has_places places some || has_places places more) ≡ true) [
+      | inl left ↦ or-left (has_places places some) (has_places places more) (a.whole places left)
+      | inr right ↦ or-right (has_places places some) (has_places places more) (b.whole places right)
+    ]);
+    rising = λ asked. rising_both some more (a.rising asked) (b.rising asked) (λ p q has there. lower asked p q (a.sound p has) (b.sound q there));
+  }
+
+  are_none : (P : List Place → Type 0) → ((places : List Place) → ¬ P places) → AreAll P in_order []
+  unfolding IsStrictlySortedBy
+  are_none P none = record { sound = λ places has. absurd (false≢true has); whole = λ places is. absurd (none places is); rising = λ asked. tt }
+
+  are_one : (P : List Place → Type 0) (places : List Place) → P places → ((other : List Place) → P other → places ≡ other) → AreAll P in_order (places ∷ [])
+  unfolding IsStrictlySortedBy
+  are_one P places is only = record {
+    sound = λ other has. subst P (sym (has_alone other places has)) is;
+    whole = λ other too. subst (λ (one : List Place). has_places one (places ∷ []) ≡ true) (only other too) (has-first places []);
+    rising = λ asked. (tt, tt);
+  }
+
+-- ---- slots
 at_place : (slots : List (Option Place)) (places : List Place) (table place : ℕ) → table < length slots → Fits (slice_set slots table (Some place)) places → slice_get places table ≡ Some place
 at_place [] places table place within fits = absurd (omega (arith, within))
 at_place (slot ∷ slots) [] zero place within fits = absurd fits
@@ -163,215 +108,229 @@ at_place (slot ∷ slots) (first ∷ places) zero place within fits = ap Some (s
 at_place (None ∷ slots) (first ∷ places) (suc table) place within fits = at_place slots places table place (omega (arith, within)) fits
 at_place (Some fixed ∷ slots) (first ∷ places) (suc table) place within fits = at_place slots places table place (omega (arith, within)) fits.1
 
-some_at : {X : Type 0} (xs : List X) (i : ℕ) → i < length xs → (x : X) × (slice_get xs i ≡ Some x)
-some_at [] i within = absurd (omega (arith, within))
-some_at (x ∷ xs) zero within = (x, refl)
-some_at (x ∷ xs) (suc i) within = some_at xs i (omega (arith, within))
-
--- ---- the rows that are chosen
-module _ (sets : List KeyedRows) where
-  pub front-none : (slots : List (Option Place)) → slots ≡ replicate (length sets) None → IsFront sets slots [] 0
-  front-none slots none = record {
-    places = [];
-    long = refl;
-    fits = λ others within. subst (λ (s : List (Option Place)). Fits s others) (sym none) (Fits-open others (length sets) (length-in_range sets others within));
-    within = λ others. refl;
-    rows = λ others. refl;
-    unchosen = λ later above. ap (λ (s : List (Option Place)). is_chosen s later) none ∙ none_chosen (length sets) later;
-  }
-
-  pub front-more : (slots : List (Option Place)) (front : Combination) (table place : Place) (set : KeyedRows) → IsFront sets slots front table → slice_get sets table ≡ Some set → nat_lt place (length set.rows) ≡ true
-      → IsFront sets (slice_set slots table (Some place)) (front ++ row_at set.rows place ∷ []) (table + 1)
-  front-more slots front table place set begun at below =
-      let rest = drop (table + 1) sets in
-      let those : drop table sets ≡ set ∷ rest = drop_at sets table set at in
-      let joined : (others : List Place) → (begun.places ++ place ∷ []) ++ others ≡ begun.places ++ place ∷ others = λ others. append_assoc begun.places (place ∷ []) others in
-      let inside : (others : List Place) → in_range (drop table sets) (place ∷ others) ≡ in_range rest others = λ others.
-      ap (λ (s : List KeyedRows). in_range s (place ∷ others)) those ∙ ap (λ b. b && in_range rest others) below in
-      record {
-        places = begun.places ++ place ∷ [];
-        long = omega (arith, length-append begun.places (place ∷ []), begun.long);
-        fits = λ others within.
-            subst (λ (p : List Place). Fits (slice_set slots table (Some place)) p) (sym (joined others))
-            (Fits-set slots (begun.places ++ place ∷ others) table place (begun.fits (place ∷ others) (inside others ∙ within)) (seam begun.places place others table begun.long));
-        within = λ others. ap (in_range sets) (joined others) ∙ begun.within (place ∷ others) ∙ inside others;
-        rows = λ others.
-            ap (chosen sets) (joined others) ∙ begun.rows (place ∷ others) ∙ ap (λ (s : List KeyedRows). front ++ chosen s (place ∷ others)) those
-            ∙ sym (append_assoc front (row_at set.rows place ∷ []) (chosen rest others));
-        unchosen = λ later above. still_open slots table later place (omega (arith, above)) ∙ begun.unchosen later (omega (arith, above));
-      }
-
--- ---- what counts
-module _ (choices : Choices) (query : Masked) where
-  begins : (front : Combination) (rest : List Combination) (row : BornRow) → continued front (beginning rest row) ≡ continued (front ++ row ∷ []) rest
-  begins front [] row = refl
-  begins front (others ∷ rest) row = λ i. sym (append_assoc front (row ∷ []) others) i ∷ begins front rest row i
-
-  by_places : (front : Combination) (rest : List Combination) (rows : List BornRow)
-      → counting choices query (continued front (flat_map (beginning rest) rows)) ≡ flat_map (λ place. counting choices query (continued (front ++ row_at rows place ∷ []) rest)) (range_with_len 0 (length rows))
-  by_places front rest rows =
-      let with_row : BornRow → List Combination = λ row. counting choices query (continued (front ++ row ∷ []) rest) in
-      ap (counting choices query) (map-flat_map (λ others. front ++ others) (beginning rest) rows ∙ (λ i. flat_map (λ row. begins front rest row i) rows))
-      ∙ filter-flat_map (stays choices query) (λ row. continued (front ++ row ∷ []) rest) rows
-      ∙ ap (flat_map with_row) (sym (each_row rows)) ∙ flat_map-map with_row (row_at rows) (range_with_len 0 (length rows))
-
-  module _ (sets : List KeyedRows) where
-    -- nothing counts that has the rows that are chosen
-    pub none-counting : (slots : List (Option Place)) (front : Combination) (table : Place) → IsFront sets slots front table
-        → ((places : List Place) → Fits slots places → ¬ (stands choices query sets places ≡ true)) → counting_from choices query sets front table ≡ []
-    none-counting slots front table begun never =
-        let rest = drop table sets in
-        let whole : List Place → Combination = λ others. front ++ chosen rest others in
-        let none : (others : List Place) → has_places others (places_of rest) ≡ true → stays choices query (whole others) ≡ false = λ others has.
-        let within : in_range rest others ≡ true = sym (has-places_of rest others) ∙ has in
-        not_true (stays choices query (whole others)) (λ counts.
-        never (begun.places ++ others) (begun.fits others within) ((λ i. (begun.within others ∙ within) i && (ap (stays choices query) (begun.rows others) ∙ counts) i))) in
-        ap (λ (some : List Combination). counting choices query (continued front some)) (product-rows rest)
-        ∙ ap (counting choices query) (map-map (λ others. front ++ others) (chosen rest) (places_of rest))
-        ∙ filter-map (stays choices query) whole (places_of rest) ∙ ap (map whole) (none_passes (λ others. stays choices query (whole others)) (places_of rest) none)
-
-    -- no table is left
-    pub counting-whole : (front : Combination) (table : Place) → length sets ≤ table → counting_from choices query sets front table ≡ counting choices query (front ∷ [])
-    counting-whole front table past =
-        ap (λ (s : List KeyedRows). counting choices query (continued front (product (rows_of s)))) (drop_all table sets past) ∙ ap (λ (f : Combination). counting choices query (f ∷ [])) (append-nil front)
-
-    -- no row is chosen yet
-    pub counting-all : (front : Combination) → front ≡ [] → counting_from choices query sets front 0 ≡ counting choices query (product (rows_of sets))
-    counting-all front none = ap (λ (f : Combination). counting_from choices query sets f 0) none ∙ ap (counting choices query) (map-id (product (rows_of sets)))
-
-    module _ (slots : List (Option Place)) (front : Combination) (table : Place) (begun : IsFront sets slots front table) (set : KeyedRows) (at : slice_get sets table ≡ Some set) where
-      rows_are : rows_in sets table ≡ set.rows
-      rows_are = ap (λ (o : Option KeyedRows). option_map_or (λ (s : KeyedRows). s.rows) o []) at
-
-      abbrev with_place : Place → List Combination
-      with_place place = counting_from choices query sets (front ++ row_at set.rows place ∷ []) (table + 1)
-
-      abbrev with_test : Place → Bool → List Combination
-      with_test place test = cond test (with_place place) []
-
-      counting_with-is : (place : Place) → counting_with choices query sets front table place ≡ with_test place (nat_lt place (length set.rows))
-      counting_with-is place = λ i. cond (nat_lt place (length (rows_are i))) (counting_from choices query sets (front ++ row_at (rows_are i) place ∷ []) (table + 1)) []
-
-      pub with-row : (place : Place) → place < length set.rows → counting_with choices query sets front table place ≡ with_place place
-      with-row place below = let test : nat_lt place (length set.rows) ≡ true = grind (arith, nat_tests) in counting_with-is place ∙ ap (with_test place) test
-
-      pub without-row : (place : Place) → length set.rows ≤ place → counting_with choices query sets front table place ≡ []
-      without-row place above = let test : nat_lt place (length set.rows) ≡ false = grind (arith, nat_tests) in counting_with-is place ∙ ap (with_test place) test
-
-      unreached : (some : List Place) → table < length slots → ReachesFrom choices query sets slots table some → (place : Place) → ¬ Contains some place → counting_with choices query sets front table place ≡ []
-      unreached some within reaches place missing = counting_with-is place ∙ by_test (nat_lt place (length set.rows)) refl
-        where
-          by_test : (test : Bool) → nat_lt place (length set.rows) ≡ test → with_test place test ≡ []
-          by_test false e = refl
-          by_test true e =
-              none-counting (slice_set slots table (Some place)) (front ++ row_at set.rows place ∷ []) (table + 1) (front-more sets slots front table place set begun at e)
-              (λ places fits counts. missing (reaches places (Fits-unset slots places table place (begun.unchosen table (omega arith)) fits) counts place (at_place slots places table place within fits)))
-
-      pub by-following : (some places : List Place) → table < length slots → ReachesFrom choices query sets slots table some → IsStrictlyIncreasing places → ((place : Place) → Contains some place → Contains places place)
-          → counting_from choices query sets front table ≡ flat_map (counting_with choices query sets front table) places
-      by-following some places within reaches rising all =
-          ap (λ (l : List Combination). counting choices query (continued front l)) (product_at sets table set at) ∙ by_places front (product (rows_of (drop (table + 1) sets))) set.rows
-          ∙ sparse with_place (counting_with choices query sets front table) places 0 (length set.rows) (ascends places rising)
-          (λ place below. sym (with-row place (omega (arith, below)))) (λ place least missing. unreached some within reaches place (λ has. missing (all place has))) (λ place above. without-row place (omega (arith, above)))
-
--- ---- what is kept of combinations that are visited place by place
-module _ {S : Type 0} (keeps : List Combination → S → Type 0) (f : Place → List Combination) (places : List Place) (i : ℕ) (place : Place) (e : slice_get places i ≡ Some place) (before : List Combination) (state : S) where
-  abbrev up_to : ℕ → List Combination
-  up_to n = flat_map f (take n places)
-
-  abbrev behind : List Combination
-  behind = flat_map f (drop (i + 1) places)
-
-  one_place_more : up_to (i + 1) ≡ up_to i ++ f place
-  one_place_more = ap (flat_map f) (take_row places i place e) ∙ flat_map-append f (take i places) (place ∷ []) ∙ ap (λ (l : List Combination). up_to i ++ l) (append-nil (f place))
-
-  all_places : flat_map f places ≡ up_to i ++ f place ++ behind
-  all_places =
-      ap (flat_map f) (sym (take-append-drop (i + 1) places)) ∙ flat_map-append f (take (i + 1) places) (drop (i + 1) places) ∙ ap (λ (l : List Combination). l ++ behind) one_place_more
-
-  pub place-more : (onward : Onward) → KeptAfter keeps (Ok onward) (before ++ up_to i) (f place) state → keeps (before ++ up_to (i + 1)) state
-  place-more onward kept =
-      let all : before ++ up_to i ++ f place ≡ before ++ up_to (i + 1) = append_assoc before (up_to i) (f place) ∙ ap (λ (some : List Combination). before ++ some) (sym one_place_more) in
-      subst (λ (some : List Combination). keeps some state) all (kept_whole keeps onward (before ++ up_to i) (f place) state kept)
-
-  pub place-enough : KeptAfter keeps (Ok Enough) (before ++ up_to i) (f place) state → (later : List Combination) → keeps (before ++ flat_map f places ++ later) state
-  place-enough kept later =
-      let joined : before ++ up_to i ++ f place ++ (behind ++ later) ≡ before ++ (up_to i ++ f place ++ behind) ++ later = simp append_assoc in
-      let all : before ++ up_to i ++ f place ++ (behind ++ later) ≡ before ++ flat_map f places ++ later = joined ∙ ap (λ (some : List Combination). before ++ some ++ later) (sym all_places) in
-      subst (λ (some : List Combination). keeps some state) all (kept (behind ++ later))
-
-pub kept-as : {S : Type 0} (keeps : List Combination → S → Type 0) (result : Result Onward Memory) (before these those : List Combination) (state : S) → these ≡ those → KeptAfter keeps result before these state → KeptAfter keeps result before those state
-kept-as keeps result before these those state same kept = subst (λ (some : List Combination). KeptAfter keeps result before some state) same kept
-
-pub kept-none : {S : Type 0} (keeps : List Combination → S → Type 0) (before these : List Combination) (state : S) → these ≡ [] → keeps before state → keeps (before ++ these) state
-kept-none keeps before these state none kept = subst (λ (some : List Combination). keeps some state) (sym (ap (λ (l : List Combination). before ++ l) none ∙ append-nil before)) kept
-
--- ---- a combination with a row of each table
-module _ (choices : Choices) (query : Masked) (combination : Combination) where
-  pub one-counting : (is_guarded choices query combination && masked_passes choices query combination) ≡ true → combination ∷ [] ≡ counting choices query (combination ∷ [])
-  unfolding stays
-  one-counting counts = λ i. cond (sym counts i) (combination ∷ []) []
-
-  pub not-counting : (is_guarded choices query combination && masked_passes choices query combination) ≡ false → counting choices query (combination ∷ []) ≡ []
-  unfolding stays
-  not-counting counts = λ i. cond (counts i) (combination ∷ []) []
-
--- ---- the stages of all tables
-mapped_at : {A B : Type 0} (f : A → B) (xs : List A) (i : ℕ) (x : A) → slice_get xs i ≡ Some x → slice_get (map f xs) i ≡ Some (f x)
-mapped_at f [] i x at = absurd cc
-mapped_at f (y ∷ xs) zero x at = λ j. Some (f (one at j))
+-- combinations with the same rows before a table, and other rows in it
+lower_at : (slots : List (Option Place)) (p q : List Place) (table a b : ℕ) → Fits slots p → Fits slots q → ((before : ℕ) → before < table → is_chosen slots before ≡ true) → slice_get p table ≡ Some a → slice_get q table ≡ Some b → a < b → slice_cmp nat_cmp p q ≡ Less
+lower_at slots [] q table a b fits_p fits_q chosen at_p at_q below = absurd cc
+lower_at slots (x ∷ p) [] table a b fits_p fits_q chosen at_p at_q below = absurd cc
+lower_at [] (x ∷ p) (y ∷ q) table a b fits_p fits_q chosen at_p at_q below = absurd fits_p
+lower_at (slot ∷ slots) (x ∷ p) (y ∷ q) zero a b fits_p fits_q chosen at_p at_q below =
+    let lower : x < y = subst (λ (m : ℕ). x < m) (sym (one at_q)) (subst (λ (m : ℕ). m < b) (sym (one at_p)) below) in
+    let less : nat_cmp x y ≡ Less = grind (arith, nat_tests) in
+    rw less refl
   where
-    one : {A : Type 0} {a b : A} → Some a ≡ Some b → a ≡ b
+    one : {m n : ℕ} → Some m ≡ Some n → m ≡ n
     one e = cc
-mapped_at f (y ∷ xs) (suc i) x at = mapped_at f xs i x at
+lower_at (None ∷ slots) (x ∷ p) (y ∷ q) (suc table) a b fits_p fits_q chosen at_p at_q below = absurd (false≢true (chosen 0 (omega arith)))
+lower_at (Some fixed ∷ slots) (x ∷ p) (y ∷ q) (suc table) a b fits_p fits_q chosen at_p at_q below =
+    ap (λ (first : ℕ). slice_cmp nat_cmp (first ∷ p) (y ∷ q)) (sym fits_p.0 ∙ fits_q.0) ∙ same-first y (slice_cmp nat_cmp p q)
+    ∙ lower_at slots p q table a b fits_p.1 fits_q.1 (λ before within. chosen (suc before) (omega (arith, within))) at_p at_q below
 
-module _ (choices : Choices) (query : Masked) (sets : List KeyedRows) (stages : List Stage) where
-  pub as-many : AreWalkable choices query sets false (range_with_len 0 (length sets)) stages → length stages ≡ length sets
-  as-many are = sym (length-map stages (λ (stage : Stage). stage.table)) ∙ ap length are.tables ∙ length-range_with_len 0 (length sets)
+-- whether places are those chosen, as a test
+abbrev fits : List (Option Place) → List Place → Bool
+fits [] [] = true
+fits [] (place ∷ places) = false
+fits (slot ∷ slots) [] = false
+fits (None ∷ slots) (place ∷ places) = fits slots places
+fits (Some fixed ∷ slots) (place ∷ places) = nat_eq fixed place && fits slots places
 
-  pub stage-at : AreWalkable choices query sets false (range_with_len 0 (length sets)) stages → (table : ℕ) (stage : Stage) → slice_get stages table ≡ Some stage
-      → (stage.table ≡ table) × ((table < length sets) × IsWalkable choices query sets stage)
-  stage-at are table stage at =
-      let within : table < length stages = slice_get_within stages table stage at in
-      let here : table < length sets = omega (arith, within, as-many are) in
-      let P : Stage → Type 0 = λ s. IsWalkable choices query sets s × (false ≡ true → s.is_sought ≡ false) in
-      let number : slice_get (range_with_len 0 (length sets)) table ≡ Some stage.table = ap (λ (l : List ℕ). slice_get l table) (sym are.tables) ∙ mapped_at (λ (s : Stage). s.table) stages table stage at in
-      let one : P stage = subst P (get_or_from_slice_get stages table stage stage at) (are.each table stage within) in
-      let from_zero : 0 + table ≡ table = omega arith in
-      (sym (get_or_from_slice_get (range_with_len 0 (length sets)) table stage.table stage.table number) ∙ get_or-range_with_len 0 (length sets) table stage.table here ∙ from_zero, (here, one.0))
+fits_so : (slots : List (Option Place)) (places : List Place) → fits slots places ≡ true → Fits slots places
+fits_so [] [] e = tt
+fits_so [] (place ∷ places) e = absurd (false≢true e)
+fits_so (slot ∷ slots) [] e = absurd (false≢true e)
+fits_so (None ∷ slots) (place ∷ places) e = fits_so slots places e
+fits_so (Some fixed ∷ slots) (place ∷ places) e =
+    let both = and_parts (nat_eq fixed place) (fits slots places) e in
+    let test : nat_eq fixed place ≡ true = both.0 in
+    (grind (arith, nat_tests), fits_so slots places both.1)
 
-  pub visit-first : (slots : List (Option Place)) (front : Combination) (here : List Stage) → AreWalkable choices query sets false (range_with_len 0 (length sets)) stages → here ≡ stages → slots ≡ replicate (length sets) None → front ≡ []
-      → CanVisit choices query sets here slots front 0
-  visit-first slots front here are same none no_row = record {
-    walkable = subst (λ (l : List Stage). AreWalkable choices query sets false (range_with_len 0 (length sets)) l) (sym same) are;
-    long = length-unchosen slots (length sets) (length sets) none refl;
-    begun = subst (λ (f : Combination). IsFront sets slots f 0) (sym no_row) (front-none sets slots none);
-  }
+fits_test : (slots : List (Option Place)) (places : List Place) → Fits slots places → fits slots places ≡ true
+fits_test [] [] e = refl
+fits_test [] (place ∷ places) e = absurd e
+fits_test (slot ∷ slots) [] e = absurd e
+fits_test (None ∷ slots) (place ∷ places) e = fits_test slots places e
+fits_test (Some fixed ∷ slots) (place ∷ places) e =
+    let same : fixed ≡ place = e.0 in
+    let test : nat_eq fixed place ≡ true = grind (arith, nat_tests) in
+    λ i. test i && fits_test slots places e.1 i
 
-  module _ (slots : List (Option Place)) (front : Combination) (table : Place) (can : CanVisit choices query sets stages slots front table) (set : KeyedRows) (at : slice_get sets table ≡ Some set) where
-    pub visit-more : (place : Place) (now : List (Option Place)) (pushed : Combination) → place < length set.rows → now ≡ slice_set slots table (Some place) → pushed ≡ front ++ row_at set.rows place ∷ [] → CanVisit choices query sets stages now pushed (table + 1)
-    visit-more place now pushed below set_so pushed_so =
-        let test : nat_lt place (length set.rows) ≡ true = grind (arith, nat_tests) in
-        let chosen_now : IsFront sets (slice_set slots table (Some place)) (front ++ row_at set.rows place ∷ []) (table + 1) = front-more sets slots front table place set can.begun at test in
-        record {
-          walkable = can.walkable;
-          long = ap length set_so ∙ length-set slots table (Some place) ∙ can.long;
-          begun = subst (λ (s : List (Option Place)). IsFront sets s pushed (table + 1)) (sym set_so) (subst (λ (f : Combination). IsFront sets (slice_set slots table (Some place)) f (table + 1)) (sym pushed_so) chosen_now);
+-- ---- the places of a stage, one after the other
+-- a combination that counts and has one of the first places of a stage
+pub record Tried
+    (choices : Choices) (query : Masked) (sets : List KeyedRows) (slots : List (Option Place)) (table : Place) (some : List Place) (i : ℕ) (places : List Place) : Type 0 where
+  pub completes : Completes choices query sets slots places
+  pub k : ℕ
+  pub lower : k < i
+  pub at : slice_get places table ≡ Some (get_or some k 0)
+
+-- a stage whose table's row is to be chosen next, and places that may follow
+pub record IsNext
+    (choices : Choices) (query : Masked) (sets : List KeyedRows) (in_order : Bool) (slots : List (Option Place)) (table : Place) (some : List Place) : Type 0 where
+  pub within : table < length slots
+  pub long : length slots ≡ length sets
+  pub unchosen : is_chosen slots table ≡ false
+  pub before : in_order ≡ true → (earlier : Place) → earlier < table → is_chosen slots earlier ≡ true
+  pub reaches : ReachesFrom choices query sets slots table some
+  pub rises : in_order ≡ true → IsStrictlyIncreasing some
+
+pub is-next : (choices : Choices) (query : Masked) (sets : List KeyedRows) (in_order : Bool) (stages : List Stage) (stage : Stage) (rest : List Stage) (slots : List (Option Place)) (some : List Place) → CanWalk choices query sets in_order stages slots → stages ≡ stage ∷ rest → is_open slots stage.table ≡ true
+    → ReachesFrom choices query sets slots stage.table some → (in_order ≡ true → IsStrictlyIncreasing some) → IsNext choices query sets in_order slots stage.table some
+is-next choices query sets in_order stages stage rest slots some can first open_here reaches rises =
+    let within = open-within slots stage.table open_here in
+    record {
+      within = within;
+      long = can.long;
+      unchosen = open-unchosen slots stage.table open_here;
+      before = before-chosen choices query sets in_order stages stage rest slots can first within;
+      reaches = reaches;
+      rises = rises;
+    }
+
+module _ (choices : Choices) (query : Masked) (sets : List KeyedRows) (in_order : Bool) (slots : List (Option Place)) (table : Place) (some : List Place) (next : IsNext choices query sets in_order slots table some) where
+  abbrev Is : List Place → Type 0
+  Is = Completes choices query sets slots
+
+  abbrev Has : Place → List Place → Type 0
+  Has place = Completes choices query sets (slice_set slots table (Some place))
+
+  abbrev Those : ℕ → List Place → Type 0
+  Those = Tried choices query sets slots table some
+
+  less : (k n : ℕ) (p q : List Place) → Is p → Is q → in_order ≡ true → k < n → n < length some → slice_get p table ≡ Some (get_or some k 0) → slice_get q table ≡ Some (get_or some n 0) → slice_cmp nat_cmp p q ≡ Less
+  less k n p q is_p is_q asked lower within at_p at_q =
+      lower_at slots p q table (get_or some k 0) (get_or some n 0) is_p.0 is_q.0 (next.before asked) at_p at_q (AllPairs-from_increasing some (next.rises asked) k n 0 lower within)
+
+  with_place : (place : Place) (places : List Place) → Has place places → Is places × (slice_get places table ≡ Some place)
+  with_place place places has = ((Fits-unset slots places table place next.unchosen has.0, has.1), at_place slots places table place next.within has.0)
+
+  reached : (places : List Place) → Is places → Those (length some) places
+  reached places is =
+      let long = long-enough choices query sets places is.1 in
+      let at = slice_get-get_or places table 0 (omega (arith, long, next.within, next.long)) in
+      let has = next.reaches places is.0 is.1 (get_or places table 0) at in
+      record { completes = is; k = has.0; lower = has.1; at = at ∙ ap Some (sym (get_or_default some has.0 (get_or places table 0) 0 has.1 ∙ has.2)) }
+
+  all_tried : (i : ℕ) (all : List (List Place)) → length some ≤ i → AreAll (Those i) in_order all → AreAll Is in_order all
+  all_tried i all past are = are_same in_order (Those i) Is all (λ places tried. tried.completes)
+      (λ places is. let last = reached places is in record { completes = is; k = last.k; lower = omega (arith, last.lower, past); at = last.at }) are
+
+  tried_more : (i : ℕ) (all more : List (List Place)) → i < length some → AreAll (Those i) in_order all → AreAll (Has (get_or some i 0)) in_order more → AreAll (Those (i + 1)) in_order (all ++ more)
+  tried_more i all more within are here =
+      are_same in_order (λ places. Those i places ⊎ Has (get_or some i 0) places) (Those (i + 1)) (all ++ more)
+      (λ places is. elim is as (λ _. Those (i + 1) places) [
+        | inl tried ↦ record { completes = tried.completes; k = tried.k; lower = omega (arith, tried.lower); at = tried.at }
+        | inr has ↦ let both = with_place (get_or some i 0) places has in record { completes = both.0; k = i; lower = omega arith; at = both.1 }
+      ])
+      (λ places tried. elim (below_or_at tried.k i tried.lower) as (λ _. Those i places ⊎ Has (get_or some i 0) places) [
+        | inl earlier ↦ inl (record { completes = tried.completes; k = tried.k; lower = earlier; at = tried.at })
+        | inr last ↦ inr (Fits-set slots places table (get_or some i 0) tried.completes.0 (tried.at ∙ ap (λ (j : ℕ). Some (get_or some j 0)) last), tried.completes.1)
+      ])
+      (are_both in_order (Those i) (Has (get_or some i 0)) all more
+      (λ asked p q tried has. let both = with_place (get_or some i 0) q has in less tried.k i p q tried.completes both.0 asked tried.lower within tried.at both.1) are here)
+
+  -- those that are left, once some of the places were tried
+  module _ (i : ℕ) (short : i ≤ length some) (all : List (List Place)) (are : AreAll (Those i) in_order all) where
+    abbrev Left : List Place → Type 0
+    Left places = Is places × (has_places places all ≡ false)
+
+    abbrev left_test : List Place → Bool
+    left_test places = fits slots places && (stands choices query sets places && not (has_places places all))
+
+    abbrev left : List (List Place)
+    left = filter left_test (places_of sets)
+
+    has_left : (places : List Place) → has_places places left ≡ (in_range sets places && left_test places)
+    has_left places = has-filter left_test places (places_of sets) ∙ ap (λ b. b && left_test places) (has-places_of sets places)
+
+    is_false : (b : Bool) → not b ≡ true → b ≡ false
+    is_false true e = absurd (false≢true e)
+    is_false false e = refl
+
+    are_left : AreAll Left in_order left
+    are_left = record {
+      sound = λ places has.
+          let parts = and_parts (in_range sets places) (left_test places) (sym (has_left places) ∙ has) in
+          let both = and_parts (fits slots places) (stands choices query sets places && not (has_places places all)) parts.1 in
+          let two = and_parts (stands choices query sets places) (not (has_places places all)) both.1 in
+          ((fits_so slots places both.0, two.0), is_false (has_places places all) two.1);
+      whole = λ places is. has_left places ∙ (λ j. in-range choices query sets places is.0.1 j && (fits_test slots places is.0.0 j && (is.0.1 j && not (is.1 j))));
+      rising = λ asked. IsStrictlySortedBy-filter (slice_cmp nat_cmp) left_test (places_of sets) (rising-places_of sets);
+    }
+
+    at_or_above : (k : ℕ) → (k < i) ⊎ (i ≤ k)
+    at_or_above k = grind arith
+
+    with_left : AreAll Is in_order (all ++ left)
+    with_left =
+        are_same in_order (λ places. Those i places ⊎ Left places) Is (all ++ left)
+        (λ places is. elim is as (λ _. Is places) [ inl tried ↦ tried.completes | inr later ↦ later.0 ])
+        (λ places is. elim (true_or_not (has_places places all)) as (λ _. Those i places ⊎ Left places) [ inl has ↦ inl (are.sound places has) | inr missing ↦ inr (is, missing) ])
+        (are_both in_order (Those i) Left all left
+        (λ asked p q tried later.
+        let last = reached q later.0 in
+        elim (at_or_above last.k) as (λ _. slice_cmp nat_cmp p q ≡ Less) [
+          | inl earlier ↦ absurd (false≢true (sym later.1 ∙ are.whole q (record { completes = later.0; k = last.k; lower = earlier; at = last.at })))
+          | inr above ↦ less tried.k last.k p q tried.completes later.0 asked (omega (arith, tried.lower, above)) last.lower tried.at last.at
+        ]) are are_left)
+
+-- ---- what is kept
+module _ {S : Type 0} (keeps : List (List Place) → S → Type 0) (in_order : Bool) where
+  pub kept-whole : (onward : Onward) (before these : List (List Place)) (state : S) → KeptOn keeps onward before these state → keeps (before ++ these) state
+  kept-whole More before these state kept = kept
+  kept-whole Enough before these state kept = subst (λ (all : List (List Place)). keeps all state) (append-nil (before ++ these)) (kept [])
+
+  -- the same combinations, said otherwise, whether or not a visitor has enough
+  pub visited-as : (P Q : List Place → Type 0) (onward : Onward) (before : List (List Place)) (state : S) → ((places : List Place) → P places → Q places) → ((places : List Place) → Q places → P places) → Visited P in_order keeps onward before state → Visited Q in_order keeps More before state
+  visited-as P Q onward before state there back visited = record { all = visited.all; are = are_same in_order P Q visited.all there back visited.are; kept = kept-whole onward before visited.all state visited.kept }
+
+  pub visited-none : (P : List Place → Type 0) (before : List (List Place)) (state : S) → ((places : List Place) → ¬ P places) → keeps before state → Visited P in_order keeps More before state
+  visited-none P before state none kept = record { all = []; are = are_none in_order P none; kept = subst (λ (all : List (List Place)). keeps all state) (sym (append-nil before)) kept }
+
+  module _ (choices : Choices) (query : Masked) (sets : List KeyedRows) (slots : List (Option Place)) where
+    -- where each row is chosen, there is one combination, which counts or does not
+    pub visited-one : (places : List Place) (onward : Onward) (before : List (List Place)) (state : S) → slots ≡ map Some places → stands choices query sets places ≡ true → KeptOn keeps onward before (places ∷ []) state
+        → Visited (Completes choices query sets slots) in_order keeps onward before state
+    visited-one places onward before state whole counts kept = record {
+      all = places ∷ [];
+      are = are_one in_order (Completes choices query sets slots) places (subst (λ (s : List (Option Place)). Fits s places) (sym whole) (fits-itself places), counts) (λ other is. Fits-whole slots other places whole is.0);
+      kept = kept;
+    }
+
+    pub not-one : (places : List Place) → slots ≡ map Some places → stands choices query sets places ≡ false → (other : List Place) → ¬ Completes choices query sets slots other
+    not-one places whole counts other is = false≢true (sym counts ∙ ap (stands choices query sets) (Fits-whole slots other places whole is.0) ∙ is.1)
+
+    module _ (table : Place) (some : List Place) (next : IsNext choices query sets in_order slots table some) (i : ℕ) (before : List (List Place)) (old : S) (so_far : Visited (Tried choices query sets slots table some i) in_order keeps More before old) where
+      -- all places of a stage were tried
+      pub visited-all : length some ≤ i → Visited (Completes choices query sets slots) in_order keeps More before old
+      visited-all past = record { all = so_far.all; are = all_tried choices query sets in_order slots table some next i so_far.all past so_far.are; kept = so_far.kept }
+
+      module _ (within : i < length some) (slots_now : List (Option Place)) (place : Place) (same : slots_now ≡ slots) (is_place : place ≡ get_or some i 0) (onward : Onward) (now : S)
+          (here : Visited (Completes choices query sets (slice_set slots_now table (Some place))) in_order keeps onward (before ++ so_far.all) now) where
+        both : AreAll (Tried choices query sets slots table some (i + 1)) in_order (so_far.all ++ here.all)
+        both =
+            tried_more choices query sets in_order slots table some next i so_far.all here.all within so_far.are
+            (subst (λ (s : List (Option Place)). AreAll (Completes choices query sets (slice_set s table (Some (get_or some i 0)))) in_order here.all) same
+            (subst (λ (at : Place). AreAll (Completes choices query sets (slice_set slots_now table (Some at))) in_order here.all) is_place here.are))
+
+        -- one place more, and a place at which the visitor has enough
+        pub visited-more : Visited (Tried choices query sets slots table some (i + 1)) in_order keeps More before now
+        visited-more = record {
+          all = so_far.all ++ here.all;
+          are = both;
+          kept = subst (λ (all : List (List Place)). keeps all now) (append_assoc before so_far.all here.all) (kept-whole onward (before ++ so_far.all) here.all now here.kept);
         }
 
-  pub visit-same : (slots now : List (Option Place)) (front same_front : Combination) (table same_table : Place) → now ≡ slots → same_front ≡ front → same_table ≡ table → CanVisit choices query sets stages slots front table
-      → CanVisit choices query sets stages now same_front same_table
-  visit-same slots now front same_front table same_table a b c can =
-      subst (λ (s : List (Option Place)). CanVisit choices query sets stages s same_front same_table) (sym a)
-      (subst (λ (f : Combination). CanVisit choices query sets stages slots f same_table) (sym b) (subst (λ (t : Place). CanVisit choices query sets stages slots front t) (sym c) can))
-
-  -- what counts, by the places that follow
-  pub counted-by : (slots : List (Option Place)) (front : Combination) (table : Place) → CanVisit choices query sets stages slots front table → (stage : Stage) → stage.table ≡ table → table < length sets → (some places : List Place)
-      → ReachesFrom choices query sets slots stage.table some → IsStrictlyIncreasing places → ((place : Place) → Contains some place → Contains places place)
-      → flat_map (counting_with choices query sets front table) places ≡ counting_from choices query sets front table
-  counted-by slots front table can stage same within some places reaches rising all =
-      let one = some_at sets table within in
-      sym (by-following choices query sets slots front table can.begun one.0 one.1 some places (omega (arith, within, can.long)) (subst (λ (t : Place). ReachesFrom choices query sets slots t some) same reaches) rising all)
+        pub visited-enough : onward ≡ Enough → Visited (Completes choices query sets slots) in_order keeps Enough before now
+        visited-enough enough =
+            let short : i + 1 ≤ length some = omega (arith, within) in
+            let rest = left choices query sets in_order slots table some next (i + 1) short (so_far.all ++ here.all) both in
+            let kept : (later : List (List Place)) → keeps ((before ++ so_far.all) ++ here.all ++ later) now = subst (λ (o : Onward). KeptOn keeps o (before ++ so_far.all) here.all now) enough here.kept in
+            record {
+              all = (so_far.all ++ here.all) ++ rest;
+              are = with_left choices query sets in_order slots table some next (i + 1) short (so_far.all ++ here.all) both;
+              kept = λ later.
+                  let joined : ((before ++ so_far.all) ++ here.all) ++ (rest ++ later) ≡ (before ++ ((so_far.all ++ here.all) ++ rest)) ++ later = simp append_assoc in
+                  subst (λ (these : List (List Place)). keeps these now) joined (kept (rest ++ later));
+            }
 
 -- all tables of an order are there
 pub below-all : (n : ℕ) (order : List Place) → order ≡ range_with_len 0 n → All (λ table. table < n) order
@@ -379,3 +338,33 @@ below-all n order is = subst (λ (l : List Place). All (λ table. table < n) l) 
     let short : k < n = omega (arith, within, length-range_with_len 0 n) in
     let at = get_or-range_with_len 0 n k d short in
     omega (arith, short, at))
+
+pub whole-all : (n : ℕ) (order : List Place) → order ≡ range_with_len 0 n → (table : Place) → table < n → Contains order table
+whole-all n order is table within = subst (λ (l : List Place). Contains l table) (sym is) (table, omega (arith, within, length-range_with_len 0 n), get_or-range_with_len 0 n table table within ∙ zero-add table)
+
+pub rises-all : (n : ℕ) (order : List Place) → order ≡ range_with_len 0 n → IsStrictlyIncreasing order
+rises-all n order is = subst IsStrictlyIncreasing (sym is) (λ k within.
+    let short : k + 1 < n = omega (arith, within, length-range_with_len 0 n) in
+    let here = get_or-range_with_len 0 n k 0 (omega (arith, short)) in
+    let next = get_or-range_with_len 0 n (k + 1) 0 short in
+    omega (arith, here, next))
+
+-- ---- rows of places that are visited
+module _ {S : Type 0} (keeps : List Combination → S → Type 0) (sets : List KeyedRows) (front : List Combination) (before : List (List Place)) (places : List Place) (rows : Combination) (state : S) (are : rows ≡ chosen sets places) where
+  one_more : (front ++ map (chosen sets) before) ++ rows ∷ [] ≡ front ++ map (chosen sets) (before ++ places ∷ [])
+  one_more =
+      append_assoc front (map (chosen sets) before) (rows ∷ [])
+      ∙ ap (λ (l : List Combination). front ++ l) (ap (λ (last : Combination). map (chosen sets) before ++ last ∷ []) are ∙ sym (map-append (chosen sets) before (places ∷ [])))
+
+  pub rows-kept : (result : Result Onward Memory) → KeptAfter keeps result (front ++ map (chosen sets) before) (rows ∷ []) state → IfOk result (λ onward. KeptOn (λ visited. keeps (front ++ map (chosen sets) visited)) onward before (places ∷ []) state)
+  rows-kept (Ok More) kept = subst (λ (l : List Combination). keeps l state) one_more kept
+  rows-kept (Ok Enough) kept = λ later.
+      let joined =
+      ap (λ (l : List Combination). l ++ map (chosen sets) later) one_more ∙ append_assoc front (map (chosen sets) (before ++ places ∷ [])) (map (chosen sets) later)
+      ∙ ap (λ (l : List Combination). front ++ l) (sym (map-append (chosen sets) (before ++ places ∷ []) later)) in
+      subst (λ (l : List Combination). keeps l state) joined (kept (map (chosen sets) later))
+  rows-kept (Err wanted) kept = tt
+
+-- ---- all combinations
+pub completes-open : (choices : Choices) (query : Masked) (sets : List KeyedRows) (slots : List (Option Place)) → slots ≡ replicate (length sets) None → (places : List Place) → stands choices query sets places ≡ true → Completes choices query sets slots places
+completes-open choices query sets slots none places counts = (subst (λ (s : List (Option Place)). Fits s places) (sym none) (Fits-open places (length sets) (long-enough choices query sets places counts)), counts)

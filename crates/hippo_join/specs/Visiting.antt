@@ -1,52 +1,47 @@
--- A walk over the combinations that count, in the order of the product.
-use Rattle.std.specs.Prelude.{◌≡◌, ◌+◌, ◌≤◌, false, true, nat_lt, if◌then◌else◌, List, [], ◌∷◌, ◌++◌, length, drop, filter, slice_get, Option}
-use Rattle.std.specs.List.{range_with_len}
-use Rattle.std.specs.Option.{option_map_or}
-use Rattle.hippo_model.specs.declared.born_row.BornRow.{BornRow}
+-- A walk over the combinations that count, by their places.
+use Rattle.std.specs.Prelude.{◌≡◌, Bool, true, List, ◌++◌, filter, IfOk, Option, Result}
+use Rattle.hippo_values.specs.declared.memory.Memory.{Memory}
 use Rattle.hippo_model.specs.declared.query.Masked.{Masked}
 use Rattle.hippo_model.specs.Terms.{Combination, Place}
 use Rattle.hippo_model.specs.RowSets.{KeyedRows}
-use Rattle.hippo_model.specs.Answers.{product}
 use Rattle.hippo_model.specs.Masking.{Choices}
-use Rattle.hippo_eval.specs.Walks.{rows_of, continued}
-use Rattle.hippo_join.specs.declared.stages.Stage.{Stage}
-use Rattle.hippo_join.specs.Places.{Fits, chosen, in_range, row_at, stays}
-use Rattle.hippo_join.specs.Known.{is_chosen}
-use Rattle.hippo_join.specs.Walking.{AreWalkable}
+use Rattle.hippo_eval.specs.declared.walks.Onward.{Onward}
+use Rattle.hippo_eval.specs.declared.walks.Onward.TheVariants.{More, Enough}
+use Rattle.hippo_join.specs.Finding.{has_places, IsRising}
+use Rattle.hippo_join.specs.Places.{Fits, stands, stays}
 
 -- the combinations that count
 abbrev pub counting : Choices → Masked → List Combination → List Combination
 counting choices query combinations = filter (stays choices query) combinations
 
--- those that count and begin with some rows, with the rows of the tables from a place on behind them
-abbrev pub counting_from : Choices → Masked → List KeyedRows → Combination → Place → List Combination
-counting_from choices query sets front table =
-    counting choices query (continued front (product (rows_of (drop table sets))))
+-- places that are those chosen, of a combination that counts
+abbrev pub Completes : Choices → Masked → List KeyedRows → List (Option Place) → List Place → Type 0
+Completes choices query sets slots places = Fits slots places × (stands choices query sets places ≡ true)
 
-abbrev pub rows_in : List KeyedRows → Place → List BornRow
-rows_in sets table = option_map_or (λ set. set.rows) (slice_get sets table) []
+-- what a state keeps, after combinations that were visited before, of some more; where a visitor has enough, what it
+-- keeps of them holds with whatever follows them
+abbrev pub KeptOn : {S : Type 0} → (List (List Place) → S → Type 0) → Onward
+    → List (List Place) → List (List Place) → S → Type 0
+KeptOn keeps More before these state = keeps (before ++ these) state
+KeptOn keeps Enough before these state = (later : List (List Place)) → keeps (before ++ these ++ later) state
 
--- those of them that have the row at a place in the first of these tables
-abbrev pub counting_with : Choices → Masked → List KeyedRows → Combination → Place → Place → List Combination
-counting_with choices query sets front table place =
-    let rows : List BornRow = rows_in sets table in
-    if nat_lt place (length rows) then counting_from choices query sets (front ++ row_at rows place ∷ []) (table + 1)
-    else []
+-- the combinations of a kind, in the order of the product where that is asked for
+pub record AreAll (Is : List Place → Type 0) (in_order : Bool) (all : List (List Place)) : Type 0 where
+  pub sound : (places : List Place) → has_places places all ≡ true → Is places
+  pub whole : (places : List Place) → Is places → has_places places all ≡ true
+  pub rising : in_order ≡ true → IsRising all
 
--- the rows that are chosen are those of the tables before a place, and rows of the others complete a combination
-pub record IsFront
-    (sets : List KeyedRows) (slots : List (Option Place)) (front : Combination) (table : Place) : Type 0 where
-  pub places : List Place
-  pub long : length places ≡ table
-  pub fits : (others : List Place) → in_range (drop table sets) others ≡ true → Fits slots (places ++ others)
-  pub within : (others : List Place) → in_range sets (places ++ others) ≡ in_range (drop table sets) others
-  pub rows : (others : List Place) → chosen sets (places ++ others) ≡ front ++ chosen (drop table sets) others
-  pub unchosen : (later : Place) → table ≤ later → is_chosen slots later ≡ false
+-- a state keeps the combinations of a kind behind those that were visited before
+pub record Visited {S : Type 0}
+    (Is : List Place → Type 0) (in_order : Bool) (keeps : List (List Place) → S → Type 0)
+    (onward : Onward) (before : List (List Place)) (state : S) : Type 0 where
+  pub all : List (List Place)
+  pub are : AreAll Is in_order all
+  pub kept : KeptOn keeps onward before all state
 
--- the stages of all tables in the order of FROM, where the rows of those before a place are chosen
-pub record CanVisit
-    (choices : Choices) (query : Masked) (sets : List KeyedRows) (stages : List Stage)
-    (slots : List (Option Place)) (front : Combination) (table : Place) : Type 0 where
-  pub walkable : AreWalkable choices query sets false (range_with_len 0 (length sets)) stages
-  pub long : length slots ≡ length sets
-  pub begun : IsFront sets slots front table
+-- where a state kept what was visited before, it keeps the combinations of a kind behind that
+abbrev pub Visits : {S : Type 0} → (List Place → Type 0) → Bool
+    → (List Combination → List (List Place) → S → Type 0) → Result Onward Memory → S → S → Type 0
+Visits Is in_order keeps result old new =
+    (front : List Combination) (before : List (List Place)) → keeps front before old
+    → IfOk result (λ onward. Visited Is in_order (keeps front) onward before new)

@@ -1,6 +1,7 @@
 -- Stages of which a walk goes from one to the next: they list their places, or look them up.
 use Rattle.std.specs.Prelude.{◌≡◌, ◌-◌, Bool, true, false, List, length, map, Option}
 use Rattle.std.specs.List.{All, range_with_len}
+use Rattle.std.specs.List.Sorted.{IsStrictlyIncreasing}
 use Rattle.hippo_model.specs.declared.query.Masked.{Masked}
 use Rattle.hippo_model.specs.Terms.{Place}
 use Rattle.hippo_model.specs.RowSets.{KeyedRows}
@@ -28,10 +29,11 @@ pub record AreWalkable
   pub each : All (λ stage. IsWalkable choices query sets stage × (lists ≡ true → stage.is_sought ≡ false)) stages
   pub tables : map (λ stage. stage.table) stages ≡ order
 
--- the stages of a walk, with the rows that are chosen before
+-- the stages of a walk, with the rows that are chosen before; in the order of FROM where that is asked for
 pub record CanWalk
-    (choices : Choices) (query : Masked) (sets : List KeyedRows)
+    (choices : Choices) (query : Masked) (sets : List KeyedRows) (in_order : Bool)
     (stages : List Stage) (slots : List (Option Place)) : Type 0 where
   pub long : length slots ≡ length sets
   pub walkable : All (IsWalkable choices query sets) stages
   pub covers : Covers stages slots
+  pub rises : in_order ≡ true → IsStrictlyIncreasing (map (λ stage. stage.table) stages)

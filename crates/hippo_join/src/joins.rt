@@ -1,17 +1,16 @@
 //! The answer of a query by a planned join.
-ghost use Rattle.std.specs.Prelude.{◌≡◌, ◌<◌, ◌≤◌, [], Err, Some, List, IfOk, OnOk, MatchResult, length, map};
+ghost use Rattle.std.specs.Prelude.{◌≡◌, ◌<◌, true, Some, IfOk, MatchResult, length, map};
 ghost use Rattle.std.specs.List.{All, Contains};
 ghost use Rattle.hippo_model.specs.Terms.{Place};
 ghost use Rattle.hippo_model.specs.Masking.{masked_items, masked_answer};
 ghost use Rattle.hippo_eval.specs.Answering.{IsAnswered};
 ghost use Rattle.hippo_eval.specs.Walks.{rows_of};
-ghost use Rattle.hippo_eval.specs.declared.answers.EvalFault.TheVariants.{TooManyRows, Memory as OfMemory};
+ghost use Rattle.hippo_eval.specs.declared.answers.EvalFault.TheVariants.{Memory as OfMemory};
 ghost use Rattle.hippo_join.specs.Places.{blank, chosen, stands};
-ghost use Rattle.hippo_join.specs.Finding.{AllCount, IsRising, has_places};
+ghost use Rattle.hippo_join.specs.Finding.{AreFound};
 ghost use Rattle.hippo_join.specs.Plans.{IsPlanOf};
 
-use crate::finding::check_limit;
-use crate::reaching::open_slots;
+use crate::finding::PlaceFinder;
 use crate::sides::Side;
 use hippo_eval::{ANSWER_LIMIT, EvalFault, project};
 use hippo_model::{Answer, BornRow, CellRow, ChoiceView, Masked, Places, Plan, Sets};
@@ -46,31 +45,6 @@ fn slots_of(alloc: Global, places: &[usize]) -> Result<Vec<Option<usize>>, Memor
 }
 
 impl<'a, C: ChoiceView> Side<'a, C> {
-    // Finds all combinations that count.
-    fn find_all(
-        &self,
-        alloc: Global,
-        order: &[usize],
-        found: &mut BTreeSet<Places>,
-    ) -> Result<(), EvalFault>
-        requires below { All (λ table. table < length self.now.sets.now) order.now }
-        requires whole { (table : Place) → table < length self.now.sets.now → Contains order.now table }
-        requires none { found.old.keys ≡ [] }
-        ensures order { IsRising found.new.keys }
-        ensures sound { AllCount (C.choices self.now.choices.now) self.now.query.now self.now.sets.now found.new.keys }
-        ensures found { OnOk result ((places : List Place) → has_places places found.new.keys ≡ stands
-            (C.choices self.now.choices.now) self.now.query.now self.now.sets.now places) }
-        ensures many { result ≡ Err TooManyRows → ANSWER_LIMIT < length found.new.keys }
-    {
-        // The order of a set's members is known where its length was asked for.
-        let _count = found.len();
-        let stages = self.stages_in(alloc, order, false)?;
-        let mut slots = open_slots(alloc, self.sets.len())?;
-        let result = self.find(alloc, &stages, &mut slots, found);
-        let _count = found.len();
-        result
-    }
-
     // The row of the answer that a combination makes.
     fn answer_row(&self, alloc: Global, places: &[usize]) -> Result<CellRow, Memory>
         ensures { IfOk result (λ row. row ≡ masked_items (C.choices self.now.choices.now) self.now.query.now
@@ -102,17 +76,18 @@ impl<'a, C: ChoiceView> Side<'a, C> {
         Ok(self.answer_rows(alloc, &found)?)
     }
 
-    // The answer, where all combinations that count are found.
+    // The answer, where all combinations that count are found, or more than the limit.
     fn answer_found(&self, alloc: Global, found: BTreeSet<Places>) -> Result<Answer, EvalFault>
-        requires order { IsRising found.keys }
-        requires exact { (places : List Place) → has_places places found.keys ≡ stands
-            (C.choices self.now.choices.now) self.now.query.now self.now.sets.now places }
+        requires { AreFound (λ places. stands (C.choices self.now.choices.now) self.now.query.now self.now.sets.now
+            places ≡ true) ANSWER_LIMIT found.keys }
         ensures { IsAnswered ANSWER_LIMIT (masked_answer
             (C.choices self.now.choices.now) self.now.query.now (rows_of self.now.sets.now)) result }
     {
-        match check_limit(&found) {
-            Ok(()) => self.answer_listed(alloc, found),
-            Err(fault) => Err(fault),
+        // The order of a set's members is known where its length was asked for.
+        if found.len() > ANSWER_LIMIT {
+            Err(EvalFault::TooManyRows)
+        } else {
+            self.answer_listed(alloc, found)
         }
     }
 
@@ -123,10 +98,13 @@ impl<'a, C: ChoiceView> Side<'a, C> {
         ensures { IsAnswered ANSWER_LIMIT (masked_answer
             (C.choices self.now.choices.now) self.now.query.now (rows_of self.now.sets.now)) result }
     {
+        let finder = PlaceFinder {
+            limit: ANSWER_LIMIT,
+        };
         let mut found = BTreeSet::new(alloc);
-        match self.find_all(alloc, order, &mut found) {
+        match self.walk_all(alloc, order, false, &finder, &mut found) {
             Ok(()) => self.answer_found(alloc, found),
-            Err(fault) => Err(fault),
+            Err(Memory) => Err(EvalFault::Memory),
         }
     }
 }

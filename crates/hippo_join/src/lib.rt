@@ -18,6 +18,7 @@ mod sides;
 mod stages;
 mod ties;
 mod visiting;
+mod walking;
 
 pub use gathering::gather_joined;
 pub use joins::{blank_row, run};

@@ -211,7 +211,7 @@ impl<'a, C: ChoiceView> Side<'a, C> {
         None
     }
 
-    // The same where an equality says the value of the column.
+    // A bound of a column from below or from above, where an equality may say its value too.
     pub(crate) fn told_end(
         &self,
         column: Ref,

@@ -55,26 +55,14 @@ fn compared_column(part: &CondOf<Expr>, table: usize) -> Option<usize> {
     }
 }
 
-fn bounded_access(column: Option<usize>) -> Option<Access> {
-    match column {
-        Some(column) => Some(Access::Bounds(column)),
-        None => None,
-    }
-}
-
-fn listed_access(column: Option<usize>) -> Option<Access> {
-    match column {
-        Some(column) => Some(Access::List(column)),
-        None => None,
-    }
-}
-
 // How a part of a condition may find rows of a table.
 fn access_by(part: &CondOf<Expr>, table: usize) -> Option<Access> {
     match part {
-        CondOf::Compare { left, right, .. } => bounded_access(column_beside(left, right, table)),
-        CondOf::Between { value, .. } => bounded_access(column_in(value, table)),
-        CondOf::Among { value, .. } => listed_access(column_in(value, table)),
+        CondOf::Compare { left, right, .. } => {
+            Some(Access::Bounds(column_beside(left, right, table)?))
+        }
+        CondOf::Between { value, .. } => Some(Access::Bounds(column_in(value, table)?)),
+        CondOf::Among { value, .. } => Some(Access::List(column_in(value, table)?)),
         _ => None,
     }
 }
@@ -92,7 +80,7 @@ impl<'a, C: ChoiceView> Side<'a, C> {
         self.sets.get(column.table).is_ordered_by(column.column) && self.is_joined(column, slots)
     }
 
-    // The same of some column of a table.
+    // Whether rows that are chosen, and no literal, say the value of some column by which a table has an order.
     fn is_found(&self, table: usize, slots: &[Option<usize>]) -> bool
         requires { table < length self.now.sets.now }
     {

@@ -1,5 +1,5 @@
 //! One side of a join: a query over tables, and what can be said of a combination of rows before all are chosen.
-ghost use Rattle.std.specs.Prelude.{◌≡◌, ◌∷◌, [], ◌++◌, ◌<◌, true, List, OnOk, IfOk, length, not, ◌||◌, unwrap_or, slice_get};
+ghost use Rattle.std.specs.Prelude.{◌≡◌, ◌∷◌, [], ◌++◌, ◌<◌, true, List, OnOk, IfOk, length, not, ◌||◌, unwrap_or, slice_get, take};
 ghost use Rattle.std.specs.Option.{option_map_or};
 ghost use Rattle.hippo_model.specs.Terms.{Place};
 ghost use Rattle.hippo_model.specs.Conditions.{is_true};
@@ -49,25 +49,30 @@ fn is_true(truth: Truth) -> bool
     matches!(truth, Truth::True)
 }
 
-// Takes all rows out; their room stays.
-fn clear(rows: &mut Combo<'_>)
-    ensures { rows.new ≡ [] }
+// Takes out the rows of the tables from a place on; their room stays.
+fn cut(rows: &mut Combo<'_>, table: usize)
+    ensures { rows.new ≡ take table rows.old }
 {
-    while !rows.is_empty() {
+    while rows.len() > table {
         rows.pop();
     }
 }
 
 impl<'a, C: ChoiceView> Side<'a, C> {
-    // Puts the rows that are chosen, and blank ones of the other tables, in the place of those
-    // before.
-    pub(crate) fn refill(&self, rows: &mut Combo<'a>, slots: &[Option<usize>]) -> Result<(), Memory>
+    // Puts the rows that are chosen, and blank ones of the other tables, in the place of those before, from a table on.
+    pub(crate) fn renew(
+        &self,
+        rows: &mut Combo<'a>,
+        slots: &[Option<usize>],
+        table: usize,
+    ) -> Result<(), Memory>
+        requires { take table rows.old ≡ take table (rows_at self.now.sets.now slots.now) }
         ensures { OnOk result (rows.new ≡ rows_at self.now.sets.now slots.now) }
     {
-        clear(rows);
-        for table in 0..self.sets.len() {
-            let slot = slot_at(slots, table);
-            push_row(rows, self.sets.get(table), slot, self.blank)?;
+        cut(rows, table);
+        for later in table..self.sets.len() {
+            let slot = slot_at(slots, later);
+            push_row(rows, self.sets.get(later), slot, self.blank)?;
         }
         Ok(())
     }
@@ -77,7 +82,7 @@ impl<'a, C: ChoiceView> Side<'a, C> {
         ensures { IfOk result (λ rows. rows ≡ rows_at self.now.sets.now slots.now) }
     {
         let mut rows = Combo::new(alloc);
-        self.refill(&mut rows, slots)?;
+        self.renew(&mut rows, slots, 0)?;
         Ok(rows)
     }
 
@@ -126,7 +131,12 @@ impl<'a, C: ChoiceView> Side<'a, C> {
     }
 
     // Whether some parts of the condition, by their places, may hold with the rows that are chosen.
-    fn tests_hold(&self, tests: &[usize], slots: &[Option<usize>], rows: &Combo<'_>) -> bool
+    pub(crate) fn tests_hold(
+        &self,
+        tests: &[usize],
+        slots: &[Option<usize>],
+        rows: &Combo<'_>,
+    ) -> bool
         requires { rows.now ≡ rows_at self.now.sets.now slots.now }
         ensures { (places : List Place) → Fits slots.now places
             → stands (C.choices self.now.choices.now) self.now.query.now self.now.sets.now places ≡ true
@@ -167,7 +177,7 @@ impl<'a, C: ChoiceView> Side<'a, C> {
         ensures { IfOk result (λ may. (places : List Place) → Fits slots.now places
             → stands (C.choices self.now.choices.now) self.now.query.now self.now.sets.now places ≡ true → may ≡ true) }
     {
-        self.refill(rows, slots)?;
+        self.renew(rows, slots, 0)?;
         Ok(self.guards_hold(slots, rows) && self.tests_hold(tests, slots, rows))
     }
 }

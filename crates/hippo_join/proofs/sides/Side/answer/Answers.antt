@@ -1,10 +1,15 @@
--- Where more was found than an answer may have, the answer has more.
-use Rattle.std.proofs.Common.{Err, ap}
+-- What is found of all that counts is the answer, unless it is too much.
+use Rattle.std.proofs.Common.{◌≡◌, true, []}
+use Rattle.std.proofs.lemmas.Bool.{false≢true}
 use Rattle.hippo_eval.specs.declared.answers.TheConstants.{ANSWER_LIMIT}
-use Rattle.hippo_join.proofs.AnswerLemmas.{joined-many}
+use Rattle.hippo_join.specs.Places.{stands}
+use Rattle.hippo_join.proofs.FindingLemmas.{found-are, found-none}
 use Rattle.hippo_join.proofs.sides.Side.answer.Goals as goal
 
-pub returns-in-Err : goal.returns-in-Err
-returns-in-Err g c =
-    joined-many (g.C.ChoiceView.choices c.args.self.now.choices.now) c.args.self.now.query.now c.args.self.now.sets.now c.find_all.new.found.keys c.in-Err.ensures.order ANSWER_LIMIT c.in-Err.fault
-    c.in-Err.ensures.sound (λ e. c.in-Err.ensures.many (ap Err e))
+pub walk_all-requires-clause-rises : goal.walk_all-requires-clause-rises
+walk_all-requires-clause-rises g c = λ asked. absurd (false≢true asked)
+
+pub answer_found-requires : goal.answer_found-requires
+answer_found-requires g c =
+    let visited = c.in-Ok.ensures [] [] (found-none ANSWER_LIMIT c.new-found.result.keys c.new-found.ensures.empty) in
+    found-are (λ places. stands (g.C.ChoiceView.choices c.args.self.now.choices.now) c.args.self.now.query.now c.args.self.now.sets.now places ≡ true) ANSWER_LIMIT visited.all c.walk_all.new.state.keys visited.are.sound visited.are.whole visited.kept

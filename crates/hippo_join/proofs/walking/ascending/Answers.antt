@@ -6,7 +6,7 @@ use Rattle.std.proofs.lemmas.List.Filters.{dedup_is}
 use Rattle.std.proofs.lemmas.List.Kept.{Contains-dedup_nat}
 use Rattle.std.proofs.lemmas.List.Sorted.{Contains-permutation}
 use Rattle.std.proofs.lemmas.Map.Keys.{IsStrictlyIncreasing-dedup}
-use Rattle.hippo_join.proofs.visiting.ascending.Goals as goal
+use Rattle.hippo_join.proofs.walking.ascending.Goals as goal
 
 pub returns-clause-order : goal.returns-clause-order
 returns-clause-order c =

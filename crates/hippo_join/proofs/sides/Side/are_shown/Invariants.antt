@@ -1,7 +1,0 @@
--- The expressions that are left are shown exactly where all are.
-use Rattle.std.proofs.Common.{◌≡◌, drop}
-use Rattle.hippo_join.specs.Existence.{are_shown}
-use Rattle.hippo_join.proofs.sides.Side.are_shown.Given as goal
-
-abbrev pub invariant-loop-expr : goal.invariant-loop-expr
-invariant-loop-expr g l = are_shown (g.C.ChoiceView.choices l.self.choices.now) (drop l.expr-index l.seen) l.rows ≡ are_shown (g.C.ChoiceView.choices l.self.choices.now) l.seen l.rows
