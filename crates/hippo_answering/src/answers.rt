@@ -102,6 +102,15 @@ fn formed<C: ChoiceView>(
 /// the `n` entries that the book and the tables stand for. The rules in force are written into the query (LeFevre and
 /// others, Limiting Disclosure in Hippocratic Databases, VLDB 2004), and it is answered over the rows as they are.
 /// Wants a query whose tables are created. TooManyRows exactly where the answer has more than 100,000 rows.
+///
+/// Over `patient (pid, name, phone)` with the row `1, 'Ada', '555-1'`, where `pid` and `name` are allowed and no rule
+/// names `phone`:
+///
+/// ```text
+/// SELECT name, phone FROM patient                   'Ada', DENIED(0)
+/// SELECT name FROM patient WHERE phone = '555-1'    no row: a denied cell is null
+/// SELECT name FROM patient WHERE phone IS NULL      'Ada'
+/// ```
 pub fn answer(
     alloc: Global,
     book: &PolicyBook,

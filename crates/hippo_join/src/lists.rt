@@ -117,7 +117,7 @@ fn add_with(
     Ok(true)
 }
 
-// The same for an item of a list; no rows are found by one that is no literal.
+// Adds the places that are found by an item of a list; none are found by one that is no literal.
 fn add_item(
     alloc: Global,
     set: &RowSet,

@@ -21,6 +21,9 @@ use std::marker::Model;
 // How many orders by a column a set keeps.
 const ORDER_LIMIT: usize = 8;
 
+// How many rows a set has at most of which no order is kept, since a walk over them takes little time.
+const FEW_ROWS: usize = 256;
+
 /// The rows of a table in the order of their keys, each with the moment at which it was born.
 #[derive(Debug, Drop)]
 pub struct RowSet {
@@ -72,8 +75,8 @@ impl RowSet {
     }
 
     /// Keeps, from now on, an order of the rows by a column, so that rows within bounds there are found by halves. Does
-    /// nothing where there is one, where there are eight, where the column is the key's first one, or where memory is
-    /// short.
+    /// nothing where there is one, where there are eight, where the column is the key's first one, where there are 256
+    /// rows or fewer, or where memory is short.
     pub fn order_by(&mut self, alloc: Global, column: usize)
         ensures { self.new ≡ self.old }
     {
@@ -87,7 +90,9 @@ impl RowSet {
 
     // Whether rows are not found by a column, and an order of them would be kept.
     fn wants_order(&self, column: usize) -> bool {
-        free_place(self.orders.as_slice()) < ORDER_LIMIT && !self.is_ordered_by(column)
+        self.len() > FEW_ROWS
+            && free_place(self.orders.as_slice()) < ORDER_LIMIT
+            && !self.is_ordered_by(column)
     }
 
     /// Whether rows are found by a column: it is the first of the key, or an order of the rows by it is kept.

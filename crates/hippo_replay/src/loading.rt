@@ -75,6 +75,12 @@ fn read_all<P: Keeper, L: Ledger>(
 /// of no valid history. `Keeper` comes only where the keeper's count of faults rose; it is then spent. Whatever the
 /// answer, the kept entries stay as they were found. A load that answers Ok takes as many steps as there are versions
 /// in the history.
+///
+/// ```text
+/// nothing is kept                                          Ok: the state of the empty history
+/// CREATE PURPOSE treatment                                 Ok: a state with one entry
+/// CREATE PURPOSE treatment, CREATE PURPOSE treatment       Damaged(2)
+/// ```
 pub fn load<P: Keeper, L: Ledger>(
     keeper: &mut P,
     alloc: Global,

@@ -53,7 +53,7 @@ impl Standing {
         answer
     }
 
-    /// The same for a start.
+    /// Counts a start's failure, notes what else it answered, and hands the answer on.
     pub(crate) fn settle_start(
         &mut self,
         answer: Result<(), KeeperFault>,

@@ -26,9 +26,6 @@ fn copied_key(alloc: Global, places: &[usize], row: &[Value]) -> Result<Cells, M
     Ok(key)
 }
 
-// How many rows a table has at most of which no order is kept, since a walk over them takes little time.
-const FEW_ROWS: usize = 256;
-
 /// A row as it was, with the number of the last entry that named its key.
 #[derive(Drop)]
 pub struct Before {
@@ -114,13 +111,11 @@ impl Table {
         copied_key(alloc, self.rows.key().as_slice(), row.as_slice())
     }
 
-    /// Keeps, from now on, an order of the rows by a column, where there are more than 256; the table stays what it is.
+    /// Keeps, from now on, an order of the rows by a column; the table stays what it is.
     pub fn order_by(&mut self, alloc: Global, column: usize)
         ensures { self.new ≡ self.old }
     {
-        if self.rows.len() > FEW_ROWS {
-            self.rows.order_by(alloc, column);
-        }
+        self.rows.order_by(alloc, column);
     }
 
     // Adds a row whose key no row has.

@@ -149,8 +149,8 @@ impl Tables {
         }
     }
 
-    // Keeps, from now on, an order of a table's rows by a column, where the table is there and has more than 256 rows; the
-    // tables stay what they are.
+    // Keeps, from now on, an order of a table's rows by a column, where the table is there and has rows enough; the tables
+    // stay what they are.
     pub(crate) fn order_by(&mut self, alloc: Global, table: &Name, column: usize)
         ensures { IsAsBefore self.old self.new }
     {

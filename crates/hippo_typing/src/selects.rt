@@ -242,6 +242,15 @@ fn query(found: FoundSelect<'_>, head: QueryHead) -> Query
 }
 
 /// The query that a select means, each of whose columns is found in one table of its FROM list, or why it is refused.
+///
+/// Over `patient (pid, name)` and `visit (vno, pid)`:
+///
+/// ```text
+/// SELECT name FROM patient            the second column of the first table
+/// SELECT nam FROM patient             UnknownColumn nam
+/// SELECT pid FROM patient, visit      AmbiguousColumn pid
+/// SELECT vno FROM visit, visit        RepeatedName visit
+/// ```
 pub fn resolve_select(
     alloc: Global,
     catalog: &Catalog,
