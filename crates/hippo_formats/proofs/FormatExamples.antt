@@ -9,11 +9,8 @@ use Rattle.hippo_model.specs.declared.entry.Act.TheVariants.{Purpose, Revoke, As
 use Rattle.hippo_model.specs.declared.schema.Column.{Column}
 use Rattle.hippo_model.specs.declared.schema.ColumnKind.TheVariants.{Text as TextColumn}
 use Rattle.hippo_model.specs.declared.schema.Schema.{Schema}
-use Rattle.hippo_model.specs.Rules.{Rule, allowed, revoked}
-use Rattle.hippo_report.specs.declared.format.Format.TheVariants.{Json, Csv}
-use Rattle.hippo_showing.specs.CommandLine.{format_named}
-use Rattle.hippo_showing.specs.Formats.{json_line, csv_line, entry_data, entry_fields}
-use Rattle.hippo_showing.specs.Ruling.{rule_line}
+use Rattle.hippo_model.specs.Rules.{allowed, revoked}
+use Rattle.hippo_formats.specs.Formats.{json_line, csv_line, entry_data, entry_fields, rule_data, rule_fields}
 
 abbrev column : Txt → Column
 column name = record { name = name; kind = TextColumn; not_null = false }
@@ -55,25 +52,22 @@ a_question_as_a_record : csv_line (entry_fields None 11 morning question)
 unfolding digits escaped fields_text is_blank
 a_question_as_a_record = refl
 
-a_rule_with_item_and_days : rule_line Json (codes "treatment") (codes "nurse") patients 2 (Some (allowed 7 (Some (codes "contact")) (Some 365))) (Some true)
+a_rule_with_item_and_days : json_line (rule_data (codes "treatment") (codes "nurse") (codes "patient") (codes "phone") (Some (allowed 7 (Some (codes "contact")) (Some 365))) (Some true))
     ≡ codes "{\"column\":\"phone\",\"days\":365,\"item\":\"contact\",\"opt\":\"in\",\"purpose\":\"treatment\",\"recipient\":\"nurse\",\"rule\":7,\"ruling\":\"allowed\",\"table\":\"patient\"}\n"
 unfolding digits serde_json_on_literals
 a_rule_with_item_and_days = refl
 
-a_column_that_no_rule_names : rule_line Json (codes "treatment") (codes "nurse") patients 1 None None
+a_column_that_no_rule_names : json_line (rule_data (codes "treatment") (codes "nurse") (codes "patient") (codes "name") None None)
     ≡ codes "{\"column\":\"name\",\"days\":null,\"item\":null,\"opt\":null,\"purpose\":\"treatment\",\"recipient\":\"nurse\",\"rule\":0,\"ruling\":\"unnamed\",\"table\":\"patient\"}\n"
 unfolding digits serde_json_on_literals
 a_column_that_no_rule_names = refl
 
-silence_is_no_refusal : rule_line Csv (codes "billing") (codes "clerk") patients 2 (Some (allowed 11 (Some (codes "contact")) None)) (Some false)
+silence_is_no_refusal : csv_line (rule_fields (codes "billing") (codes "clerk") (codes "patient") (codes "phone") (Some (allowed 11 (Some (codes "contact")) None)) (Some false))
     ≡ codes "11,allowed,billing,clerk,patient,phone,contact,out,\n"
 unfolding digits escaped fields_text is_blank
 silence_is_no_refusal = refl
 
-a_column_that_is_revoked : rule_line Csv (codes "treatment") (codes "nurse") patients 2 (Some (revoked 12)) None
+a_column_that_is_revoked : csv_line (rule_fields (codes "treatment") (codes "nurse") (codes "patient") (codes "phone") (Some (revoked 12)) None)
     ≡ codes "12,revoked,treatment,nurse,patient,phone,,,\n"
 unfolding digits escaped fields_text is_blank
 a_column_that_is_revoked = refl
-
-formats_have_names_in_lower_case : format_named (codes "JSON") ≡ None
-formats_have_names_in_lower_case = refl

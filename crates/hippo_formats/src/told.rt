@@ -1,13 +1,11 @@
 //! An entry as a line in each format.
-ghost use Rattle.std.specs.Prelude.{◌≡◌, ◌++◌, ◌∷◌, [], option_copied, decimal, IfOk, OnOk, codes};
-ghost use Rattle.csv.specs.Records.{fields_of};
+ghost use Rattle.std.specs.Prelude.{◌≡◌, ◌++◌, option_copied, IfOk, OnOk, codes};
 ghost use Rattle.hippo_values.specs.Dates.{moment_text};
 ghost use Rattle.hippo_telling.specs.Telling.{told_act};
-ghost use Rattle.hippo_showing.specs.Formats.{json_line, csv_line, entry_data, entry_fields, entry_by};
+ghost use Rattle.hippo_formats.specs.Formats.{json_line, csv_line, entry_data, entry_fields, entry_by};
 
 use crate::objects::entry_json;
-use crate::records::{Asker, append_record, entry_record};
-use csv::StringRecord;
+use crate::records::{append_record, entry_record};
 use hippo_model::{Act, Entry, Schema};
 use hippo_report::Format;
 use hippo_telling::{entry_line, tell_act};
@@ -15,7 +13,7 @@ use hippo_values::{Memory, Moment, Txt, moment_text};
 use std::alloc::Global;
 
 /// Adds a moment.
-pub(crate) fn append_moment(moment: &Moment, out: &mut Txt) -> Result<(), Memory>
+pub fn append_moment(moment: &Moment, out: &mut Txt) -> Result<(), Memory>
     ensures { OnOk result (out.new ≡ out.old ++ moment_text moment.now) }
 {
     match str::from_utf8(&moment_text(*moment)) {
@@ -41,6 +39,42 @@ pub(crate) fn told_text(alloc: Global, schema: Option<&Schema>, act: &Act) -> Re
     Ok(text)
 }
 
+/// Adds a text as a line.
+pub(crate) fn append_text_line(text: &str, out: &mut Txt) -> Result<(), Memory>
+    ensures { OnOk result (out.new ≡ out.old ++ (text.now ++ codes "\n")) }
+{
+    out.append(text)?;
+    out.append("\n")
+}
+
+fn append_object(
+    alloc: Global,
+    schema: Option<&Schema>,
+    entry: &Entry,
+    moment: &str,
+    out: &mut Txt,
+) -> Result<(), Memory>
+    ensures { OnOk result (out.new ≡ out.old
+        ++ json_line (entry_data (option_copied schema.entry) entry.now.seq moment.now entry.now.act)) }
+{
+    let text = entry_json(alloc, schema, entry.seq, moment, &entry.act)?;
+    append_text_line(text.as_str(), out)
+}
+
+fn append_fields(
+    alloc: Global,
+    schema: Option<&Schema>,
+    entry: &Entry,
+    moment: &str,
+    out: &mut Txt,
+) -> Result<(), Memory>
+    ensures { OnOk result (out.new ≡ out.old
+        ++ csv_line (entry_fields (option_copied schema.entry) entry.now.seq moment.now entry.now.act)) }
+{
+    let fields = entry_record(alloc, schema, entry.seq, moment, &entry.act)?;
+    append_record(alloc, &fields, out)
+}
+
 fn append_json(
     alloc: Global,
     schema: Option<&Schema>,
@@ -51,56 +85,7 @@ fn append_json(
         ++ json_line (entry_data (option_copied schema.entry) entry.now.seq (moment_text entry.now.moment) entry.now.act)) }
 {
     let moment = moment_of(alloc, &entry.moment)?;
-    let text = entry_json(alloc, schema, entry.seq, moment.as_str(), &entry.act)?;
-    out.append(text.as_str())?;
-    out.append("\n")
-}
-
-fn told_record(
-    alloc: Global,
-    schema: Option<&Schema>,
-    entry: u64,
-    moment: &str,
-    act: &Act,
-) -> Result<StringRecord, Memory>
-    ensures { IfOk result (λ made. fields_of made ≡ decimal entry ∷ moment.now ∷ [] ∷ [] ∷ []
-        ∷ told_act (option_copied schema.entry) act.now ∷ []) }
-{
-    let statement = told_text(alloc, schema, act)?;
-    let nobody = Asker {
-        user: "",
-        purpose: "",
-        recipient: "",
-    };
-    Ok(entry_record(alloc, entry, moment, &nobody, statement.as_str())?)
-}
-
-fn act_record(
-    alloc: Global,
-    schema: Option<&Schema>,
-    entry: u64,
-    moment: &str,
-    act: &Act,
-) -> Result<StringRecord, Memory>
-    ensures { IfOk result (λ made.
-        fields_of made ≡ entry_fields (option_copied schema.entry) entry moment.now act.now) }
-{
-    match act {
-        Act::Asked {
-            user,
-            purpose,
-            recipient,
-            text,
-        } => {
-            let asker = Asker {
-                user: user.as_str(),
-                purpose: purpose.as_str(),
-                recipient: recipient.as_str(),
-            };
-            Ok(entry_record(alloc, entry, moment, &asker, text.as_str())?)
-        }
-        _ => told_record(alloc, schema, entry, moment, act),
-    }
+    append_object(alloc, schema, entry, moment.as_str(), out)
 }
 
 fn append_csv(
@@ -113,12 +98,11 @@ fn append_csv(
         ++ csv_line (entry_fields (option_copied schema.entry) entry.now.seq (moment_text entry.now.moment) entry.now.act)) }
 {
     let moment = moment_of(alloc, &entry.moment)?;
-    let fields = act_record(alloc, schema, entry.seq, moment.as_str(), &entry.act)?;
-    append_record(alloc, &fields, out)
+    append_fields(alloc, schema, entry, moment.as_str(), out)
 }
 
 /// Adds an entry as a line in a format.
-pub(crate) fn append_entry(
+pub fn append_entry(
     alloc: Global,
     format: Format,
     schema: Option<&Schema>,

@@ -1,14 +1,14 @@
 //! What a rule says, by its parts.
 ghost use Rattle.std.specs.Prelude.{◌≡◌, option_copied};
 ghost use Rattle.hippo_policy.specs.Rulings.{ruling_of, asks_opt_in};
-ghost use Rattle.hippo_showing.specs.Formats.{rule_number, ruling_word, rule_item, rule_days, opt_word};
+ghost use Rattle.hippo_formats.specs.Formats.{rule_number, ruling_word, rule_item, rule_days, opt_word};
 
 use hippo_model::RuleAt;
 use hippo_values::Name;
 
 /// The words of a column's rule.
 #[derive(Clone, Copy)]
-pub(crate) struct Names<'a> {
+pub struct Names<'a> {
     pub purpose: &'a str,
     pub recipient: &'a str,
     pub table: &'a str,

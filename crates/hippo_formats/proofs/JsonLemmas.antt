@@ -1,5 +1,5 @@
 -- What is shown has no float.
-use Rattle.std.proofs.Common.{◌≡◌, refl, Bool, true, false, ℕ, Option, Some, None}
+use Rattle.std.proofs.Common.{◌≡◌, refl, Bool, false, ℕ, Option, Some, None}
 use Rattle.serde_json.specs.Written.{has_float}
 use Rattle.hippo_values.specs.Texts.{Txt}
 use Rattle.hippo_values.specs.declared.names.Name.{Name}
@@ -7,7 +7,7 @@ use Rattle.hippo_model.specs.declared.entry.Act.{Act}
 use Rattle.hippo_model.specs.declared.entry.Act.TheVariants.{Asked}
 use Rattle.hippo_model.specs.declared.schema.Schema.{Schema}
 use Rattle.hippo_model.specs.Rules.{Rule}
-use Rattle.hippo_showing.specs.Formats.{entry_data, number_data, text_data, opt_data, rule_item, rule_days, rule_data}
+use Rattle.hippo_formats.specs.Formats.{entry_data, number_data, text_data, opt_data, rule_item, rule_days, rule_data}
 
 pub entry_has_no_float : (schema : Option Schema) (entry : ℕ) (moment : Txt) (act : Act) → has_float (entry_data schema entry moment act) ≡ false
 entry_has_no_float schema entry moment (Asked user purpose recipient text) = refl
