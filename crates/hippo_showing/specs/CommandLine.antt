@@ -26,9 +26,9 @@ entry_option name = number_option name 1 4000000
 -- the command, as clap is told of it
 abbrev pub command_line : App
 command_line = command_with (codes "hippo_history")
-    (needed_option (codes "store") ∷ entry_option (codes "entry") ∷ entry_option (codes "from") ∷ entry_option (codes "to")
-    ∷ text_option (codes "table") ∷ flag (codes "tables") ∷ flag (codes "script") ∷ flag (codes "rules")
-    ∷ text_option (codes "format") ∷ [])
+    (needed_option (codes "store") ∷ entry_option (codes "entry") ∷ entry_option (codes "from")
+    ∷ entry_option (codes "to") ∷ text_option (codes "table") ∷ flag (codes "tables") ∷ flag (codes "script")
+    ∷ flag (codes "rules") ∷ text_option (codes "format") ∷ [])
 
 -- whether a name that stands alone was written
 abbrev pub is_on : Txt → List Row → Bool
