@@ -1,4 +1,3 @@
-mod WriteLemmas
 mod StatusLemmas
 mod KeptLemmas
 mod AskedLemmas

@@ -33,7 +33,7 @@ use Rattle.hippo_serve.specs.Outside.{Told, Outside, telling, outside}
 use Rattle.hippo_serve.specs.Runs.{opening_after, IsReading, ForInput, StepsWithin, HasRun, HasReadAll, IsServed, IsCutOff, HasReadFront, IsUnwritten, KeepsBroken, IsBrokenOff, HasReplied, HasServed}
 use Rattle.hippo_serve.proofs.AskedLemmas.{asked-last}
 use Rattle.hippo_serve.proofs.KeptLemmas.{KeepsHistory-after, KeepsHistory-same, KeepsEither-after}
-use Rattle.hippo_serve.proofs.WriteLemmas.{both_whole}
+use Rattle.hippo_programs.proofs.WriteLemmas.{both_whole}
 
 flat_map-last : {A B : Type 0} (f : A → List B) (front : List A) (last : A) → flat_map f (front ++ last ∷ []) ≡ flat_map f front ++ f last
 flat_map-last f [] last = append-nil (f last)

@@ -28,7 +28,8 @@ use Rattle.hippo_serve.specs.declared.endings.Ending.TheVariants.{Served, Refuse
 use Rattle.hippo_serve.specs.Endings.{as_line_call}
 use Rattle.hippo_serve.specs.Loads.{asked_line, counted_line}
 use Rattle.hippo_serve.specs.Outside.{Told, Outside, outside}
-use Rattle.hippo_serve.specs.Saying.{damaged_line, Says}
+use Rattle.hippo_programs.specs.Lines.{damaged_line}
+use Rattle.hippo_serve.specs.Saying.{Says}
 use Rattle.hippo_serve.specs.Runs.{ForInput, IsServed, LinesEnd, HasServed, Turn}
 use Rattle.hippo_serve.proofs.AskedLemmas.{handed_counted}
 use Rattle.hippo_serve.proofs.RunLemmas.{held_after, served_more, unwritten_at, broken_off, undamaged_at, all_served}

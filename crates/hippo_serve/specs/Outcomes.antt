@@ -14,7 +14,8 @@ use Rattle.hippo_words.specs.declared.calls.Job.{Job}
 use Rattle.hippo_words.specs.declared.calls.Setting.{Setting}
 use Rattle.hippo_serve.specs.declared.endings.Ending.{Ending}
 use Rattle.hippo_serve.specs.declared.endings.Ending.TheVariants.{Served, Refused, KeeperFault, ReadFault, WriteFault, Damaged, NoMemory, TooMuch}
-use Rattle.hippo_serve.specs.Saying.{damaged_line, entries_line, Says}
+use Rattle.hippo_programs.specs.Lines.{damaged_line}
+use Rattle.hippo_serve.specs.Saying.{entries_line, Says}
 use Rattle.hippo_serve.specs.Keeping.{KeepsHistory}
 use Rattle.hippo_serve.specs.Outside.{Told, Outside}
 use Rattle.hippo_serve.specs.Runs.{IsServed, IsReadCut, HasTooMuch, IsUnwritten, IsBrokenOff}

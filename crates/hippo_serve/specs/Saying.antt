@@ -1,8 +1,9 @@
 -- The lines that the program writes of its own.
-use Rattle.std.specs.Prelude.{◌≡◌, ◌⊎◌, ℕ, ◌++◌, Option, codes, decimal}
+use Rattle.std.specs.Prelude.{◌≡◌, ◌⊎◌, ℕ, ◌++◌, Option, codes}
 use Rattle.hippo_values.specs.Texts.{Txt}
 use Rattle.hippo_io.specs.Faults.{HasRisen}
 use Rattle.hippo_io.specs.Told.{Appends, AppendsFront}
+use Rattle.hippo_programs.specs.Lines.{numbered_line}
 use Rattle.hippo_serve.specs.declared.endings.Ending.{Ending}
 use Rattle.hippo_serve.specs.declared.endings.Ending.TheVariants.{WriteFault}
 
@@ -10,14 +11,6 @@ use Rattle.hippo_serve.specs.declared.endings.Ending.TheVariants.{WriteFault}
 unfoldable pub usage : Txt
 usage = codes "usage: hippo run|check|drill|load [--store NAME] [--history N] [--size N] [--number N]"
     ++ codes " [--format text|json|csv] [--table NAME] [--moment MOMENT]\n"
-
--- words and a number
-abbrev pub numbered_line : Txt → ℕ → Txt
-numbered_line words number = words ++ (decimal number ++ codes "\n")
-
--- at which place the kept entries are damaged
-abbrev pub damaged_line : ℕ → Txt
-damaged_line place = numbered_line (codes "damaged ") place
 
 -- how many entries are kept
 abbrev pub entries_line : ℕ → Txt

@@ -1,30 +1,15 @@
 //! The lines that the program writes of its own.
-ghost use Rattle.std.specs.Prelude.{◌≡◌, OnOk, OnErr};
-ghost use Rattle.hippo_io.specs.Faults.{HasRisen};
-ghost use Rattle.hippo_io.specs.Told.{Appends, AppendsFront};
+ghost use Rattle.hippo_programs.specs.Lines.{damaged_line};
 ghost use Rattle.hippo_serve.specs.declared.endings.Ending.TheVariants.{Served, Refused, Damaged};
-ghost use Rattle.hippo_serve.specs.Saying.{usage, numbered_line, damaged_line, entries_line, Says};
+ghost use Rattle.hippo_serve.specs.Saying.{usage, entries_line, Says};
 
 use crate::endings::Ending;
 use hippo_io::{Failed, Sink, write_whole};
-use itoa::Buffer;
+use hippo_programs::write_numbered;
 
 const USAGE: &str =
     "usage: hippo run|check|drill|load [--store NAME] [--history N] [--size N] [--number N] \
       [--format text|json|csv] [--table NAME] [--moment MOMENT]\n";
-
-// Writes words, a number and a line feed.
-fn write_numbered<K: Sink>(sink: &mut K, words: &str, number: u64) -> Result<(), Failed>
-    ensures ok { OnOk result (Appends (K.written sink.old) (K.written sink.new) (numbered_line words.now number)) }
-    ensures failed { OnErr result
-        (AppendsFront (K.written sink.old) (K.written sink.new) (numbered_line words.now number)) }
-    ensures cause { OnErr result (HasRisen (K.faults sink.old) (K.faults sink.new)) }
-    ensures unfailed { OnOk result (K.faults sink.new ≡ K.faults sink.old) }
-{
-    write_whole(sink, words.as_bytes())?;
-    write_whole(sink, Buffer::new().format(number).as_bytes())?;
-    write_whole(sink, b"\n")
-}
 
 /// Writes the usage line.
 #[tactic(auto, unfolding(crate::specs::Saying::usage))]

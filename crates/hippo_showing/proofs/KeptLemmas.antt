@@ -20,7 +20,8 @@ use Rattle.hippo_showing.specs.declared.endings.Ending.{Ending}
 use Rattle.hippo_showing.specs.declared.endings.Ending.TheVariants.{NoMemory}
 use Rattle.hippo_showing.specs.ByNames.{entry_shown, clock_after, entries_shown, clock_at_end}
 use Rattle.hippo_showing.specs.Progress.{HasForms, ShowsKept}
-use Rattle.hippo_showing.proofs.WriteLemmas.{front_of_more, whole_and_front, both_whole, none_written, none_of, CountsWrites-same}
+use Rattle.hippo_programs.proofs.WriteLemmas.{front_of_more, whole_and_front, both_whole}
+use Rattle.hippo_showing.proofs.WriteLemmas.{none_written, none_of, CountsWrites-same}
 
 -- entries with these stored forms, before and behind a place
 record Splits (first second : Store) (entries : History) : Type 0 where

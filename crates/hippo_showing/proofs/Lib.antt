@@ -8,5 +8,5 @@ mod LoopLemmas
 mod NameLemmas
 mod PolicyLemmas
 mod PageLemmas
-mod JsonLemmas
-mod FormatExamples
+mod QuestionLemmas
+mod CommandLineExamples

@@ -1,5 +1,5 @@
 -- What an entry found, the whole history has: tables are never renamed or dropped, and texts keep their meanings.
-use Rattle.std.proofs.Common.{◌≡◌, ◌∙◌, ◌+◌, ◌-◌, ◌&&◌, ℕ, Bool, true, false, cond, [], ◌∷◌, ◌++◌, length, take, Option, Some, None, refl, sym, ap, subst, append_assoc, arith}
+use Rattle.std.proofs.Common.{◌≡◌, ◌∙◌, ◌+◌, ◌&&◌, ℕ, Bool, true, false, cond, [], ◌∷◌, ◌++◌, length, take, Option, Some, None, refl, sym, ap, subst, append_assoc, arith}
 use Rattle.std.specs.Prelude.{◌==◌, is_some, nat_le, option_and_then, bytes_eq}
 use Rattle.std.specs.List.{list_any}
 use Rattle.std.specs.Option.{option_map_or}
@@ -31,7 +31,7 @@ use Rattle.hippo_showing.specs.declared.asking.Form.{Form}
 use Rattle.hippo_showing.specs.declared.asking.Form.TheVariants.{Listing, Script}
 use Rattle.hippo_showing.specs.declared.asking.Scope.{Scope}
 use Rattle.hippo_showing.specs.declared.asking.Scope.TheVariants.{Whole, Table}
-use Rattle.hippo_showing.specs.Formats.{entry_by}
+use Rattle.hippo_formats.specs.Formats.{entry_by}
 use Rattle.hippo_showing.specs.ByNames.{schema_named, shown_as, entry_shown, clock_after, entries_shown}
 use Rattle.hippo_showing.specs.Showing.{is_within, is_of, is_asked, act_lines, clock_line, told_as, is_told, entry_told, clock_then, entries_told}
 

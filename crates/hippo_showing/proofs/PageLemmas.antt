@@ -1,11 +1,11 @@
 -- What showing what is asked for comes to, by what was written.
-use Rattle.std.proofs.Common.{◌≡◌, ◌≢◌, ◌∙◌, ℕ, Bool, true, false, Option, Some, None, take, unwrap_or, arith, refl, sym, ap, subst}
+use Rattle.std.proofs.Common.{◌≡◌, ◌∙◌, ℕ, true, Option, Some, None, take, unwrap_or, arith, refl, sym, ap, subst}
 use Rattle.std.proofs.lemmas.Bool.{false≢true}
 use Rattle.hippo_values.specs.Texts.{Txt}
 use Rattle.hippo_io.specs.Told.{Appends, AppendsFront}
 use Rattle.hippo_model.specs.Terms.{History}
 use Rattle.hippo_policy.specs.Books.{StandsFor as BookStandsFor}
-use Rattle.hippo_keeper.specs.Keeping.{KeeperState, IsAfterCall, IsReady, KeepsSame}
+use Rattle.hippo_keeper.specs.Keeping.{KeeperState, IsReady}
 use Rattle.hippo_keeper.proofs.CallLemmas.{IsAfterCall-none, KeepsSame-here}
 use Rattle.hippo_replay.specs.Standing.{StandsFor}
 use Rattle.hippo_replay.specs.declared.state.State.{State}
@@ -16,7 +16,7 @@ use Rattle.hippo_showing.specs.declared.endings.Ending.{Ending}
 use Rattle.hippo_showing.specs.declared.endings.Ending.TheVariants.{Shown, Refused, KeeperFault, WriteFault, Damaged, NoMemory}
 use Rattle.hippo_showing.specs.Endings.{as_call}
 use Rattle.hippo_showing.specs.Ruling.{rules_by_names}
-use Rattle.hippo_showing.specs.Saying.{Writes, CountsWrites}
+use Rattle.hippo_showing.specs.Saying.{Writes}
 use Rattle.hippo_showing.specs.ByNames.{entries_shown}
 use Rattle.hippo_showing.specs.Showing.{shown}
 use Rattle.hippo_showing.specs.Progress.{ShowsAll, WritesPage, ShowsLoaded}

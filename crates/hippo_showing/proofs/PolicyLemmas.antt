@@ -1,6 +1,6 @@
 -- The rules after the first entries speak of what these entries created alone.
-use Rattle.std.proofs.Common.{◌≡◌, ◌∙◌, ◌+◌, ℕ, Bool, true, false, cond, not, ◌&&◌, List, [], ◌∷◌, ◌++◌, flat_map, length, take, drop, Option, Some, None, refl, sym, ap, subst, append_assoc}
-use Rattle.std.specs.Prelude.{◌||◌, ◌==◌, is_some, is_none, nat_eq, nat_lt, bytes_eq, count_by}
+use Rattle.std.proofs.Common.{◌≡◌, ◌∙◌, ℕ, Bool, true, false, cond, not, ◌&&◌, List, [], ◌∷◌, ◌++◌, flat_map, length, take, drop, Option, Some, None, refl, sym, ap, subst, append_assoc}
+use Rattle.std.specs.Prelude.{◌||◌, is_some, is_none, nat_eq, nat_lt, bytes_eq, count_by}
 use Rattle.std.specs.Bool.{then_some}
 use Rattle.std.specs.List.{list_any, range_with_len}
 use Rattle.std.specs.Option.{option_or, option_map_or}
@@ -12,22 +12,21 @@ use Rattle.hippo_values.specs.Limits.{table_limit}
 use Rattle.hippo_values.specs.Texts.{Txt}
 use Rattle.hippo_values.specs.declared.names.Name.{Name}
 use Rattle.hippo_model.specs.declared.entry.Act.{Act}
-use Rattle.hippo_model.specs.declared.entry.Act.TheVariants.{Create, Purpose, Recipient, Item, Allow, Revoke}
+use Rattle.hippo_model.specs.declared.entry.Act.TheVariants.{Create, Purpose, Recipient, Allow, Revoke}
 use Rattle.hippo_model.specs.declared.entry.Entry.{Entry}
 use Rattle.hippo_model.specs.declared.schema.Schema.{Schema}
 use Rattle.hippo_model.specs.Histories.{last_word, schema_at}
-use Rattle.hippo_model.specs.Keepable.{is_keepable}
-use Rattle.hippo_model.specs.Rules.{Rule, RuledCell, rule_in, rule_at, is_named_by}
+use Rattle.hippo_model.specs.Rules.{Rule, RuledCell, rule_in, is_named_by}
 use Rattle.hippo_model.specs.Terms.{History, Place}
-use Rattle.hippo_model.specs.Validity.{creates_table, is_purpose, is_recipient, creates_purpose, creates_recipient, pair_exists, table_passes, has_columns, rule_fits, item_fits, days_fit, is_well_formed, keeps_order, is_acceptable, may_follow, is_valid}
-use Rattle.hippo_laws.proofs.ValidFronts.{front_is_valid, is_valid-append}
+use Rattle.hippo_model.specs.Validity.{creates_table, is_purpose, is_recipient, creates_purpose, creates_recipient, pair_exists, table_passes, has_columns, rule_fits, item_fits, days_fit, is_well_formed, is_acceptable, is_valid}
+use Rattle.hippo_laws.proofs.ValidFronts.{front_is_valid}
 use Rattle.hippo_catalog.specs.Catalogs.{KnownNames, known_at, known_after}
 use Rattle.hippo_typing.specs.Meanings.{meaning}
 use Rattle.hippo_typing.proofs.CatalogTheorem.{names_grow, valid_names}
 use Rattle.hippo_typing.proofs.LastingNames.{extends_later}
 use Rattle.hippo_report.specs.declared.format.Format.{Format}
 use Rattle.hippo_showing.specs.declared.asking.Scope.{Scope}
-use Rattle.hippo_showing.proofs.NameLemmas.{acceptable, may, some_there}
+use Rattle.hippo_showing.proofs.NameLemmas.{acceptable, some_there}
 use Rattle.hippo_showing.specs.Ruling.{column_rule, is_ruled, columns_shown, has_table, table_shown, tables_shown, rules_by_names, rules_shown}
 
 -- what a history says last is said by one of its entries

@@ -10,7 +10,7 @@ use Rattle.hippo_catalog.specs.Catalogs.{KnownNames}
 use Rattle.hippo_keeper.specs.declared.faults.KeeperFault.{KeeperFault as Fault}
 use Rattle.hippo_keeper.specs.declared.faults.KeeperFault.TheVariants as keeper_faults
 use Rattle.hippo_keeper.specs.Answering.{has_failed}
-use Rattle.hippo_keeper.specs.Keeping.{Store, RisesAbove, last_number, KeeperState, IsReady, IsAfterCall, KeepsSame}
+use Rattle.hippo_keeper.specs.Keeping.{Store, RisesAbove, last_number, KeeperState, IsReady, IsAfterCall}
 use Rattle.hippo_keeper.specs.Selecting.{is_any, stored_versions, handed_over, Reads}
 use Rattle.hippo_replay.proofs.KeeperLemmas.{handed_over-behind, nothing_taken}
 use Rattle.hippo_keeper.proofs.CallLemmas.{KeepsSame-here, KeepsSame-then, KeepsSame-Stays, IsAfterCall-then, IsAfterCall-as, IsAfterCall-none, IsReady-after}

@@ -12,7 +12,7 @@ use Rattle.hippo_telling.specs.Telling.{table_named}
 use Rattle.hippo_showing.specs.declared.asking.Excerpt.{Excerpt}
 use Rattle.hippo_showing.specs.declared.asking.Form.{Form}
 use Rattle.hippo_showing.specs.declared.asking.Form.TheVariants.{Listing, Script}
-use Rattle.hippo_showing.specs.Formats.{entry_by}
+use Rattle.hippo_formats.specs.Formats.{entry_by}
 use Rattle.hippo_showing.specs.Showing.{is_asked, act_lines, clock_line}
 
 -- the schema of the table that an act names

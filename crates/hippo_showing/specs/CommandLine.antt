@@ -1,16 +1,12 @@
 -- The command line: which words the program takes, and what they ask for.
 use Rattle.std.specs.Prelude.{ℕ, Bool, true, false, not, ◌&&◌, ◌||◌, List, [], ◌∷◌, Option, Some, None, is_some, option_map, option_and_then, unwrap_or, if◌then◌else◌, codes, bytes_eq}
 use Rattle.std.specs.Option.{option_map_or}
-use Rattle.std.specs.Str.Parse.{digits_value, without_leading_plus}
-use Rattle.clap.specs.Words.{App, Rule, Row, new_rule, first_of, matches_of, fault_of}
-use Rattle.clap.specs.Simple.{new_shape}
-use Rattle.clap.specs.Walk.{is_empty}
-use Rattle.clap.specs.declared.builder.action.ArgAction.TheVariants.{SetTrue}
-use Rattle.clap.specs.declared.builder.value_parser.ValueParser.TheVariants.{Unsigned}
+use Rattle.clap.specs.Words.{App, Rule, Row, first_of, matches_of}
 use Rattle.hippo_values.specs.Texts.{Txt}
 use Rattle.hippo_values.specs.Names.{name_of}
 use Rattle.hippo_report.specs.declared.format.Format.{Format}
 use Rattle.hippo_report.specs.declared.format.Format.TheVariants as formats
+use Rattle.hippo_programs.specs.Arguments.{text_option, needed_option, number_option, flag, command_with, is_taken, number_or, format_in}
 use Rattle.hippo_showing.specs.declared.asking.Acts.{Acts}
 use Rattle.hippo_showing.specs.declared.asking.Acts.TheVariants.{All, Tables}
 use Rattle.hippo_showing.specs.declared.asking.Call.{Call}
@@ -23,35 +19,16 @@ use Rattle.hippo_showing.specs.declared.asking.Scope.TheVariants.{Whole, Table}
 use Rattle.hippo_showing.specs.declared.asking.View.{View}
 use Rattle.hippo_showing.specs.declared.asking.View.TheVariants.{Entries, Rules}
 
--- an argument that is written behind its name, as a text or as the number of an entry; and one that is a name alone
-abbrev pub text_option : Txt → Rule
-text_option name = record (new_rule name) { long = Some name }
-
-abbrev pub number_option : Txt → Rule
-number_option name = record (text_option name) { parser = Some (Unsigned 1 4000000) }
-
-abbrev pub flag : Txt → Rule
-flag name = record (text_option name) { action = Some SetTrue }
-
-abbrev pub store_option : Rule
-store_option = record (text_option (codes "store")) { required = true }
+-- the number of an entry
+abbrev pub entry_option : Txt → Rule
+entry_option name = number_option name 1 4000000
 
 -- the command, as clap is told of it
 abbrev pub command_line : App
-command_line = record {
-  top = record (new_shape (codes "hippo_history")) {
-    rules = store_option ∷ number_option (codes "entry") ∷ number_option (codes "from") ∷ number_option (codes "to")
-        ∷ text_option (codes "table") ∷ flag (codes "tables") ∷ flag (codes "script") ∷ flag (codes "rules")
-        ∷ text_option (codes "format") ∷ [];
-    no_binary_name = true;
-    disable_help_flag = true;
-  };
-  subs = [];
-}
-
--- the number that is written, or another one where nothing is
-abbrev pub number_or : ℕ → Option Txt → ℕ
-number_or otherwise written = option_map_or (λ text. digits_value 10 (without_leading_plus text)) written otherwise
+command_line = command_with (codes "hippo_history")
+    (needed_option (codes "store") ∷ entry_option (codes "entry") ∷ entry_option (codes "from")
+    ∷ entry_option (codes "to") ∷ text_option (codes "table") ∷ flag (codes "tables") ∷ flag (codes "script")
+    ∷ flag (codes "rules") ∷ text_option (codes "format") ∷ [])
 
 -- whether a name that stands alone was written
 abbrev pub is_on : Txt → List Row → Bool
@@ -85,17 +62,6 @@ fits rows = entry_fits rows && rules_fit rows
 abbrev pub scope_of : Option Txt → Option Scope
 scope_of None = Some Whole
 scope_of (Some word) = option_map Table (name_of word)
-
--- the format with a name; text where none is written
-abbrev pub format_named : Txt → Option Format
-format_named name =
-    if bytes_eq name (codes "text") then Some formats.Text
-    else if bytes_eq name (codes "json") then Some formats.Json
-    else if bytes_eq name (codes "csv") then Some formats.Csv
-    else None
-
-abbrev pub format_in : List Row → Option Format
-format_in rows = format_named (unwrap_or (first_of (codes "format") rows) (codes "text"))
 
 -- a script is lines of text
 abbrev pub is_text : Format → Bool
@@ -144,10 +110,6 @@ abbrev pub asked_in : List Row → Option Call
 asked_in rows =
     if fits rows then option_and_then (asked_by rows) (format_in rows) else None
 
--- whether the command takes the words: it finds no fault in them
-abbrev pub is_taken : List Txt → Bool
-is_taken words = is_empty (fault_of command_line words)
-
 -- what the words of a call ask for, if anything
 unfoldable pub asked_of : List Txt → Option Call
-asked_of words = if is_taken words then asked_in (matches_of command_line words) else None
+asked_of words = if is_taken command_line words then asked_in (matches_of command_line words) else None

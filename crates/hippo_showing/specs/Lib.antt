@@ -1,7 +1,6 @@
 pub mod CommandLine
 pub mod Endings
 pub mod Saying
-pub mod Formats
 pub mod Ruling
 pub mod Showing
 pub mod ByNames

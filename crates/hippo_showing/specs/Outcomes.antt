@@ -12,7 +12,8 @@ use Rattle.hippo_replay.specs.declared.faults.LoadFault.TheVariants.{Keeper, Dam
 use Rattle.hippo_showing.specs.declared.asking.View.{View}
 use Rattle.hippo_showing.specs.declared.endings.Ending.{Ending}
 use Rattle.hippo_showing.specs.declared.endings.Ending.TheVariants.{Shown, Refused, KeeperFault, WriteFault, Damaged, NoMemory}
-use Rattle.hippo_showing.specs.Saying.{damaged_line, Says}
+use Rattle.hippo_programs.specs.Lines.{damaged_line}
+use Rattle.hippo_showing.specs.Saying.{Says}
 use Rattle.hippo_showing.specs.Showing.{shown}
 
 -- the stored forms of a valid history were found and are kept, and this holds of each history of which they are

@@ -1,6 +1,6 @@
 -- What is in force after a history: for each purpose and recipient, and each table of which a rule names some column for
 -- them, every column with its rule.
-use Rattle.std.specs.Prelude.{ℕ, Bool, true, false, ◌&&◌, List, [], ◌∷◌, ◌++◌, flat_map, length, Option, Some, None, is_some, if◌then◌else◌, codes, decimal, bytes_eq}
+use Rattle.std.specs.Prelude.{Bool, true, false, ◌&&◌, List, [], ◌∷◌, ◌++◌, flat_map, length, Option, Some, None, is_some, if◌then◌else◌, codes, decimal, bytes_eq}
 use Rattle.std.specs.List.{list_any, range_with_len}
 use Rattle.hippo_values.specs.Texts.{Txt}
 use Rattle.hippo_values.specs.declared.names.Name.{Name}
@@ -15,7 +15,7 @@ use Rattle.hippo_report.specs.declared.format.Format.TheVariants as formats
 use Rattle.hippo_telling.specs.Telling.{allow_text, rule_text, name_at}
 use Rattle.hippo_showing.specs.declared.asking.Scope.{Scope}
 use Rattle.hippo_showing.specs.declared.asking.Scope.TheVariants.{Whole, Table}
-use Rattle.hippo_showing.specs.Formats.{json_line, csv_line, rule_data, rule_fields}
+use Rattle.hippo_formats.specs.Formats.{json_line, csv_line, rule_data, rule_fields}
 
 -- a rule by the number of its entry, as the statement that says it of these columns; 0 where there is none
 abbrev pub ruling_text : List Column → Name → Name → Name → List Place → Option Rule → Txt

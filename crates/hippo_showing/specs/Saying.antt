@@ -1,5 +1,5 @@
 -- What the program writes of its own, and what a write comes to.
-use Rattle.std.specs.Prelude.{◌≡◌, ◌≢◌, ◌⊎◌, ℕ, ◌++◌, Option, Some, None, codes, decimal}
+use Rattle.std.specs.Prelude.{◌≡◌, ◌≢◌, ◌⊎◌, ℕ, ◌++◌, Option, Some, None, codes}
 use Rattle.hippo_values.specs.Texts.{Txt}
 use Rattle.hippo_io.specs.Faults.{HasRisen}
 use Rattle.hippo_io.specs.Told.{Appends, AppendsFront}
@@ -10,10 +10,6 @@ use Rattle.hippo_showing.specs.declared.endings.Ending.TheVariants.{WriteFault, 
 unfoldable pub usage : Txt
 usage = codes "usage: hippo_history --store NAME [--entry N | [--from N] [--to N]] [--table NAME] [--rules | [--tables] [--script]]"
     ++ codes " [--format text|json|csv]\n"
-
--- at which place the kept entries are damaged
-abbrev pub damaged_line : ℕ → Txt
-damaged_line place = codes "damaged " ++ (decimal place ++ codes "\n")
 
 -- a line is written, and the program ends so; or a front of it is, and the sink failed
 abbrev pub Says : Ending → Txt → Ending → Option Txt → Option Txt → ℕ → ℕ → Type 0

@@ -26,7 +26,7 @@ use Rattle.hippo_showing.specs.declared.asking.Scope.{Scope}
 use Rattle.hippo_showing.specs.declared.asking.Scope.TheVariants.{Whole, Table}
 use Rattle.hippo_showing.specs.declared.asking.View.{View}
 use Rattle.hippo_showing.specs.declared.asking.View.TheVariants.{Entries, Rules}
-use Rattle.hippo_showing.specs.Formats.{entry_by}
+use Rattle.hippo_formats.specs.Formats.{entry_by}
 use Rattle.hippo_showing.specs.Ruling.{rules_shown}
 
 -- whether a text is a question that names this table in FROM

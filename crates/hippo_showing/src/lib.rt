@@ -5,15 +5,11 @@ mod arguments;
 mod asking;
 mod endings;
 mod lines;
-mod objects;
 mod printing;
 mod reading;
-mod records;
 mod rules;
-mod rulings;
 mod scope;
 mod showing;
-mod told;
 mod top;
 
 pub use asking::{Acts, Call, Excerpt, Form, Page, Scope, View};

@@ -6,11 +6,11 @@ ghost use Rattle.hippo_showing.specs.ByNames.{schema_named, shown_as};
 ghost use Rattle.hippo_showing.specs.Showing.{console_lines, session_lines, act_lines, stands_at, clock_line};
 
 use crate::asking::Form;
-use crate::told::{append_entry, append_moment};
 use hippo_catalog::Catalog;
+use hippo_formats::{Question, append_entry, append_moment, question_of};
 use hippo_model::{Act, Entry, Schema};
 use hippo_telling::{table_named, tell_act};
-use hippo_values::{Memory, Moment, Name, Txt};
+use hippo_values::{Memory, Moment, Txt};
 use std::alloc::Global;
 
 // The schema of the table that an act names.
@@ -62,47 +62,38 @@ fn append_console(alloc: Global, catalog: &Catalog, act: &Act, out: &mut Txt) ->
     out.append("\n")
 }
 
-fn append_login(user: &Name, purpose: &Name, recipient: &Name, out: &mut Txt) -> Result<(), Memory>
-    ensures { OnOk result (out.new
-        ≡ out.old ++ (codes "1 login " ++ (user.now ++ (codes " " ++ (purpose.now ++ (codes " " ++ recipient.now)))))) }
+fn append_login(question: &Question<'_>, out: &mut Txt) -> Result<(), Memory>
+    ensures { OnOk result (out.new ≡ out.old ++ (codes "1 login " ++ (question.now.user.now
+        ++ (codes " " ++ (question.now.purpose.now ++ (codes " " ++ question.now.recipient.now)))))) }
 {
     out.append("1 login ")?;
-    out.append(user.as_str())?;
+    out.append(question.user.as_str())?;
     out.append(" ")?;
-    out.append(purpose.as_str())?;
+    out.append(question.purpose.as_str())?;
     out.append(" ")?;
-    out.append(recipient.as_str())
+    out.append(question.recipient.as_str())
 }
 
 // The lines of a session that asks one question.
-fn append_session(
-    user: &Name,
-    purpose: &Name,
-    recipient: &Name,
-    text: &Txt,
-    out: &mut Txt,
-) -> Result<(), Memory>
-    ensures { OnOk result (out.new ≡ out.old ++ session_lines user.now purpose.now recipient.now text.now) }
+fn append_session(question: &Question<'_>, out: &mut Txt) -> Result<(), Memory>
+    ensures { OnOk result (out.new ≡ out.old ++ session_lines question.now.user.now question.now.purpose.now
+        question.now.recipient.now question.now.text.now) }
 {
-    append_login(user, purpose, recipient, out)?;
+    append_login(question, out)?;
     out.append("\n1 ")?;
-    out.append(text.as_str())?;
+    out.append(question.text.as_str())?;
     out.append("\n1 logout\n")
 }
 
 // The lines that make an act again.
+#[tactic(auto, using(crate::proofs::QuestionLemmas::statement_as_lines))]
 fn append_act(alloc: Global, catalog: &Catalog, act: &Act, out: &mut Txt) -> Result<(), Memory>
     ensures { OnOk result (out.new
         ≡ out.old ++ act_lines (schema_named catalog.now.names act.now) act.now) }
 {
-    match act {
-        Act::Asked {
-            user,
-            purpose,
-            recipient,
-            text,
-        } => append_session(user, purpose, recipient, text, out),
-        _ => append_console(alloc, catalog, act, out),
+    match question_of(act) {
+        None => append_console(alloc, catalog, act, out),
+        Some(question) => append_session(&question, out),
     }
 }
 

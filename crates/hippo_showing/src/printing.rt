@@ -1,31 +1,15 @@
 //! What the program writes of its own, and the write of a text.
-ghost use Rattle.std.specs.Prelude.{◌≡◌, ◌++◌, OnOk, OnErr, codes, decimal};
-ghost use Rattle.hippo_io.specs.Faults.{HasRisen};
-ghost use Rattle.hippo_io.specs.Told.{Appends, AppendsFront};
+ghost use Rattle.hippo_programs.specs.Lines.{damaged_line};
 ghost use Rattle.hippo_showing.specs.declared.endings.Ending.TheVariants.{Refused, Damaged};
-ghost use Rattle.hippo_showing.specs.Saying.{usage, damaged_line, Says, Writes};
+ghost use Rattle.hippo_showing.specs.Saying.{usage, Says, Writes};
 
 use crate::endings::Ending;
 use hippo_io::{Failed, Sink, write_whole};
-use itoa::Buffer;
+use hippo_programs::write_numbered;
 
 const USAGE: &str =
     "usage: hippo_history --store NAME [--entry N | [--from N] [--to N]] [--table NAME] [--rules | [--tables] [--script]] \
      [--format text|json|csv]\n";
-
-// Writes words, a number and a line feed.
-fn write_numbered<K: Sink>(sink: &mut K, words: &str, number: u64) -> Result<(), Failed>
-    ensures ok { OnOk result (Appends (K.written sink.old) (K.written sink.new)
-        (words.now ++ (decimal number ++ codes "\n"))) }
-    ensures failed { OnErr result (AppendsFront (K.written sink.old) (K.written sink.new)
-        (words.now ++ (decimal number ++ codes "\n"))) }
-    ensures cause { OnErr result (HasRisen (K.faults sink.old) (K.faults sink.new)) }
-    ensures unfailed { OnOk result (K.faults sink.new ≡ K.faults sink.old) }
-{
-    write_whole(sink, words.as_bytes())?;
-    write_whole(sink, Buffer::new().format(number).as_bytes())?;
-    write_whole(sink, b"\n")
-}
 
 /// Writes the usage line.
 #[tactic(auto, unfolding(crate::specs::Saying::usage))]

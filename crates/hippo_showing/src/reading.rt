@@ -1,11 +1,12 @@
 //! What the words of a call ask for.
 ghost use Rattle.std.specs.Prelude.{◌≡◌, ◌||◌, codes, map, is_some, IfOk};
 ghost use Rattle.clap.specs.Words.{first_of, rows_of, found_of};
-ghost use Rattle.hippo_showing.specs.CommandLine.{first_in, last_in, has_end, entry_fits, has_form, rules_fit, fits, scope_of, format_named, format_in, is_text, format_fits, form_in, acts_in, excerpt_in, page_in, view_in, call_with, asked_by, asked_in, asked_of};
+ghost use Rattle.hippo_showing.specs.CommandLine.{first_in, last_in, has_end, entry_fits, has_form, rules_fit, fits, scope_of, is_text, format_fits, form_in, acts_in, excerpt_in, page_in, view_in, call_with, asked_by, asked_in, asked_of};
 
-use crate::arguments::{found_in, is_on, number_or, text_of};
+use crate::arguments::{found_in, is_on};
 use crate::asking::{Acts, Call, Excerpt, Form, Page, Scope, View};
 use clap::ArgMatches;
+use hippo_programs::{format_of, number_or, text_of, texts_of};
 use hippo_report::Format;
 use hippo_values::{Memory, Name, Txt};
 use std::alloc::Global;
@@ -73,23 +74,6 @@ fn scope_of(alloc: Global, matches: &ArgMatches<'_>) -> Result<Option<Scope>, Me
         None => Ok(Some(Scope::Whole)),
         Some(word) => Ok(Name::from_word(alloc, word)?.map(Scope::Table)),
     }
-}
-
-fn format_named(name: &str) -> Option<Format>
-    ensures { result ≡ format_named name.now }
-{
-    match name {
-        "text" => Some(Format::Text),
-        "json" => Some(Format::Json),
-        "csv" => Some(Format::Csv),
-        _ => None,
-    }
-}
-
-fn format_of(matches: &ArgMatches<'_>) -> Option<Format>
-    ensures { result ≡ format_in (rows_of (found_of matches.now)) }
-{
-    format_named(text_of(matches, "format").unwrap_or("text"))
 }
 
 fn is_text(format: Format) -> bool
@@ -197,16 +181,6 @@ fn asked_with(alloc: Global, matches: &ArgMatches<'_>) -> Result<Option<Call>, M
         None => Ok(None),
         Some(format) => asked_by(alloc, matches, format),
     }
-}
-
-fn texts_of<'w>(alloc: Global, words: &'w [Txt]) -> Result<Vec<&'w str>, Memory>
-    ensures { IfOk result (λ texts. map (λ text. text.now) texts.items ≡ words.now) }
-{
-    let mut texts = Vec::with_capacity(alloc, words.len())?;
-    for word in words {
-        texts.push(word.as_str())?;
-    }
-    Ok(texts)
 }
 
 #[tactic(auto, unfolding(crate::specs::CommandLine::asked_of))]

@@ -7,14 +7,11 @@ ghost use Rattle.hippo_policy.specs.Books.{StandsFor as BookStandsFor};
 ghost use Rattle.hippo_policy.specs.Rulings.{ruling_of, asks_opt_in, opt_in_at};
 ghost use Rattle.hippo_report.specs.declared.format.Format.TheVariants.{Text};
 ghost use Rattle.hippo_telling.specs.Telling.{name_at};
-ghost use Rattle.hippo_showing.specs.Formats.{json_line, csv_line, rule_data, rule_fields};
 ghost use Rattle.hippo_showing.specs.Ruling.{ruling_text, silence_text, rule_line, column_rule, column_line, is_ruled, columns_shown, has_table, table_shown, tables_shown, rules_by_names};
 
 use crate::asking::{Page, Scope};
-use crate::objects::rule_json;
-use crate::records::{append_record, rule_record};
-use crate::rulings::Names;
 use hippo_catalog::Catalog;
+use hippo_formats::{Names, append_rule_object, append_rule_record};
 use hippo_model::{Column, RuleAt, Schema};
 use hippo_policy::PolicyBook;
 use hippo_report::Format;
@@ -128,33 +125,6 @@ fn append_text(
     out.append("\n")
 }
 
-fn append_json(
-    alloc: Global,
-    names: &Names<'_>,
-    ruling: &RuleAt<'_>,
-    out: &mut Txt,
-) -> Result<(), Memory>
-    ensures { OnOk result (out.new ≡ out.old ++ json_line (rule_data names.now.purpose.now names.now.recipient.now
-        names.now.table.now names.now.column.now (ruling_of ruling.now) (asks_opt_in ruling.now))) }
-{
-    let text = rule_json(alloc, names, ruling)?;
-    out.append(text.as_str())?;
-    out.append("\n")
-}
-
-fn append_csv(
-    alloc: Global,
-    names: &Names<'_>,
-    ruling: &RuleAt<'_>,
-    out: &mut Txt,
-) -> Result<(), Memory>
-    ensures { OnOk result (out.new ≡ out.old ++ csv_line (rule_fields names.now.purpose.now names.now.recipient.now
-        names.now.table.now names.now.column.now (ruling_of ruling.now) (asks_opt_in ruling.now))) }
-{
-    let fields = rule_record(alloc, names, ruling)?;
-    append_record(alloc, &fields, out)
-}
-
 fn name_at<'a>(columns: &'a [Column], place: usize) -> &'a str
     ensures { result.now ≡ name_at columns.now place }
 {
@@ -211,8 +181,8 @@ fn append_line(
 {
     match format {
         Format::Text => append_statement(group, place, ruling, out),
-        Format::Json => append_json(alloc, &names_of(group, place), ruling, out),
-        Format::Csv => append_csv(alloc, &names_of(group, place), ruling, out),
+        Format::Json => append_rule_object(alloc, &names_of(group, place), ruling, out),
+        Format::Csv => append_rule_record(alloc, &names_of(group, place), ruling, out),
     }
 }
 

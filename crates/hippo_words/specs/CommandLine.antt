@@ -1,61 +1,22 @@
 -- The command line: which words the program takes, and what they ask for.
-use Rattle.std.specs.Prelude.{ℕ, Bool, true, List, [], ◌∷◌, Option, Some, None, option_and_then, unwrap_or, if◌then◌else◌, codes, bytes_eq}
-use Rattle.std.specs.Option.{option_map_or}
-use Rattle.std.specs.Str.Parse.{digits_value, without_leading_plus}
-use Rattle.clap.specs.Words.{App, Rule, Row, new_rule, first_of, matches_of, fault_of}
-use Rattle.clap.specs.Simple.{new_shape}
-use Rattle.clap.specs.Walk.{is_empty}
-use Rattle.clap.specs.declared.builder.value_parser.ValueParser.{ValueParser}
-use Rattle.clap.specs.declared.builder.value_parser.ValueParser.TheVariants.{Unsigned}
+use Rattle.std.specs.Prelude.{List, [], ◌∷◌, Option, Some, None, option_and_then, unwrap_or, if◌then◌else◌, codes, bytes_eq}
+use Rattle.clap.specs.Words.{App, Row, first_of, matches_of}
 use Rattle.hippo_values.specs.Texts.{Txt}
 use Rattle.hippo_values.specs.Names.{name_of}
-use Rattle.hippo_values.specs.declared.names.Name.{Name}
-use Rattle.hippo_values.specs.declared.moments.Moment.{Moment}
 use Rattle.hippo_commands.specs.Moments.{moment_in}
 use Rattle.hippo_report.specs.declared.format.Format.{Format}
-use Rattle.hippo_report.specs.declared.format.Format.TheVariants as formats
+use Rattle.hippo_programs.specs.Arguments.{word, text_option, number_option, command_with, is_taken, number_or, format_in}
 use Rattle.hippo_words.specs.declared.calls.Call.{Call}
 use Rattle.hippo_words.specs.declared.calls.Setting.{Setting}
 use Rattle.hippo_words.specs.declared.calls.Job.{Job}
 use Rattle.hippo_words.specs.declared.calls.Job.TheVariants.{Run, Load, Check, Drill}
 
--- an argument that is written behind its name, as a text or as a number
-abbrev pub text_option : Txt → Rule
-text_option name = record (new_rule name) { long = Some name }
-
-abbrev pub number_option : Txt → ℕ → ℕ → Rule
-number_option name least most = record (text_option name) { parser = Some (Unsigned least most) }
-
-abbrev pub job_argument : Rule
-job_argument = record (new_rule (codes "job")) { required = true }
-
 -- the command, as clap is told of it
 abbrev pub command_line : App
-command_line = record {
-  top = record (new_shape (codes "hippo")) {
-    rules = job_argument ∷ text_option (codes "store") ∷ number_option (codes "history") 1 4000000
-        ∷ number_option (codes "size") 2 20000 ∷ number_option (codes "number") 0 999 ∷ text_option (codes "format")
-        ∷ text_option (codes "table") ∷ text_option (codes "moment") ∷ [];
-    no_binary_name = true;
-    disable_help_flag = true;
-  };
-  subs = [];
-}
-
--- what is written behind a name, as a text, or as a number that is another one where nothing is written
-abbrev pub number_or : ℕ → Option Txt → ℕ
-number_or otherwise written = option_map_or (λ text. digits_value 10 (without_leading_plus text)) written otherwise
-
--- the format with a name
-abbrev pub format_named : Txt → Option Format
-format_named name =
-    if bytes_eq name (codes "text") then Some formats.Text
-    else if bytes_eq name (codes "json") then Some formats.Json
-    else if bytes_eq name (codes "csv") then Some formats.Csv
-    else None
-
-abbrev pub format_in : List Row → Option Format
-format_in rows = format_named (unwrap_or (first_of (codes "format") rows) (codes "text"))
+command_line = command_with (codes "hippo")
+    (word (codes "job") ∷ text_option (codes "store") ∷ number_option (codes "history") 1 4000000
+    ∷ number_option (codes "size") 2 20000 ∷ number_option (codes "number") 0 999 ∷ text_option (codes "format")
+    ∷ text_option (codes "table") ∷ text_option (codes "moment") ∷ [])
 
 -- what a run begins with, in a format
 abbrev pub setting_with : List Row → Format → Setting
@@ -88,10 +49,6 @@ call_in rows =
     option_and_then (λ job. Some (record { store = unwrap_or (first_of (codes "store") rows) []; job = job }))
     (job_in rows)
 
--- whether the command takes the words: it finds no fault in them
-abbrev pub is_taken : List Txt → Bool
-is_taken words = is_empty (fault_of command_line words)
-
 -- what the words of a call ask for, if anything
 unfoldable pub call_of : List Txt → Option Call
-call_of words = if is_taken words then call_in (matches_of command_line words) else None
+call_of words = if is_taken command_line words then call_in (matches_of command_line words) else None

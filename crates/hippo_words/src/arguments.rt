@@ -1,141 +1,41 @@
-//! The command as clap is told of it, and what it finds in words.
-ghost use Rattle.std.specs.Prelude.{◌≡◌, ◌≢◌, Some, None, [], true, false, codes, map, option_map, MatchOption, IfOk};
-ghost use Rattle.std.specs.Str.Parse.{digits_value, without_leading_plus};
-ghost use Rattle.clap.specs.Simple.{new_shape};
-ghost use Rattle.clap.specs.Words.{app_of, rule_of, with_rule, rows_of, found_of, matches_of, fault_of, first_of, kind_of};
-ghost use Rattle.clap.specs.declared.error.kind.ErrorKind.TheVariants.{OutOfMemory};
-ghost use Rattle.hippo_words.specs.CommandLine.{text_option, number_option, job_argument, command_line, number_or};
+//! The command's arguments, and what they find in words.
+ghost use Rattle.std.specs.Prelude.{◌≡◌, map, IfOk};
+ghost use Rattle.clap.specs.Words.{rows_of, found_of, first_of};
+ghost use Rattle.hippo_programs.specs.Arguments.{Finds, number_or};
+ghost use Rattle.hippo_words.specs.CommandLine.{command_line};
 
-use clap::builder::ValueParser;
-use clap::error::ErrorKind;
-use clap::{Arg, ArgMatches, Command, Error};
+use clap::ArgMatches;
+use hippo_programs::{Argument, matches_in, number_or};
 use hippo_values::Memory;
 use std::alloc::Global;
 
-fn job_argument<'a>(alloc: Global) -> Arg<'a>
-    ensures rule { rule_of result ≡ job_argument }
-    ensures local { result.global ≡ false }
-{
-    Arg::new(alloc, "job").required(true)
-}
-
-// An argument that is written behind its name, as a text.
-fn text_option<'a>(alloc: Global, name: &'a str) -> Arg<'a>
-    ensures rule { rule_of result ≡ text_option name.now }
-    ensures local { result.global ≡ false }
-{
-    Arg::new(alloc, name).long(name)
-}
-
-// An argument that is written behind its name, as a number within bounds.
-fn number_option<'a>(alloc: Global, name: &'a str, least: u64, most: u64) -> Arg<'a>
-    ensures rule { rule_of result ≡ number_option name.now least most }
-    ensures local { result.global ≡ false }
-{
-    Arg::new(alloc, name)
-        .long(name)
-        .value_parser(ValueParser::Unsigned(least, most))
-}
-
-// Adds the job and the options of a store and of its history.
-fn with_store<'a>(alloc: Global, command: Command<'a>) -> Result<Command<'a>, Memory>
-    ensures { IfOk result (λ longer. app_of longer ≡ with_rule (with_rule (with_rule (app_of command.entry)
-        job_argument) (text_option (codes "store"))) (number_option (codes "history") 1 4000000)) }
-{
-    let command = command.arg(job_argument(alloc))?;
-    let command = command.arg(text_option(alloc, "store"))?;
-    Ok(command.arg(number_option(alloc, "history", 1, 4_000_000))?)
-}
-
-// Adds the options of a drill.
-fn with_script<'a>(alloc: Global, command: Command<'a>) -> Result<Command<'a>, Memory>
-    ensures { IfOk result (λ longer. app_of longer ≡ with_rule (with_rule (app_of command.entry)
-        (number_option (codes "size") 2 20000)) (number_option (codes "number") 0 999)) }
-{
-    let command = command.arg(number_option(alloc, "size", 2, 20_000))?;
-    Ok(command.arg(number_option(alloc, "number", 0, 999))?)
-}
-
-// Adds the format, and the options of a load.
-fn with_load<'a>(alloc: Global, command: Command<'a>) -> Result<Command<'a>, Memory>
-    ensures { IfOk result (λ longer. app_of longer ≡ with_rule (with_rule (with_rule (app_of command.entry)
-        (text_option (codes "format"))) (text_option (codes "table"))) (text_option (codes "moment"))) }
-{
-    let command = command.arg(text_option(alloc, "format"))?;
-    let command = command.arg(text_option(alloc, "table"))?;
-    Ok(command.arg(text_option(alloc, "moment"))?)
-}
-
-fn no_arguments<'a>(alloc: Global) -> Command<'a>
-    ensures { app_of result ≡ record {
-      top = record (new_shape (codes "hippo"))
-          { no_binary_name = true; disable_help_flag = true };
-      subs = [];
-    } }
-{
-    Command::new(alloc, "hippo")
-        .no_binary_name(true)
-        .disable_help_flag(true)
-}
-
-fn command_line<'a>(alloc: Global) -> Result<Command<'a>, Memory>
-    ensures { IfOk result (λ command. app_of command ≡ command_line) }
-{
-    let command = with_store(alloc, no_arguments(alloc))?;
-    let command = with_script(alloc, command)?;
-    with_load(alloc, command)
-}
-
-// What is found where the command answers an error: nothing, or memory was short.
-fn none_found<'a>(error: Error) -> Result<Option<ArgMatches<'a>>, Memory>
-    ensures { IfOk result (λ found. (found ≡ None) × (kind_of error ≢ OutOfMemory)) }
-{
-    match error.kind() {
-        ErrorKind::OutOfMemory => Err(Memory),
-        _ => Ok(None),
-    }
-}
+const ARGUMENTS: [Argument<'static>; 8] = [
+    Argument::Word("job"),
+    Argument::Text("store"),
+    Argument::Number("history", 1, 4_000_000),
+    Argument::Number("size", 2, 20_000),
+    Argument::Number("number", 0, 999),
+    Argument::Text("format"),
+    Argument::Text("table"),
+    Argument::Text("moment"),
+];
 
 /// What the command finds in words: nothing exactly where it does not take them.
 pub(crate) fn found_in<'w>(
     alloc: Global,
     words: &'w [&'w str],
 ) -> Result<Option<ArgMatches<'w>>, Memory>
-    ensures { IfOk result (λ found. MatchOption found
-        (fault_of command_line (map (λ word. word.now) words.now) ≢ [])
-        (λ matches. (fault_of command_line (map (λ word. word.now) words.now) ≡ [])
-        × (rows_of (found_of matches) ≡ matches_of command_line (map (λ word. word.now) words.now)))) }
+    ensures { IfOk result (Finds command_line (map (λ word. word.now) words.now)) }
 {
-    match command_line(alloc)?.try_get_matches_from(words) {
-        Ok(matches) => Ok(Some(matches)),
-        Err(error) => none_found(error),
-    }
+    matches_in(alloc, "hippo", &ARGUMENTS, words)
 }
 
-/// What is written behind a name.
-pub(crate) fn text_of<'w>(matches: &ArgMatches<'w>, name: &str) -> Option<&'w str>
-    ensures { option_map (λ text. text.now) result ≡ first_of name.now (rows_of (found_of matches.now)) }
-{
-    matches.get_str(name)
-}
-
-// The number that a text writes; one that is none has been refused before.
-fn number_in(text: &str) -> Result<u32, Memory>
-    ensures { IfOk result (λ number. number ≡ digits_value 10 (without_leading_plus text.now)) }
-{
-    match text.parse::<u32>() {
-        Ok(number) => Ok(number),
-        Err(_) => Err(Memory),
-    }
-}
-
-/// The number that is written behind a name, or another one where none is.
-pub(crate) fn number_or(matches: &ArgMatches<'_>, name: &str, otherwise: u32) -> Result<u32, Memory>
+/// The number that is written behind a name, or another one where none is. One of more than 32 bits has been refused
+/// before.
+pub(crate) fn short_or(matches: &ArgMatches<'_>, name: &str, otherwise: u32) -> Result<u32, Memory>
     ensures { IfOk result (λ number.
         number ≡ number_or otherwise (first_of name.now (rows_of (found_of matches.now)))) }
 {
-    match text_of(matches, name) {
-        None => Ok(otherwise),
-        Some(text) => number_in(text),
-    }
+    let number = number_or(matches, name, u64::from(otherwise))?;
+    u32::try_from(number).map_err(|_| Memory)
 }

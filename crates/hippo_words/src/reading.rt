@@ -4,11 +4,13 @@ ghost use Rattle.clap.specs.Words.{first_of, rows_of, found_of};
 ghost use Rattle.hippo_values.specs.Names.{name_of};
 ghost use Rattle.hippo_commands.specs.Moments.{moment_in};
 ghost use Rattle.hippo_words.specs.declared.calls.Job.TheVariants.{Run, Drill};
-ghost use Rattle.hippo_words.specs.CommandLine.{number_or, setting_with, format_named, format_in, load_with, job_named, job_in, call_in, call_of};
+ghost use Rattle.hippo_programs.specs.Arguments.{number_or};
+ghost use Rattle.hippo_words.specs.CommandLine.{setting_with, load_with, job_named, job_in, call_in, call_of};
 
-use crate::arguments::{found_in, number_or, text_of};
+use crate::arguments::{found_in, short_or};
 use crate::calls::{Call, Job, Setting};
 use clap::ArgMatches;
+use hippo_programs::{format_of, text_of, texts_of};
 use hippo_report::Format;
 use hippo_values::{Memory, Moment, Name, Txt, read_moment};
 use std::alloc::Global;
@@ -17,26 +19,9 @@ fn setting_with(matches: &ArgMatches<'_>, format: Format) -> Result<Setting, Mem
     ensures { IfOk result (λ setting. setting ≡ setting_with (rows_of (found_of matches.now)) format) }
 {
     Ok(Setting {
-        limit: number_or(matches, "history", 4_000_000)?,
+        limit: short_or(matches, "history", 4_000_000)?,
         format,
     })
-}
-
-fn format_named(name: &str) -> Option<Format>
-    ensures { result ≡ format_named name.now }
-{
-    match name {
-        "text" => Some(Format::Text),
-        "json" => Some(Format::Json),
-        "csv" => Some(Format::Csv),
-        _ => None,
-    }
-}
-
-fn format_of(matches: &ArgMatches<'_>) -> Option<Format>
-    ensures { result ≡ format_in (rows_of (found_of matches.now)) }
-{
-    format_named(text_of(matches, "format").unwrap_or("text"))
 }
 
 fn moment_in(text: &str) -> Option<Moment>
@@ -90,8 +75,8 @@ fn drill_of(matches: &ArgMatches<'_>) -> Result<Job, Memory>
         (number_or 7 (first_of (codes "number") (rows_of (found_of matches.now))))) }
 {
     Ok(Job::Drill {
-        size: number_or(matches, "size", 2000)?,
-        number: number_or(matches, "number", 7)?,
+        size: short_or(matches, "size", 2000)?,
+        number: short_or(matches, "number", 7)?,
     })
 }
 
@@ -132,16 +117,6 @@ fn call_with(alloc: Global, matches: &ArgMatches<'_>) -> Result<Option<Call>, Me
         None => Ok(None),
         Some(job) => Ok(Some(Call { store, job })),
     }
-}
-
-fn texts_of<'w>(alloc: Global, words: &'w [Txt]) -> Result<Vec<&'w str>, Memory>
-    ensures { IfOk result (λ texts. map (λ text. text.now) texts.items ≡ words.now) }
-{
-    let mut texts = Vec::with_capacity(alloc, words.len())?;
-    for word in words {
-        texts.push(word.as_str())?;
-    }
-    Ok(texts)
 }
 
 #[tactic(auto, unfolding(crate::specs::CommandLine::call_of))]

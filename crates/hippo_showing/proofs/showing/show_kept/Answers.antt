@@ -1,5 +1,5 @@
 -- The entry that has the form is shown; or none has it, and that is said; or memory was short.
-use Rattle.hippo_showing.specs.Saying.{damaged_line}
+use Rattle.hippo_programs.specs.Lines.{damaged_line}
 use Rattle.hippo_showing.proofs.EntryLemmas.{of_entry, of_none, of_unread}
 use Rattle.hippo_showing.proofs.showing.show_kept.Goals as goal
 

@@ -1,0 +1,85 @@
+//! Members of an object of JSON (RFC 8259), one after the other.
+ghost use Rattle.std.specs.Prelude.{◌≡◌, option_copied, OnOk};
+ghost use Rattle.serde_json.specs.Data.{put, string, number, unsigned};
+ghost use Rattle.serde_json.specs.View.{members_view};
+ghost use Rattle.hippo_formats.specs.Formats.{number_data, text_data, opt_data};
+
+use crate::rulings::opt_word;
+use hippo_values::Name;
+use serde_json::{Map, Value, put};
+use std::alloc::{AllocError, Global};
+
+/// Adds a text.
+pub(crate) fn put_text(
+    alloc: Global,
+    members: &mut Map<String, Value>,
+    key: &str,
+    text: &str,
+) -> Result<(), AllocError>
+    ensures { OnOk result (members_view members.new.entries
+        ≡ put key.now (string text.now) (members_view members.old.entries)) }
+{
+    let member = Value::try_from_str(alloc, text)?;
+    put(members, alloc, key, member)
+}
+
+/// Adds a number.
+pub(crate) fn put_number(
+    alloc: Global,
+    members: &mut Map<String, Value>,
+    key: &str,
+    value: u64,
+) -> Result<(), AllocError>
+    ensures { OnOk result (members_view members.new.entries
+        ≡ put key.now (number (unsigned value)) (members_view members.old.entries)) }
+{
+    put(members, alloc, key, Value::from(value))
+}
+
+/// Adds a number of days, or null where there is none.
+pub(crate) fn put_days(
+    alloc: Global,
+    members: &mut Map<String, Value>,
+    key: &str,
+    days: Option<u32>,
+) -> Result<(), AllocError>
+    ensures { OnOk result (members_view members.new.entries
+        ≡ put key.now (number_data days) (members_view members.old.entries)) }
+{
+    match days {
+        None => put(members, alloc, key, Value::Null),
+        Some(days) => put(members, alloc, key, Value::from(days)),
+    }
+}
+
+/// Adds a name, or null where there is none.
+pub(crate) fn put_name(
+    alloc: Global,
+    members: &mut Map<String, Value>,
+    key: &str,
+    name: Option<&Name>,
+) -> Result<(), AllocError>
+    ensures { OnOk result (members_view members.new.entries
+        ≡ put key.now (text_data (option_copied name.entry)) (members_view members.old.entries)) }
+{
+    match name {
+        None => put(members, alloc, key, Value::Null),
+        Some(name) => put_text(alloc, members, key, name.as_str()),
+    }
+}
+
+/// Adds how an item reads silence, or null where there is none.
+pub(crate) fn put_opt(
+    alloc: Global,
+    members: &mut Map<String, Value>,
+    key: &str,
+    opt_in: Option<bool>,
+) -> Result<(), AllocError>
+    ensures { OnOk result (members_view members.new.entries
+        ≡ put key.now (opt_data opt_in) (members_view members.old.entries)) }
+{
+    match opt_in {
+        None => put(members, alloc, key, Value::Null),
+        Some(opt_in) => put_text(alloc, members, key, opt_word(opt_in)),
+    }
+}

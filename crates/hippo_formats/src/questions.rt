@@ -1,0 +1,37 @@
+//! Which acts are questions.
+ghost use Rattle.std.specs.Prelude.{◌≡◌, false, MatchOption};
+ghost use Rattle.hippo_model.specs.declared.entry.Act.TheVariants.{Asked};
+ghost use Rattle.hippo_formats.specs.Questions.{is_question};
+
+use hippo_model::Act;
+use hippo_values::{Name, Txt};
+
+/// A question, and who asks it.
+#[derive(Clone, Copy)]
+pub struct Question<'a> {
+    pub user: &'a Name,
+    pub purpose: &'a Name,
+    pub recipient: &'a Name,
+    pub text: &'a Txt,
+}
+
+/// The question that an act is, if it is one.
+pub fn question_of<'a>(act: &'a Act) -> Option<Question<'a>>
+    ensures { MatchOption result (is_question act.now ≡ false) (λ question. act.now
+        ≡ Asked question.user.now question.purpose.now question.recipient.now question.text.now) }
+{
+    match act {
+        Act::Asked {
+            user,
+            purpose,
+            recipient,
+            text,
+        } => Some(Question {
+            user,
+            purpose,
+            recipient,
+            text,
+        }),
+        _ => None,
+    }
+}
