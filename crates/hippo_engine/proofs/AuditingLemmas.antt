@@ -1,5 +1,5 @@
 -- From what an audit expression means, and from the job that looks over all that was asked, to what DURING does.
-use Rattle.std.proofs.Common.{◌≡◌, ◌≢◌, ◌∙◌, ◌⊎◌, ◌≤◌, ◌+◌, ℕ, refl, sym, ap, subst, inl, inr, arith, true, false, List, [], length, Some, Result, Ok, Err}
+use Rattle.std.proofs.Common.{◌≡◌, ◌≢◌, ◌∙◌, ◌⊎◌, ◌≤◌, ◌+◌, ℕ, refl, sym, ap, subst, inl, inr, arith, true, false, List, [], length, Option, Some, Result, Ok, Err}
 use Rattle.std.specs.Prelude.{min, OnOk, IfOk}
 use Rattle.std.specs.Result.{result_map_both}
 use Rattle.std.proofs.lemmas.Bool.{false≢true}
@@ -14,7 +14,7 @@ use Rattle.hippo_model.specs.Versions.{versions}
 use Rattle.hippo_keeper.specs.Answering.{has_failed}
 use Rattle.hippo_keeper.specs.Keeping.{KeeperState}
 use Rattle.hippo_typing.specs.Meanings.{meaning}
-use Rattle.hippo_commands.specs.Commands.{Command, state}
+use Rattle.hippo_commands.specs.Commands.{Command, state, who_commands}
 use Rattle.hippo_backlog.specs.Calls as reads
 use Rattle.hippo_backlog.specs.declared.faults.ReadFault.{ReadFault}
 use Rattle.hippo_backlog.specs.declared.faults.ReadFault.TheVariants.{Keeper, Damaged, Memory}
@@ -42,12 +42,13 @@ use Rattle.hippo_engine.specs.declared.faults.EngineFault.{EngineFault}
 use Rattle.hippo_engine.specs.declared.faults.EngineFault.TheVariants as engine
 use Rattle.hippo_engine.specs.Auditing.{FindsFlags, ended, told_flags, TellsFlags}
 use Rattle.hippo_engine.specs.Carrying.{AtWork, as_call, is_carried, Carries}
-use Rattle.hippo_engine.specs.Changing.{IsRefused}
-use Rattle.hippo_judging.specs.Checks.{Checked, Finds, ◌>>=◌}
+use Rattle.hippo_judging.specs.Findings.{IsJudged, Does, may_do_nothing}
+use Rattle.hippo_judging.specs.declared.deeds.Deed.TheVariants as kinds
+use Rattle.hippo_judging.specs.Checks.{Checked}
 use Rattle.hippo_judging.specs.Deeds.{Deed}
 use Rattle.hippo_judging.specs.Deeds as deeds
 use Rattle.hippo_engine.specs.Effects.{Effect, only_reply, effect_of, audited, listed, IsEffect}
-use Rattle.hippo_judging.specs.Judging.{audit_in, judged}
+use Rattle.hippo_judging.specs.Judging.{judged}
 use Rattle.hippo_engine.specs.Ledgers.{at_once}
 use Rattle.hippo_engine.proofs.LookingLemmas.{Carries-looked}
 use Rattle.hippo_engine.proofs.ShortLemmas.{short, done_for}
@@ -109,18 +110,13 @@ ended_same (Err Keeper) = refl
 ended_same (Err (Damaged number)) = refl
 ended_same (Err Memory) = refl
 
-module _ (history : History) (world : World) (text : Txt) (written : RawAudit) (audit : Audit) (is : audit_in history 0 written ≡ Ok audit) where
-  abbrev command : Command
-  command = state 0 (stmt.Audit written) text
-
-  judged_is : judged history world command ≡ Ok (deeds.audit audit)
-  judged_is = ap (λ (checked : Checked Audit). checked >>= λ made. Ok (deeds.audit made)) is
-
+module _ (history : History) (world : World) (command : Command) (audit : Audit) (takes : may_do_nothing command ≡ true) (who : who_commands command ≡ Some 0)
+    (judged_is : judged history world command ≡ Ok (deeds.audit audit)) where
   done_so : effect_of history world command ≡ audited history world audit
   done_so = done_for history world command (deeds.audit audit) judged_is
 
   short_of_memory : IsEffect history world command (only_reply world (refusal_line (Some 0) refusals.Memory))
-  short_of_memory = short history world command refl
+  short_of_memory = subst (λ (one : Option ℕ). IsEffect history world command (only_reply world (refusal_line one refusals.Memory))) who (short history world command takes)
 
   -- what was found has its effect
   effect_found : (found : Result (List Flag) ReadFault) (reply : Txt) → IfOk found (λ flags. flags ≡ flags_between meaning history audit 0 (length history))
@@ -153,40 +149,50 @@ abbrev IsSaid : Format → Result (List Flag) ReadFault → Txt → Type 0
 IsSaid format found reply = (reply ≡ told_flags format found) ⊎ (reply ≡ refusal_line (Some 0) refusals.Memory)
 
 -- DURING at the console
-pub Carries-audited : (text : Txt) (written : RawAudit) (audit : Audit) (session : ℕ) (result : Result (Unit {0}) EngineFault) (old new : Engine) (before after : KeeperState) (steps steps' : ℕ)
-    → session ≡ 0 → AtWork old before → ((history : History) → StandsFor old.state history → audit_in history session written ≡ Ok audit)
-    → ((history : History) → StandsFor old.state history → IsAuditOf history audit)
-    → new.state ≡ old.state → new.world ≡ old.world → TellsFlags old.world.format audit old.state result new.reply before after steps steps'
-    → Carries (state session (stmt.Audit written) text) result old new before after steps steps'
-Carries-audited text written audit session result old new before after steps steps' console at_work means audit_is same_state same_world tells =
-    subst (λ (s : ℕ). Carries (state s (stmt.Audit written) text) result old new before after steps steps') (sym console)
-    (subst (λ (r : Result (Unit {0}) EngineFault). Carries (state 0 (stmt.Audit written) text) r old new before after steps steps') (sym tells.ended_so)
-    (Carries-looked (state 0 (stmt.Audit written) text) (ended tells.found) old new before after steps steps' refl at_work same_state (ap (λ (held : HeldWorld). held.clock) same_world)
-    (IsAfterCall-as true false (reads.as_call tells.found) (as_call (ended tells.found)) before after (ended_same tells.found) tells.finds.call)
-    tells.finds.stays
-    (λ told history holds.
-    let world : World = world_of old.world in
-    let is : audit_in history 0 written ≡ Ok audit = subst (λ (s : ℕ). audit_in history s written ≡ Ok audit) console (means history holds.stands) in
-    let done = tells.finds.told told history holds.forms holds.stands (audit_is history holds.stands) in
-    record {
-      effect = λ fine.
-          subst (λ (w : World). IsEffect history world (state 0 (stmt.Audit written) text) (only_reply w new.reply)) (ap world_of (sym same_world))
-          (either history is done.flags_are fine (carried_said tells.found (IsSaid old.world.format tells.found new.reply) fine
-          (subst (λ (r : Result (Unit {0}) EngineFault). OnOk r (IsSaid old.world.format tells.found new.reply)) tells.ended_so tells.said)));
-      jobs = subst (JobsFit history) (sym same_world) holds.jobs;
-      watches = subst (WatchesFit history) (sym same_world) holds.watches;
-      counts = at_once refl done.few (ap taken_of same_world);
-      refused = λ refusal refuses others. absurd (unrefused history world text written audit is refusal refuses);
-      adds = adds_none history world text written audit is;
-      undamaged = λ number e. undamaged_end tells.found number done.undamaged e;
-    })))
-  where
-    either : (history : History) → audit_in history 0 written ≡ Ok audit → IfOk tells.found (λ flags. flags ≡ flags_between meaning history audit 0 (length history))
-        → is_carried (ended tells.found) ≡ true → (new.reply ≡ told_flags old.world.format tells.found) ⊎ (new.reply ≡ refusal_line (Some 0) refusals.Memory)
-        → IsEffect history (world_of old.world) (state 0 (stmt.Audit written) text) (only_reply (world_of old.world) new.reply)
-    either history is flags fine (inl said) = effect_found history (world_of old.world) text written audit is tells.found new.reply flags fine said
-    either history is flags fine (inr said) =
-        subst (λ (r : Txt). IsEffect history (world_of old.world) (state 0 (stmt.Audit written) text) (only_reply (world_of old.world) r)) (sym said) (short_of_memory history (world_of old.world) text written audit is)
+module _ (text : Txt) (written : RawAudit) (audit : Audit) (old new : Engine) (before after : KeeperState) (steps steps' : ℕ) where
+  abbrev audits : Command
+  audits = state 0 (stmt.Audit written) text
+
+  pub Carries-audited : (result : Result (Unit {0}) EngineFault) → AtWork old before → IsJudged audits old.state old.world (Ok (deeds.audit audit))
+      → ((history : History) → StandsFor old.state history → IsAuditOf history audit)
+      → new.state ≡ old.state → new.world ≡ old.world → TellsFlags old.world.format audit old.state result new.reply before after steps steps'
+      → Carries audits result old new before after steps steps'
+  Carries-audited result at_work does audit_is same_state same_world tells =
+      subst (λ (r : Result (Unit {0}) EngineFault). Carries audits r old new before after steps steps') (sym tells.ended_so)
+      (Carries-looked audits (ended tells.found) old new before after steps steps' refl at_work same_state (ap (λ (held : HeldWorld). held.clock) same_world)
+      (IsAfterCall-as true false (reads.as_call tells.found) (as_call (ended tells.found)) before after (ended_same tells.found) tells.finds.call)
+      tells.finds.stays
+      (λ told history holds.
+      let world : World = world_of old.world in
+      let is : judged history world audits ≡ Ok (deeds.audit audit) = does history holds.stands in
+      let done = tells.finds.told told history holds.forms holds.stands (audit_is history holds.stands) in
+      record {
+        effect = λ fine.
+            subst (λ (w : World). IsEffect history world audits (only_reply w new.reply)) (ap world_of (sym same_world))
+            (either history is done.flags_are fine (carried_said tells.found (IsSaid old.world.format tells.found new.reply) fine
+            (subst (λ (r : Result (Unit {0}) EngineFault). OnOk r (IsSaid old.world.format tells.found new.reply)) tells.ended_so tells.said)));
+        jobs = subst (JobsFit history) (sym same_world) holds.jobs;
+        watches = subst (WatchesFit history) (sym same_world) holds.watches;
+        counts = at_once refl done.few (ap taken_of same_world);
+        refused = λ refusal refuses others. absurd (unrefused history world audits audit refl refl is refusal refuses);
+        adds = adds_none history world audits audit refl refl is;
+        undamaged = λ number e. undamaged_end tells.found number done.undamaged e;
+      }))
+    where
+      either : (history : History) → judged history (world_of old.world) audits ≡ Ok (deeds.audit audit) → IfOk tells.found (λ flags. flags ≡ flags_between meaning history audit 0 (length history))
+          → is_carried (ended tells.found) ≡ true → (new.reply ≡ told_flags old.world.format tells.found) ⊎ (new.reply ≡ refusal_line (Some 0) refusals.Memory)
+          → IsEffect history (world_of old.world) audits (only_reply (world_of old.world) new.reply)
+      either history is flags fine (inl said) = effect_found history (world_of old.world) audits audit refl refl is tells.found new.reply flags fine said
+      either history is flags fine (inr said) =
+          subst (λ (r : Txt). IsEffect history (world_of old.world) audits (only_reply (world_of old.world) r)) (sym said) (short_of_memory history (world_of old.world) audits audit refl refl is)
+
+pub Carries-does : (command : Command) (audit : Audit) (old new : Engine) (before after : KeeperState) (steps steps' : ℕ) (result : Result (Unit {0}) EngineFault) → AtWork old before
+    → Does command (kinds.Audit audit) old.state old.world → new.state ≡ old.state → new.world ≡ old.world → TellsFlags old.world.format audit old.state result new.reply before after steps steps'
+    → Carries command result old new before after steps steps'
+Carries-does command audit old new before after steps steps' result at_work ((written, text, is), means, does) same_state same_world tells =
+    subst (λ (c : Command). Carries c result old new before after steps steps') (sym is)
+    (Carries-audited text written audit old new before after steps steps' result at_work
+    (subst (λ (c : Command). IsJudged c old.state old.world (Ok (deeds.audit audit))) is does) means.fits same_state same_world tells)
 
 -- how the line ends, by the job or by what it found
 pub ended_view : (result : Result (Unit {0}) EngineFault) (found : Result (Job Combine) ReadFault) → result ≡ ended found → result ≡ ended (result_map_both (λ (job : Job Combine). job.waiting) (λ fault. fault) found)
@@ -194,15 +200,3 @@ ended_view result (Ok job) is = is
 ended_view result (Err Keeper) is = is
 ended_view result (Err (Damaged number)) is = is
 ended_view result (Err Memory) is = is
-
--- an audit that is refused changes nothing
-pub refused_audit : (text : Txt) (written : RawAudit) (session : ℕ) (refusal : Refusal) (engine : Engine) → ((history : History) → StandsFor engine.state history → Finds (λ audit. audit) (audit_in history session written) (Err refusal))
-    → IsRefused (state session (stmt.Audit written) text) session refusal engine
-refused_audit text written session refusal engine refuses = record {
-  who = refl;
-  memory = refl;
-  refused = λ history stands. elim (refuses history stands) [
-    | inl is ↦ inl (ap (λ (checked : Checked Audit). checked >>= λ audit. Ok (deeds.audit audit)) is)
-    | inr is ↦ inr is
-  ];
-}

@@ -25,9 +25,10 @@ use Rattle.hippo_commands.specs.Commands as commands
 use Rattle.hippo_engine.specs.declared.engine.Engine.{Engine}
 use Rattle.hippo_engine.specs.declared.faults.EngineFault.{EngineFault}
 use Rattle.hippo_engine.specs.declared.faults.EngineFault.TheVariants.{Keeper, Write, Damaged}
-use Rattle.hippo_engine.specs.Effects.{Effect, only_reply, IsEffect, may_do_nothing}
+use Rattle.hippo_engine.specs.Effects.{Effect, only_reply, IsEffect}
+use Rattle.hippo_judging.specs.Findings.{IsOfLine, may_do_nothing}
 use Rattle.hippo_engine.specs.Ledgers.{Tallies, none_taken, at_once, job_begun, job_stepped, job_dropped}
-use Rattle.hippo_engine.specs.Carrying.{Holds, AtWork, IsBacked, is_carried, shown, IsOfLine, IsQuiet, AddsNothing, BreaksOff, Carries}
+use Rattle.hippo_engine.specs.Carrying.{Holds, AtWork, IsBacked, is_carried, shown, IsQuiet, AddsNothing, BreaksOff, Carries}
 use Rattle.hippo_engine.proofs.ClockLemmas.{int_le-refl, clock_rises}
 use Rattle.hippo_engine.proofs.ShortLemmas.{short}
 

@@ -1,12 +1,10 @@
 -- From the checks of a statement that changes something, and from recording its entry, to what carrying it out does.
-use Rattle.std.proofs.Common.{◌≡◌, ◌⊎◌, ◌∙◌, inl, inr, refl, sym, ap, subst, ℕ, Option, Some, Result, Ok, Err, true, false}
-use Rattle.std.specs.Prelude.{codes, OnOk, MatchResult, int_le, [], ◌∷◌, ◌++◌}
+use Rattle.std.proofs.Common.{◌≡◌, ◌⊎◌, ◌∙◌, ◌≤◌, inl, inr, refl, sym, ap, subst, ℕ, Bool, length, Option, Some, true, false}
+use Rattle.std.specs.Prelude.{codes, int_le, [], ◌∷◌, ◌++◌}
 use Rattle.std.proofs.lemmas.Bool.{false≢true}
 use Rattle.hippo_values.specs.Texts.{Txt}
 use Rattle.hippo_model.specs.declared.entry.Entry.{Entry}
-use Rattle.hippo_model.specs.declared.statement.Stmt.{Stmt}
 use Rattle.hippo_model.specs.Terms.{History}
-use Rattle.hippo_catalog.specs.ChangesWanted.{changes_something}
 use Rattle.hippo_keeper.specs.declared.faults.KeeperFault.{KeeperFault}
 use Rattle.hippo_keeper.specs.declared.faults.KeeperFault.TheVariants.{Failed, Memory}
 use Rattle.hippo_keeper.specs.Keeping.{KeeperState}
@@ -23,71 +21,63 @@ use Rattle.hippo_world.specs.declared.worlds.World.{World as HeldWorld}
 use Rattle.hippo_world.specs.Worlds.{World}
 use Rattle.hippo_world.specs.Holding.{world_of, JobsFit, taken_of, WatchesFit}
 use Rattle.hippo_world.proofs.AuditLemmas.{JobsFit-more, WatchesFit-more}
-use Rattle.hippo_commands.specs.Commands.{Command, state, who_commands}
+use Rattle.hippo_commands.specs.Commands.{Command, who_commands}
 use Rattle.hippo_engine.specs.declared.engine.Engine.{Engine}
 use Rattle.hippo_engine.specs.declared.faults.EngineFault.{EngineFault}
 use Rattle.hippo_engine.specs.declared.faults.EngineFault.TheVariants.{Keeper}
 use Rattle.hippo_engine.specs.Carrying.{AtWork, IsQuiet, Carries}
-use Rattle.hippo_judging.specs.Changes.{IsChange, FindsChange}
-use Rattle.hippo_engine.specs.Changing.{Changes, IsRefused, changed}
-use Rattle.hippo_judging.specs.Checks.{Refuses, Checked}
+use Rattle.hippo_judging.specs.Changes.{IsChange}
+use Rattle.hippo_engine.specs.Changing.{Changes, changed}
+use Rattle.hippo_engine.specs.Performing.{SaysRefusal}
+use Rattle.hippo_judging.specs.Findings.{Adds, IsRefused, may_do_nothing}
+use Rattle.hippo_judging.specs.Checks.{Refuses, reply_room}
 use Rattle.hippo_judging.specs.Deeds.{Deed, next_entry}
 use Rattle.hippo_judging.specs.Deeds as deeds
 use Rattle.hippo_engine.specs.Effects.{Effect, only_reply, done, effect_of, carried_out, IsEffect}
-use Rattle.hippo_judging.specs.Judging.{judged, judged_change}
-use Rattle.hippo_judging.proofs.ChangeLemmas.{judged_as_change}
+use Rattle.hippo_judging.specs.Judging.{judged}
 use Rattle.hippo_engine.specs.Ledgers.{none_taken}
 use Rattle.hippo_engine.proofs.CarryingLemmas.{Holds-same, Holds-more}
 use Rattle.hippo_engine.proofs.ClockLemmas.{int_le-refl}
 use Rattle.hippo_engine.proofs.ShortLemmas.{short, refused}
 
--- what is told of a refusal: its line, or that of want of memory
-abbrev Tells : ℕ → Refusal → Txt → Type 0
-Tells session refusal reply =
-    (reply ≡ refusal_line (Some session) refusal) ⊎ (reply ≡ refusal_line (Some session) refusals.Memory)
-
 -- want of memory is told either way
-pub told_short : (reply : Txt) → Tells 0 refusals.Memory reply → reply ≡ refusal_line (Some 0) refusals.Memory
+pub told_short : (reply : Txt) → (reply ≡ refusal_line (Some 0) refusals.Memory) ⊎ (reply ≡ refusal_line (Some 0) refusals.Memory) → reply ≡ refusal_line (Some 0) refusals.Memory
 told_short reply (inl is) = is
 told_short reply (inr is) = is
 
 -- a command that is refused adds nothing
-pub quiet_refusal : (command : Command) (session : ℕ) (refusal : Refusal) (old new : Engine) → IsRefused command session refusal old
-    → new.state ≡ old.state → new.world ≡ old.world → Tells session refusal new.reply → IsQuiet command old new
-quiet_refusal command session refusal old new is state_is world_is said = record {
+pub quiet_refusal : (command : Command) (who : Option ℕ) (refusal : Refusal) (old new : Engine) → who ≡ who_commands command → IsRefused command refusal old.state old.world
+    → new.state ≡ old.state → new.world ≡ old.world → SaysRefusal who refusal new.reply → IsQuiet command old new
+quiet_refusal command who refusal old new who_is is state_is world_is says = record {
   same = state_is;
   effect = λ history stands.
       subst (λ (w : World). IsEffect history (world_of old.world) command (only_reply w new.reply)) (ap world_of (sym world_is))
-      (replied history (is.refused history stands) said);
+      (by_memory (may_do_nothing command) refl history stands);
   audits = record { jobs = ap (λ (held : HeldWorld). held.jobs) world_is; watches = ap (λ (held : HeldWorld). held.watches) world_is };
 }
   where
-    as_said : (history : History) (other : Refusal) → new.reply ≡ refusal_line (Some session) other
+    as_said : (history : History) (other : Refusal) → new.reply ≡ refusal_line who other
         → IsEffect history (world_of old.world) command (only_reply (world_of old.world) (refusal_line (who_commands command) other))
         → IsEffect history (world_of old.world) command (only_reply (world_of old.world) new.reply)
     as_said history other told effect =
         subst (λ (reply : Txt). IsEffect history (world_of old.world) command (only_reply (world_of old.world) reply))
-        (ap (λ (who : Option ℕ). refusal_line who other) is.who ∙ sym told) effect
+        (ap (λ (one : Option ℕ). refusal_line one other) (sym who_is) ∙ sym told) effect
 
-    replied : (history : History) → Refuses (judged history (world_of old.world) command) refusal → Tells session refusal new.reply
+    replied : (history : History) → may_do_nothing command ≡ true → Refuses (judged history (world_of old.world) command) refusal
+        → (new.reply ≡ refusal_line who refusal) ⊎ (new.reply ≡ refusal_line who refusals.Memory)
         → IsEffect history (world_of old.world) command (only_reply (world_of old.world) new.reply)
-    replied history (inl so) (inl told) = as_said history refusal told (refused history (world_of old.world) command refusal so)
-    replied history (inr memory) (inl told) =
-        as_said history refusals.Memory (told ∙ ap (refusal_line (Some session)) memory)
-        (short history (world_of old.world) command is.memory)
-    replied history why (inr told) = as_said history refusals.Memory told (short history (world_of old.world) command is.memory)
+    replied history takes (inl so) (inl told) = as_said history refusal told (refused history (world_of old.world) command refusal so)
+    replied history takes (inr memory) (inl told) =
+        as_said history refusals.Memory (told ∙ ap (refusal_line who) memory)
+        (short history (world_of old.world) command takes)
+    replied history takes why (inr told) = as_said history refusals.Memory told (short history (world_of old.world) command takes)
 
--- a change that is refused
-refused_change : (session : ℕ) (statement : Stmt) (text : Txt) (refusal : Refusal) (engine : Engine) → changes_something statement ≡ true
-    → ((history : History) → StandsFor engine.state history
-    → Refuses (judged_change history (world_of engine.world) session statement) refusal)
-    → IsRefused (state session statement text) session refusal engine
-refused_change session statement text refusal engine changes refuses = record {
-  who = refl;
-  memory = refl;
-  refused = λ history stands.
-      rw (judged_as_change history (world_of engine.world) session statement text changes) (refuses history stands);
-}
+    by_memory : (takes : Bool) → may_do_nothing command ≡ takes → (history : History) → StandsFor old.state history
+        → IsEffect history (world_of old.world) command (only_reply (world_of old.world) new.reply)
+    by_memory true takes history stands = replied history takes (is.refuses history stands) says.0
+    by_memory false none history stands =
+        as_said history refusal (says.1 (subst (λ (one : Option ℕ). length (refusal_line one refusal) ≤ reply_room) (sym who_is) (is.short none)))
+        (refused history (world_of old.world) command refusal (is.exact none history stands))
 
 -- what is done for a change that adds the next entry
 next_is : (history : History) (world : World) (entry : Entry) → entry ≡ next_entry history world entry.act
@@ -95,38 +85,19 @@ next_is : (history : History) (world : World) (entry : Entry) → entry ≡ next
 next_is history world entry is = sym (ap (changed world) is)
 
 -- a command that is judged as a change adds its entry
-pub adds_change : (history : History) (world : World) (command : Command) (entry : Entry)
+adds_change : (history : History) (world : World) (command : Command) (entry : Entry)
     → IsChange history world (judged history world command) entry → effect_of history world command ≡ changed world entry
 adds_change history world command entry change =
     ap (carried_out history world (who_commands command)) change.judged_so ∙ next_is history world entry change.next
 
--- a change that adds an entry
-found_change : (session : ℕ) (statement : Stmt) (text : Txt) (entry : Entry) (engine : Engine) → changes_something statement ≡ true
-    → session ≡ 0
-    → ((history : History) → StandsFor engine.state history
-    → IsChange history (world_of engine.world) (judged_change history (world_of engine.world) session statement) entry)
-    → Changes (state session statement text) entry engine
-found_change session statement text entry engine changes console found = record {
-  who = ap Some console;
-  memory = refl;
-  adds = λ history stands.
-      adds_change history (world_of engine.world) (state session statement text) entry
-      (subst (λ (judgement : Checked Deed). IsChange history (world_of engine.world) judgement entry)
-      (sym (judged_as_change history (world_of engine.world) session statement text changes)) (found history stands));
-  next = λ history stands. (found history stands).next;
-}
-
 -- what the checks of a change found
-pub change_found : (session : ℕ) (statement : Stmt) (text : Txt) (engine : Engine) → changes_something statement ≡ true
-    → (found : Result Entry Refusal)
-    → ((history : History) → StandsFor engine.state history
-    → FindsChange history (world_of engine.world) (judged_change history (world_of engine.world) session statement) found)
-    → OnOk found (session ≡ 0)
-    → MatchResult found (λ entry. Changes (state session statement text) entry engine) (λ refusal. IsRefused (state session statement text) session refusal engine)
-change_found session statement text engine changes (Ok entry) finds console =
-    found_change session statement text entry engine changes console finds
-change_found session statement text engine changes (Err refusal) finds console =
-    refused_change session statement text refusal engine changes finds
+pub changes_by : (command : Command) (entry : Entry) (engine : Engine) → Adds command entry engine.state engine.world → Changes command entry engine
+changes_by command entry engine is = record {
+  who = is.console;
+  memory = is.memory;
+  adds = λ history stands. adds_change history (world_of engine.world) command entry (is.does history stands);
+  next = λ history stands. (is.does history stands).next;
+}
 
 module _ (command : Command) (entry : Entry) (old new : Engine) (before after : KeeperState) (steps : ℕ) (changes : Changes command entry old) (at_work : AtWork old before) where
   -- an entry that was added has the clock's moment

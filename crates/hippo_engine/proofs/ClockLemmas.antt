@@ -17,7 +17,7 @@ use Rattle.hippo_judging.specs.Deeds.{Deed}
 use Rattle.hippo_judging.specs.Deeds as deeds
 use Rattle.hippo_judging.specs.Judging.{judged}
 use Rattle.hippo_engine.specs.Effects.{Effect, row_limit, question_rows, done, carried_out, effect_of, IsShort, IsEffect}
-use Rattle.hippo_engine.proofs.ShortLemmas.{is_plain, IsPlain, plain}
+use Rattle.hippo_engine.proofs.ShortLemmas.{IsPlain, plain}
 
 pub int_le-refl : (moment : ℤ) → int_le moment moment ≡ true
 int_le-refl moment = grind (arith, ints)

@@ -1,7 +1,6 @@
 -- From reading an entry and its denied cells to what EXPLAIN does.
-use Rattle.std.proofs.Common.{◌≡◌, ◌≢◌, ◌∙◌, ◌⊎◌, ◌≤◌, ◌<◌, ◌+◌, ℕ, ℤ, pos, refl, sym, ap, subst, inl, inr, arith, Bool, true, false, List, [], length, Option, Some, None, Result, Ok, Err}
-use Rattle.std.specs.Prelude.{◌-◌, if◌then◌else◌, nat_lt, ok_or, OnOk}
-use Rattle.std.specs.Bool.{then_some}
+use Rattle.std.proofs.Common.{◌≡◌, ◌≢◌, ◌∙◌, ◌⊎◌, ◌≤◌, ◌<◌, ℕ, ℤ, refl, sym, ap, subst, inl, inr, arith, Bool, true, false, List, [], length, Option, Some, None, Result, Ok, Err}
+use Rattle.std.specs.Prelude.{if◌then◌else◌, nat_lt, ok_or, OnOk}
 use Rattle.std.proofs.lemmas.Bool.{false≢true}
 use Rattle.std.proofs.lemmas.Bool.Decides.{nat_tests}
 use Rattle.hippo_values.specs.Texts.{Txt}
@@ -9,21 +8,18 @@ use Rattle.hippo_model.specs.declared.entry.Entry.{Entry}
 use Rattle.hippo_model.specs.declared.statement.Stmt.TheVariants as stmt
 use Rattle.hippo_model.specs.Denials.{Denial, denials}
 use Rattle.hippo_model.specs.Terms.{History}
-use Rattle.hippo_model.specs.Versions.{versions}
-use Rattle.hippo_laws.proofs.ValidFronts.{entry_has_its_number}
 use Rattle.hippo_keeper.specs.Answering.{has_failed}
-use Rattle.hippo_keeper.specs.Keeping.{KeeperState, IsReady}
+use Rattle.hippo_keeper.specs.Keeping.{KeeperState}
 use Rattle.hippo_typing.specs.Meanings.{meaning}
 use Rattle.hippo_backlog.specs.Calls as reads
 use Rattle.hippo_backlog.specs.declared.faults.ReadFault.{ReadFault}
 use Rattle.hippo_backlog.specs.declared.faults.ReadFault.TheVariants.{Keeper, Damaged, Memory}
-use Rattle.hippo_keeper.proofs.CallLemmas.{KeepsSame-here, KeepsSame-then, IsAfterCall-then, IsAfterCall-as, IsAfterCall-none}
+use Rattle.hippo_keeper.proofs.CallLemmas.{KeepsSame-then, IsAfterCall-then, IsAfterCall-as}
 use Rattle.hippo_denials.specs.declared.faults.DenialsFault.{DenialsFault}
 use Rattle.hippo_denials.specs.declared.faults.DenialsFault.TheVariants.{Read, TooMany}
 use Rattle.hippo_denials.specs.Denying.{IsAnswer, Denies}
 use Rattle.hippo_denials.specs.Denying as listing
 use Rattle.hippo_replay.specs.declared.state.State.{State}
-use Rattle.hippo_replay.specs.Standing.{StandsFor}
 use Rattle.hippo_report.specs.declared.refusal.Refusal.{Refusal}
 use Rattle.hippo_report.specs.declared.refusal.Refusal.TheVariants as refusals
 use Rattle.hippo_report.specs.Refusals.{refusal_line}
@@ -32,28 +28,25 @@ use Rattle.hippo_world.specs.Worlds.{World}
 use Rattle.hippo_world.specs.Holding.{world_of, JobsFit, taken_of, WatchesFit}
 use Rattle.hippo_commands.specs.Commands.{Command, state}
 use Rattle.hippo_engine.specs.declared.engine.Engine.{Engine}
-use Rattle.hippo_engine.specs.declared.explaining.ExplainFault.TheVariants.{NoQuestion, Denials}
 use Rattle.hippo_engine.specs.declared.faults.EngineFault.{EngineFault}
 use Rattle.hippo_engine.specs.declared.faults.EngineFault.TheVariants as engine
-use Rattle.hippo_judging.specs.Checks.{Checked, ◌>>=◌, by_console, is_question, question_at}
+use Rattle.hippo_judging.specs.Checks.{Checked, ◌>>=◌, question_at}
 use Rattle.hippo_judging.specs.Deeds.{Deed}
 use Rattle.hippo_judging.specs.Deeds as deeds
-use Rattle.hippo_engine.specs.Changing.{IsRefused}
+use Rattle.hippo_judging.specs.Findings.{HasFound, LooksUp, LooksUpFor}
 use Rattle.hippo_engine.specs.Effects.{Effect, row_limit, only_reply, carried_out, effect_of, explained, listed, denial_line, IsEffect}
 use Rattle.hippo_judging.specs.Judging.{judged}
 use Rattle.hippo_engine.specs.Ledgers.{at_once}
 use Rattle.hippo_engine.specs.Carrying.{AtWork, as_call, is_carried, Carries}
-use Rattle.hippo_judging.specs.Entries.{number_in, HasRead, ReadsEntry}
-use Rattle.hippo_judging.proofs.EntryLemmas.{err_of, IsNumber, question_is, no_question}
-use Rattle.hippo_engine.specs.Explaining.{Explained, AreDenied, IsFound, ExplainsEntry, Explains, explained_line, ended, TellsCells}
+use Rattle.hippo_judging.proofs.EntryLemmas.{err_of}
+use Rattle.hippo_engine.specs.Explaining.{Explained as Explanation, AreDenied, IsFound, Explains, explained_line, told_of, told_cells, ended, TellsCells}
+use Rattle.hippo_engine.specs.Performing.{Explained}
 use Rattle.hippo_engine.specs.Explaining as explaining
 use Rattle.hippo_engine.proofs.LookingLemmas.{Carries-looked}
 use Rattle.hippo_engine.proofs.ShortLemmas.{short, refused, done_for}
 
--- what is told of the denied cells of a question
-abbrev pub told_of : Result (List Denial) DenialsFault → Explained
-told_of (Ok cells) = Ok cells
-told_of (Err fault) = Err (Denials fault)
+abbrev looked_up : Option Entry → Result (Option Entry) ReadFault
+looked_up entry = Ok entry
 
 told_same : (result : Result (List Denial) DenialsFault) → has_failed (explaining.as_call (told_of result)) ≡ has_failed (listing.as_call result)
 told_same (Ok cells) = refl
@@ -69,98 +62,64 @@ found_of history number entry (Err (Read Keeper)) asked answer = tt
 found_of history number entry (Err (Read (Damaged other))) asked answer = answer
 found_of history number entry (Err (Read Memory)) asked answer = tt
 
--- the denied cells of a question were asked for
-pub question_explains : (entry : Entry) (held : State) (result : Result (List Denial) DenialsFault) (before after : KeeperState) (steps steps' : ℕ) → is_question entry.act ≡ true
-    → Denies row_limit entry held.catalog.names held.book result before after steps steps' → ExplainsEntry entry held (told_of result) before after steps steps'
-question_explains entry held result before after steps steps' asks denies = record {
-  call = IsAfterCall-as true false (listing.as_call result) (explaining.as_call (told_of result)) before after (told_same result) denies.call;
-  stays = denies.stays;
-  idle = λ other. absurd (false≢true (sym other ∙ asks));
-  told = λ tells history forms stands place is.
-      let answered = denies.told tells history (record { forms = forms; valid = stands.valid }) stands.names stands.book (record { valid = stands.valid; place = place; stands = is }) in
-      let asked : question_at history (pos entry.seq) ≡ Some entry = question_is history stands.valid place entry is ∙ ap (λ (b : Bool). then_some b entry) asks in
-      record { found = found_of history (pos entry.seq) entry result asked answered.answer; few = answered.few };
-}
+-- what is told does not hang on the number
+told_line : (number : ℤ) (result : Result (List Denial) DenialsFault) → explained_line number (told_of result) ≡ told_cells result
+told_line number (Ok cells) = refl
+told_line number (Err TooMany) = refl
+told_line number (Err (Read fault)) = refl
 
--- an entry that is no question
-pub other_explains : (entry : Entry) (held : State) (keeper : KeeperState) (steps : ℕ) → IsReady true keeper → is_question entry.act ≡ false → ExplainsEntry entry held (Err NoQuestion) keeper keeper steps steps
-other_explains entry held keeper steps ready other = record {
-  call = IsAfterCall-none (explaining.as_call (Err NoQuestion)) keeper refl ready;
-  stays = λ tells. KeepsSame-here keeper;
-  idle = λ other. refl;
-  told = λ tells history forms stands place is. record {
-    found = question_is history stands.valid place entry is ∙ ap (λ (b : Bool). then_some b entry) other;
-    few = omega arith;
-  };
-}
-
--- no entry has the number
-pub none_explains : (number : ℤ) (held : State) (keeper : KeeperState) (steps : ℕ) → IsReady true keeper → number_in number held.count ≡ None → Explains number held (Err NoQuestion) keeper keeper steps steps
-none_explains number held keeper steps ready none = record {
-  call = IsAfterCall-none (explaining.as_call (Err NoQuestion)) keeper refl ready;
-  stays = λ tells. KeepsSame-here keeper;
-  told = λ tells history forms stands. record {
-    found = no_question history number stands.valid (ap (number_in number) (sym stands.count) ∙ none);
-    few = omega arith;
-  };
-}
-
-module _ (number : ℤ) (held : State) (place : ℕ) (in_range : IsNumber number held.count place) (before between : KeeperState) (steps steps' : ℕ) where
-  at_most : (history : History) → StandsFor held history → place ≤ length history
-  at_most history stands = omega (arith, in_range.to, stands.count)
-
-  -- its entry was read, and its denied cells were asked for
-  pub entry_explains : (entry : Entry) (result : Explained) (after : KeeperState) (steps'' : ℕ) → ReadsEntry place (Ok entry) before between steps steps' → ExplainsEntry entry held result between after steps' steps''
-      → Explains number held result before after steps steps''
-  entry_explains entry result after steps'' read explains = record {
-    call = IsAfterCall-then false (reads.as_call {A = Entry} (Ok entry)) (explaining.as_call result) before between after refl read.call explains.call;
-    stays = λ tells. KeepsSame-then before between after (read.stays (explains.call.told tells)) (explains.stays tells);
+module _ (number : ℤ) (held : State) (before between : KeeperState) (steps steps' : ℕ) where
+  -- the question was looked up, and its denied cells were asked for
+  pub question_explains : (entry : Entry) (result : Result (List Denial) DenialsFault) (after : KeeperState) (steps'' : ℕ) → LooksUp number (Ok (Some entry)) held before between steps steps'
+      → Denies row_limit entry held.catalog.names held.book result between after steps' steps'' → Explains number held (told_of result) before after steps steps''
+  question_explains entry result after steps'' looks denies = record {
+    call = IsAfterCall-then false (reads.as_call (looked_up (Some entry))) (explaining.as_call (told_of result)) before between after refl looks.call
+        (IsAfterCall-as true false (listing.as_call result) (explaining.as_call (told_of result)) between after (told_same result) denies.call);
+    stays = λ tells. KeepsSame-then before between after (looks.stays (denies.call.told tells)) (denies.stays tells);
     told = λ tells history forms stands.
-        let earlier = explains.call.told tells in
-        let was : HasRead history place (Ok entry) steps steps' = read.told earlier held history forms stands (at_most history stands) in
-        let done = explains.told tells history (forms ∙ sym (read.stays earlier).same) stands (place - 1) was.entry_is in
-        let numbered : pos entry.seq ≡ number = ap pos (entry_has_its_number meaning history stands.valid (place - 1) entry was.entry_is ∙ back in_range.from) ∙ sym in_range.same in
-        record {
-          found = subst (λ (n : ℤ). IsFound history n result) numbered done.found;
-          few = by (is_question entry.act) refl was done.few;
-        };
+        let earlier = denies.call.told tells in
+        let was : HasFound history number (Ok (Some entry)) steps steps' = looks.told earlier history forms stands in
+        let answered = denies.told tells history (record { forms = forms ∙ sym (looks.stays earlier).same; valid = stands.valid }) stands.names stands.book
+        (record { valid = stands.valid; place = was.there.0; stands = was.there.1 }) in
+        record { found = found_of history number entry result was.is answered.answer; few = omega (arith, answered.few, was.idle) };
   }
-    where
-      back : {n : ℕ} → 1 ≤ n → (n - 1) + 1 ≡ n
-      back {n} from = omega (arith, from)
 
-      by : {history : History} (asks : Bool) → is_question entry.act ≡ asks → HasRead history place (Ok entry) steps steps' → steps'' ≤ steps' + versions history → steps'' ≤ steps + versions history
-      by true asks was few = omega (arith, was.idle asks, few)
-      by false other was few = omega (arith, explains.idle other, was.few)
+  -- there is none with the number
+  pub none_explains : LooksUp number (Ok None) held before between steps steps' → Explains number held (Err None) before between steps steps'
+  none_explains looks = record {
+    call = looks.call;
+    stays = looks.stays;
+    told = λ tells history forms stands. let was = looks.told tells history forms stands in record { found = was.is; few = was.few };
+  }
 
-  -- it was not read
-  pub unread_explains : (fault : ReadFault) → ReadsEntry place (Err fault) before between steps steps' → Explains number held (Err (Denials (Read fault))) before between steps steps'
-  unread_explains fault read = record {
-    call = IsAfterCall-as true false (reads.as_call (err_of Entry fault)) (explaining.as_call (Err (Denials (Read fault)))) before between (same_call fault) read.call;
-    stays = read.stays;
+  -- it was not looked up
+  pub unread_explains : (fault : ReadFault) → LooksUp number (Err fault) held before between steps steps' → Explains number held (Err (Some (Read fault))) before between steps steps'
+  unread_explains fault looks = record {
+    call = IsAfterCall-as true false (reads.as_call (err_of (Option Entry) fault)) (explaining.as_call (Err (Some (Read fault)))) before between (same_call fault) looks.call;
+    stays = looks.stays;
     told = λ tells history forms stands.
-        let was = read.told tells held history forms stands (at_most history stands) in
+        let was = looks.told tells history forms stands in
         record { found = unfound history fault was.undamaged; few = was.few };
   }
     where
-      same_call : (fault : ReadFault) → has_failed (explaining.as_call (Err (Denials (Read fault)))) ≡ has_failed (reads.as_call (err_of Entry fault))
+      same_call : (fault : ReadFault) → has_failed (explaining.as_call (Err (Some (Read fault)))) ≡ has_failed (reads.as_call (err_of (Option Entry) fault))
       same_call Keeper = refl
       same_call (Damaged number) = refl
       same_call Memory = refl
 
-      unfound : (history : History) (fault : ReadFault) → ((other : ℕ) → err_of Entry fault ≡ Err (Damaged other) → ⊥) → IsFound history number (Err (Denials (Read fault)))
+      unfound : (history : History) (fault : ReadFault) → ((other : ℕ) → err_of (Option Entry) fault ≡ Err (Damaged other) → ⊥) → IsFound history number (Err (Some (Read fault)))
       unfound history Keeper undamaged = tt
       unfound history (Damaged other) undamaged = undamaged other refl
       unfound history Memory undamaged = tt
 
 -- how the line ends is how its keeper's calls did
-ended_same : (found : Explained) → has_failed (as_call (ended found)) ≡ has_failed (explaining.as_call found)
+ended_same : (found : Explanation) → has_failed (as_call (ended found)) ≡ has_failed (explaining.as_call found)
 ended_same (Ok cells) = refl
-ended_same (Err NoQuestion) = refl
-ended_same (Err (Denials TooMany)) = refl
-ended_same (Err (Denials (Read Keeper))) = refl
-ended_same (Err (Denials (Read (Damaged number)))) = refl
-ended_same (Err (Denials (Read Memory))) = refl
+ended_same (Err None) = refl
+ended_same (Err (Some TooMany)) = refl
+ended_same (Err (Some (Read Keeper))) = refl
+ended_same (Err (Some (Read (Damaged number)))) = refl
+ended_same (Err (Some (Read Memory))) = refl
 
 module _ (history : History) (world : World) (text : Txt) (number : ℤ) where
   abbrev command : Command
@@ -179,7 +138,7 @@ module _ (history : History) (world : World) (text : Txt) (number : ℤ) where
   denied_effect denied = done_for history world command (deeds.explain denied.entry) (judged_is (Some denied.entry) denied.asked)
 
   -- what was found has its effect
-  effect_found : (found : Explained) (reply : Txt) → IsFound history number found → is_carried (ended found) ≡ true → reply ≡ explained_line number found → IsEffect history world command (only_reply world reply)
+  effect_found : (found : Explanation) (reply : Txt) → IsFound history number found → is_carried (ended found) ≡ true → reply ≡ explained_line number found → IsEffect history world command (only_reply world reply)
   effect_found (Ok cells) reply is fine said =
       let few : nat_lt row_limit (length (denials meaning history is.entry)) ≡ false = not_more row_limit (length (denials meaning history is.entry)) is.cells.1 in
       let line : (explained history world is.entry).reply ≡ listed 0 denial_line (denials meaning history is.entry) = ap (λ (b : Bool). if b then refusal_line (Some 0) refusals.TooManyRows else listed 0 denial_line (denials meaning history is.entry)) few in
@@ -187,27 +146,27 @@ module _ (history : History) (world : World) (text : Txt) (number : ℤ) where
     where
       not_more : (limit count : ℕ) → count ≤ limit → nat_lt limit count ≡ false
       not_more limit count few = grind (arith, nat_tests)
-  effect_found (Err NoQuestion) reply is fine said =
+  effect_found (Err None) reply is fine said =
       subst (λ (r : Txt). IsEffect history world command (only_reply world r)) (sym said) (refused history world command (refusals.NoSuchQuery number) (judged_is None is))
-  effect_found (Err (Denials TooMany)) reply is fine said =
+  effect_found (Err (Some TooMany)) reply is fine said =
       let many : nat_lt row_limit (length (denials meaning history is.entry)) ≡ true = more row_limit (length (denials meaning history is.entry)) is.cells in
       let line : (explained history world is.entry).reply ≡ refusal_line (Some 0) refusals.TooManyRows = ap (λ (b : Bool). if b then refusal_line (Some 0) refusals.TooManyRows else listed 0 denial_line (denials meaning history is.entry)) many in
       inl (ap (only_reply world) (said ∙ sym line) ∙ sym (denied_effect (record { entry = is.entry; asked = is.asked; cells = tt })))
     where
       more : (limit count : ℕ) → limit < count → nat_lt limit count ≡ true
       more limit count many = grind (arith, nat_tests)
-  effect_found (Err (Denials (Read Keeper))) reply is fine said = absurd (false≢true fine)
-  effect_found (Err (Denials (Read (Damaged other)))) reply is fine said = absurd (false≢true fine)
-  effect_found (Err (Denials (Read Memory))) reply is fine said =
+  effect_found (Err (Some (Read Keeper))) reply is fine said = absurd (false≢true fine)
+  effect_found (Err (Some (Read (Damaged other)))) reply is fine said = absurd (false≢true fine)
+  effect_found (Err (Some (Read Memory))) reply is fine said =
       subst (λ (r : Txt). IsEffect history world command (only_reply world r)) (sym said) (said_so reply)
 
-  undamaged : (found : Explained) (other : ℕ) → IsFound history number found → ended found ≡ Err (engine.Damaged other) → ⊥
+  undamaged : (found : Explanation) (other : ℕ) → IsFound history number found → ended found ≡ Err (engine.Damaged other) → ⊥
   undamaged (Ok cells) other is e = absurd cc
-  undamaged (Err NoQuestion) other is e = absurd cc
-  undamaged (Err (Denials TooMany)) other is e = absurd cc
-  undamaged (Err (Denials (Read Keeper))) other is e = absurd cc
-  undamaged (Err (Denials (Read (Damaged place)))) other is e = is
-  undamaged (Err (Denials (Read Memory))) other is e = absurd cc
+  undamaged (Err None) other is e = absurd cc
+  undamaged (Err (Some TooMany)) other is e = absurd cc
+  undamaged (Err (Some (Read Keeper))) other is e = absurd cc
+  undamaged (Err (Some (Read (Damaged place)))) other is e = is
+  undamaged (Err (Some (Read Memory))) other is e = absurd cc
 
   -- it adds nothing, and no refusal but that no question has the number
   adds_none : (effect_of history world command).added ≡ []
@@ -227,15 +186,15 @@ module _ (history : History) (world : World) (text : Txt) (number : ℤ) where
       by None at = others number (sym (same (refusals.NoSuchQuery number) refusal (sym (judged_is None at) ∙ is)))
       by (Some entry) at = let both : ◌≡◌ {A = Checked Deed} (Ok (deeds.explain entry)) (Err refusal) = sym (judged_is (Some entry) at) ∙ is in absurd cc
 
-carried_said : (found : Explained) (said : Type 0) → is_carried (ended found) ≡ true → OnOk (ended found) said → said
+carried_said : (found : Explanation) (said : Type 0) → is_carried (ended found) ≡ true → OnOk (ended found) said → said
 carried_said (Ok cells) said fine is = is
-carried_said (Err NoQuestion) said fine is = is
-carried_said (Err (Denials TooMany)) said fine is = is
-carried_said (Err (Denials (Read Keeper))) said fine is = absurd (false≢true fine)
-carried_said (Err (Denials (Read (Damaged number)))) said fine is = absurd (false≢true fine)
-carried_said (Err (Denials (Read Memory))) said fine is = is
+carried_said (Err None) said fine is = is
+carried_said (Err (Some TooMany)) said fine is = is
+carried_said (Err (Some (Read Keeper))) said fine is = absurd (false≢true fine)
+carried_said (Err (Some (Read (Damaged number)))) said fine is = absurd (false≢true fine)
+carried_said (Err (Some (Read Memory))) said fine is = is
 
-abbrev IsSaid : ℤ → Explained → Txt → Type 0
+abbrev IsSaid : ℤ → Explanation → Txt → Type 0
 IsSaid number found reply = (reply ≡ explained_line number found) ⊎ (reply ≡ refusal_line (Some 0) refusals.Memory)
 
 -- EXPLAIN at the console
@@ -270,10 +229,36 @@ Carries-explained text number session result old new before after steps steps' c
     either history world is fine (inr said) =
         subst (λ (r : Txt). IsEffect history world (state 0 (stmt.Explain number) text) (only_reply world r)) (sym said) (said_so history world text number new.reply)
 
--- a session's EXPLAIN is refused
-pub refused_explain : (text : Txt) (number : ℤ) (session : ℕ) (refusal : Refusal) (engine : Engine) → by_console session ≡ Err refusal → IsRefused (state session (stmt.Explain number) text) session refusal engine
-refused_explain text number session refusal engine is = record {
-  who = refl;
-  memory = refl;
-  refused = λ history stands. inl (ap (λ (console : Checked (Unit {0})). console >>= λ passed. ok_or (question_at history number) (refusals.NoSuchQuery number) >>= λ entry. Ok (deeds.explain entry)) is);
-}
+-- it was looked up, and told of
+pub Carries-told : (asked : Command) (number : ℤ) (entry : Entry) (result : Result (Unit {0}) EngineFault) (old new : Engine) (before between after : KeeperState) (start steps steps' : ℕ) → AtWork old before
+    → LooksUpFor asked number (Ok (Some entry)) old.state before between start steps → Explained entry result old new between after steps steps' → Carries asked result old new before after start steps'
+Carries-told asked number entry result old new before between after start steps steps' at_work looks told =
+    subst (λ (c : Command). Carries c result old new before after start steps') (sym looks.is)
+    (Carries-explained looks.text number 0 result old new before after start steps' refl at_work told.state told.world (record {
+      found = told_of told.tells.found;
+      explains = question_explains number old.state before between start steps entry told.tells.found after steps' looks.looks told.tells.denies;
+      ended_so = told.tells.ended_so;
+      said = subst (λ (line : Txt). OnOk result ((new.reply ≡ line) ⊎ (new.reply ≡ refusal_line (Some 0) refusals.Memory))) (sym (told_line number told.tells.found)) told.tells.said;
+    }))
+
+-- none has the number
+pub Carries-unasked : (asked : Command) (number : ℤ) (old new : Engine) (before after : KeeperState) (steps steps' : ℕ) → AtWork old before
+    → LooksUpFor asked number (Ok None) old.state before after steps steps' → new.state ≡ old.state → new.world ≡ old.world
+    → (new.reply ≡ refusal_line (Some 0) (refusals.NoSuchQuery number)) ⊎ (new.reply ≡ refusal_line (Some 0) refusals.Memory) → Carries {A = Unit {0}} asked (Ok tt) old new before after steps steps'
+Carries-unasked asked number old new before after steps steps' at_work looks same_state same_world said =
+    subst (λ (c : Command). Carries {A = Unit {0}} c (Ok tt) old new before after steps steps') (sym looks.is)
+    (Carries-explained looks.text number 0 (Ok tt) old new before after steps steps' refl at_work same_state same_world
+    (record { found = Err None; explains = none_explains number old.state before after steps steps' looks.looks; ended_so = refl; said = said }))
+
+-- it was not read
+pub Carries-unread : (asked : Command) (number : ℤ) (fault : ReadFault) (result : Result (Unit {0}) EngineFault) (old new : Engine) (before after : KeeperState) (steps steps' : ℕ) → AtWork old before
+    → LooksUpFor asked number (Err fault) old.state before after steps steps' → new.state ≡ old.state → new.world ≡ old.world
+    → result ≡ ended (Err (Some (Read fault))) → OnOk result (new.reply ≡ refusal_line (Some 0) refusals.Memory) → Carries asked result old new before after steps steps'
+Carries-unread asked number fault result old new before after steps steps' at_work looks same_state same_world ends said =
+    subst (λ (c : Command). Carries c result old new before after steps steps') (sym looks.is)
+    (Carries-explained looks.text number 0 result old new before after steps steps' refl at_work same_state same_world
+    (record { found = Err (Some (Read fault)); explains = unread_explains number old.state before after steps steps' fault looks.looks; ended_so = ends; said = on_ok result said }))
+  where
+    on_ok : (r : Result (Unit {0}) EngineFault) → OnOk r (new.reply ≡ refusal_line (Some 0) refusals.Memory) → OnOk r ((new.reply ≡ explained_line number (Err (Some (Read fault)))) ⊎ (new.reply ≡ refusal_line (Some 0) refusals.Memory))
+    on_ok (Ok done) is = inr is
+    on_ok (Err other) is = tt

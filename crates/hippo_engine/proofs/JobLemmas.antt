@@ -1,29 +1,25 @@
 -- From what is done to the audit jobs that a run holds to what the lines do that begin, step and drop them.
-use Rattle.std.proofs.Common.{◌≡◌, ◌∙◌, ◌⊎◌, ◌+◌, ◌<◌, ◌≤◌, ℕ, refl, sym, ap, subst, inl, inr, arith, Bool, true, false, List, [], ◌∷◌, ◌++◌, map, length, Option, Some, None, Result, Ok, Err}
-use Rattle.std.specs.Prelude.{◌==◌, not, nat_lt, codes, flat_map, if◌then◌else◌, ok_or, option_map, OnOk}
+use Rattle.std.proofs.Common.{◌≡◌, ◌∙◌, ◌⊎◌, ◌≤◌, ℕ, refl, sym, ap, subst, inl, inr, arith, Bool, true, false, List, [], ◌∷◌, ◌++◌, length, Option, Some, None, Result, Ok, Err}
+use Rattle.std.specs.Prelude.{◌==◌, nat_lt, codes, flat_map, if◌then◌else◌, ok_or, option_map, OnOk}
 use Rattle.std.proofs.lemmas.Bool.{false≢true}
 use Rattle.hippo_values.specs.Texts.{Txt}
 use Rattle.hippo_model.specs.declared.audit.Audit.{Audit}
-use Rattle.hippo_model.specs.declared.audit.Flag.{Flag}
-use Rattle.hippo_model.specs.declared.statement.RawAudit.{RawAudit}
-use Rattle.hippo_model.specs.declared.statement.Stmt.TheVariants as stmt
 use Rattle.hippo_model.specs.Audits.{flags_between}
 use Rattle.hippo_model.specs.Terms.{History}
 use Rattle.hippo_model.specs.Versions.{versions}
 use Rattle.hippo_keeper.specs.Keeping.{KeeperState}
 use Rattle.hippo_typing.specs.Meanings.{meaning}
 use Rattle.hippo_lines.specs.Forms as requests
-use Rattle.hippo_commands.specs.Commands.{Command, ask, state, who_commands}
+use Rattle.hippo_commands.specs.Commands.{Command, ask}
 use Rattle.hippo_backlog.specs.Calls as reads
 use Rattle.hippo_backlog.specs.declared.faults.ReadFault.{ReadFault}
 use Rattle.hippo_backlog.specs.declared.faults.ReadFault.TheVariants as faults
 use Rattle.hippo_keeper.proofs.CallLemmas.{IsAfterCall-as}
 use Rattle.hippo_audit_job.specs.declared.past.Past.{Past}
 use Rattle.hippo_audit_job.specs.Examining.{IsPastOf, IsAuditOf}
-use Rattle.hippo_audit_job.specs.Jobs.{OpenAudit, open_audit, step_end, JobFits, LooksOver, HasStepped}
+use Rattle.hippo_audit_job.specs.Jobs.{OpenAudit, open_audit, step_end, LooksOver, HasStepped}
 use Rattle.hippo_audit_job.proofs.JobLemmas.{taken_within}
 use Rattle.hippo_combine.specs.Combining.{combine_terms}
-use Rattle.hippo_replay.specs.declared.state.State.{State}
 use Rattle.hippo_replay.specs.Standing.{StandsFor}
 use Rattle.hippo_report.specs.declared.format.Format.{Format}
 use Rattle.hippo_report.specs.declared.refusal.Refusal.{Refusal}
@@ -33,47 +29,27 @@ use Rattle.hippo_report.specs.Notices.{done_line, number_line}
 use Rattle.hippo_report.specs.Refusals.{refusal_line}
 use Rattle.hippo_world.specs.declared.worlds.World.{World as HeldWorld}
 use Rattle.hippo_world.specs.Auditing.{HeldJob, taken_by, HasBegun, LooksAt, AreLooking, all_handed}
-use Rattle.hippo_world.specs.Holding.{world_of, JobsFit, taken_of, WatchesFit}
+use Rattle.hippo_world.specs.Holding.{world_of, WatchesFit}
 use Rattle.hippo_world.specs.Worlds.{World, at_number, with_at, free_number}
-use Rattle.hippo_world.proofs.NumberLemmas.{put_back, put_again}
-use Rattle.hippo_world.proofs.HeldLemmas.{seen-at, seen-with, seen-free, StandsAt, held_stands, free_stands}
+use Rattle.hippo_world.proofs.NumberLemmas.{put_back}
+use Rattle.hippo_world.proofs.HeldLemmas.{seen-at, seen-with, StandsAt, held_stands, free_stands}
 use Rattle.hippo_world.proofs.AuditLemmas.{all_with, one_has, handed-parted, handed-with, LooksAt-begun, LooksAt-written, none_taken_yet}
 use Rattle.hippo_engine.specs.declared.engine.Engine.{Engine}
 use Rattle.hippo_engine.specs.declared.faults.EngineFault.{EngineFault}
-use Rattle.hippo_engine.specs.declared.faults.EngineFault.TheVariants as engine
 use Rattle.hippo_engine.specs.Auditing.{ended}
-use Rattle.hippo_judging.specs.Checks.{reply_room, Checked, Finds, ◌>>=◌, by_console}
-use Rattle.hippo_engine.specs.Carrying.{AtWork, as_call, is_carried, shown, IsQuiet, AddsNothing, Carries}
-use Rattle.hippo_engine.specs.Changing.{IsRefused}
+use Rattle.hippo_judging.specs.Checks.{Checked, ◌>>=◌}
+use Rattle.hippo_engine.specs.Carrying.{AtWork, as_call, is_carried, shown, AddsNothing, Carries}
 use Rattle.hippo_judging.specs.Deeds.{Deed}
 use Rattle.hippo_judging.specs.Deeds as deeds
-use Rattle.hippo_engine.specs.Effects.{Effect, only_reply, carried_out, effect_of, stepped, step_flags, step_line, looked_upto, with_job, new_job, IsShort, IsShortStep, IsEffect}
-use Rattle.hippo_engine.specs.Jobs.{BeginsAt, FindsNone, BeginsJob, progress_line, step_text, SaysStep, TellsStep}
-use Rattle.hippo_judging.specs.Judging.{audit_in, judged}
-use Rattle.hippo_engine.specs.Ledgers.{job_begun, job_stepped, job_dropped}
+use Rattle.hippo_engine.specs.Effects.{Effect, only_reply, effect_of, stepped, step_flags, step_line, looked_upto, with_job, new_job, IsShort, IsShortStep, IsEffect}
+use Rattle.hippo_engine.specs.Jobs.{BeginsAt, progress_line, step_text, TellsStep}
+use Rattle.hippo_judging.specs.Judging.{judged}
+use Rattle.hippo_engine.specs.Ledgers.{begins_job, job_begun, job_stepped, job_dropped}
+use Rattle.hippo_judging.specs.Findings.{IsJudged, Does}
+use Rattle.hippo_judging.specs.declared.deeds.Deed.TheVariants as kinds
 use Rattle.hippo_engine.proofs.AuditingLemmas.{ended_same, undamaged_end}
-use Rattle.hippo_engine.proofs.CarryingLemmas.{AddsNothing-quiet}
-use Rattle.hippo_judging.proofs.LengthLemmas.{console_only_fits}
 use Rattle.hippo_engine.proofs.LookingLemmas.{Carries-looked}
-use Rattle.hippo_engine.proofs.ShortLemmas.{refused, done_for}
-
--- a command that is refused, whatever history the state stands for, and whose refusal is said
-pub quiet_refused : (command : Command) (session : ℕ) (refusal : Refusal) (old new : Engine) → who_commands command ≡ Some session
-    → ((history : History) → StandsFor old.state history → judged history (world_of old.world) command ≡ Err refusal)
-    → new.state ≡ old.state → new.world ≡ old.world → new.reply ≡ refusal_line (Some session) refusal → IsQuiet command old new
-quiet_refused command session refusal old new who refuses same_state same_world said = record {
-  same = same_state;
-  effect = λ history stands.
-      subst (λ (effect : Effect). IsEffect history (world_of old.world) command effect) (λ i. sym shown_is i)
-      (refused history (world_of old.world) command refusal (refuses history stands));
-  audits = record { jobs = ap (λ (held : HeldWorld). held.jobs) same_world; watches = ap (λ (held : HeldWorld). held.watches) same_world };
-}
-  where
-    line_is : new.reply ≡ refusal_line (who_commands command) refusal
-    line_is = said ∙ ap (λ (one : Option ℕ). refusal_line one refusal) (sym who)
-
-    shown_is : shown new ≡ only_reply (world_of old.world) (refusal_line (who_commands command) refusal)
-    shown_is = λ i. only_reply (world_of (same_world i)) (line_is i)
+use Rattle.hippo_engine.proofs.ShortLemmas.{done_for}
 
 -- the world with another job at a number, as it is seen
 world_with : (held : HeldWorld) (number : ℕ) (job : Option HeldJob) (jobs : List (Option HeldJob)) → jobs ≡ with_at held.jobs number job
@@ -83,30 +59,18 @@ world_with held number job jobs is =
     ∙ ap (λ (list : List (Option OpenAudit)). record (world_of held) { jobs = list }) (seen-with open_audit held.jobs number job)
 
 -- ---- a job begins
-module _ (text : Txt) (written : RawAudit) (audit : Audit) (old new : Engine)
-    (means : (history : History) → StandsFor old.state history → audit_in history 0 written ≡ Ok audit)
+module _ (command : Command) (number : ℕ) (audit : Audit) (old new : Engine) (begins : begins_job command ≡ true)
+    (does : IsJudged command old.state old.world (Ok (deeds.begin_audit number audit)))
     (audit_is : (history : History) → StandsFor old.state history → IsAuditOf history audit) where
-  abbrev begins : Command
-  begins = state 0 (stmt.BeginAudit written) text
-
-  judged_begun : (history : History) → StandsFor old.state history → (found : Option ℕ) → free_number old.world.jobs ≡ found
-      → judged history (world_of old.world) begins ≡ (ok_or found refusals.JobLimit >>= λ number. Ok (deeds.begin_audit number audit))
-  judged_begun history stands found is =
-      ap (λ (checked : Checked Audit). checked >>= λ one. ok_or (free_number (world_of old.world).jobs) refusals.JobLimit >>= λ number. Ok (deeds.begin_audit number one)) (means history stands)
-      ∙ ap (λ (free : Option ℕ). ok_or free refusals.JobLimit >>= λ number. Ok (deeds.begin_audit number audit)) (seen-free open_audit old.world.jobs ∙ is)
-
-  pub AddsNothing-begun : (found : Option ℕ) → free_number old.world.jobs ≡ found → BeginsJob found audit old new → AddsNothing begins old new
-  AddsNothing-begun None is begun =
-      AddsNothing-quiet begins old new
-      (quiet_refused begins 0 refusals.JobLimit old new refl (λ history stands. judged_begun history stands None is) begun.state begun.world begun.reply)
-  AddsNothing-begun (Some number) is begun = record {
+  pub AddsNothing-begun : free_number old.world.jobs ≡ Some number → BeginsAt number audit old new → AddsNothing command old new
+  AddsNothing-begun is begun = record {
     same = begun.state;
-    effect = λ history stands. inl (effect_is history stands ∙ sym (done_for history (world_of old.world) begins (deeds.begin_audit number audit) (judged_begun history stands (Some number) is)));
+    effect = λ history stands. inl (effect_is history stands ∙ sym (done_for history (world_of old.world) command (deeds.begin_audit number audit) (does history stands)));
     jobs = λ history stands fit.
         subst (AreLooking history) (sym jobs_are)
         (all_with (LooksAt history) old.world.jobs number (Some begun.job) fit (LooksAt-begun history audit begun.job stands.valid (audit_is history stands) (begun_over history stands)));
     watches = λ history stands stand. subst (WatchesFit history) (sym begun.world) stand;
-    counts = λ versions steps. job_begun (all_handed there.front) (all_handed there.behind) refl refl (handed-parted old.world.jobs number None there)
+    counts = λ versions steps. job_begun (all_handed there.front) (all_handed there.behind) begins refl (handed-parted old.world.jobs number None there)
         (ap all_handed jobs_are ∙ handed-with old.world.jobs number None there (Some begun.job)
         ∙ ap (λ (count : ℕ). all_handed there.front ++ count ∷ all_handed there.behind) (none_taken_yet audit old.state.count begun.job begun.begun));
   }
@@ -140,14 +104,6 @@ module _ (number : ℕ) (old new : Engine) where
       → judged history (world_of old.world) drops ≡ (ok_or (option_map open_audit found) (refusals.NoJob number) >>= λ job. Ok (deeds.drop_job number))
   judged_dropped history found is =
       ap (λ (one : Option OpenAudit). ok_or one (refusals.NoJob number) >>= λ job. Ok (deeds.drop_job number)) (seen-at open_audit old.world.jobs number ∙ ap (option_map open_audit) is)
-
-  -- there is none at the number
-  pub AddsNothing-missing : at_number old.world.jobs number ≡ None → new.state ≡ old.state → new.world ≡ record (old.world) { jobs = with_at old.world.jobs number None }
-      → new.reply ≡ refusal_line (Some 0) (refusals.NoJob number) → AddsNothing drops old new
-  AddsNothing-missing is same_state world_is said =
-      AddsNothing-quiet drops old new
-      (quiet_refused drops 0 (refusals.NoJob number) old new refl (λ history stands. judged_dropped history None is) same_state
-      (world_is ∙ ap (λ (jobs : List (Option HeldJob)). record (old.world) { jobs = jobs }) (put_again old.world.jobs number None is)) said)
 
   pub AddsNothing-dropped : (job : HeldJob) → at_number old.world.jobs number ≡ Some job → new.state ≡ old.state → new.world ≡ record (old.world) { jobs = with_at old.world.jobs number None }
       → new.reply ≡ done_line (Some 0) → AddsNothing drops old new
@@ -329,45 +285,11 @@ module _ (number count : ℕ) (past : Past) (looked : Result (Unit {0}) ReadFaul
         undamaged = λ other e. undamaged_end looked other over.undamaged e;
       }))
 
--- ---- none is there
--- a step of a job that is not there is refused
-pub missing_step : (number count : ℕ) (old new : Engine) → at_number old.world.jobs number ≡ None → new.state ≡ old.state
-    → new.world ≡ record (old.world) { jobs = with_at old.world.jobs number None } → new.reply ≡ refusal_line (Some 0) (refusals.NoJob number) → IsQuiet (ask 0 (requests.steps number count)) old new
-missing_step number count old new is same_state world_is said =
-    quiet_refused (ask 0 (requests.steps number count)) 0 (refusals.NoJob number) old new refl
-    (λ history stands. ap (λ (one : Option OpenAudit). ok_or one (refusals.NoJob number) >>= λ found. Ok (deeds.step_job number found count)) (seen-at open_audit old.world.jobs number ∙ ap (option_map open_audit) is))
-    same_state (world_is ∙ ap (λ (jobs : List (Option HeldJob)). record (old.world) { jobs = jobs }) (put_again old.world.jobs number None is)) said
+-- a job that stands at a number is there
+pub held_there : (jobs : List (Option HeldJob)) (number : ℕ) (job : HeldJob) → at_number jobs number ≡ Some job → ◌≡◌ {A = Option HeldJob} None (at_number jobs number) → ⊥
+held_there jobs number job there none = let both : ◌≡◌ {A = Option HeldJob} None (Some job) = none ∙ there in absurd cc
 
--- only the console may
-only_console : (session : ℕ) (refusal : Refusal) → by_console session ≡ Err refusal → refusal ≡ refusals.ConsoleOnly
-only_console session refusal refuses = only (not (session == 0)) refuses
-  where
-    refused_by : Checked (Unit {0}) → Refusal
-    refused_by (Ok all) = refusals.ConsoleOnly
-    refused_by (Err other) = other
-
-    only : (test : Bool) → ◌≡◌ {A = Checked (Unit {0})} (if test then Err refusals.ConsoleOnly else Ok tt) (Err refusal) → refusal ≡ refusals.ConsoleOnly
-    only true e = sym (ap refused_by e)
-    only false e = absurd cc
-
-pub not_console : (command : Command) (session : ℕ) (refusal : Refusal) (old new : Engine) → session < 256 → who_commands command ≡ Some session
-    → ((history : History) → (rest : Unit {0} → Checked Deed) × (judged history (world_of old.world) command ≡ (by_console session >>= rest)))
-    → by_console session ≡ Err refusal → new.state ≡ old.state → new.world ≡ old.world
-    → (length (refusal_line (Some session) refusal) ≤ reply_room → new.reply ≡ refusal_line (Some session) refusal) → IsQuiet command old new
-not_console command session refusal old new few who begins_so refuses same_state same_world said =
-    let fits : length (refusal_line (Some session) refusal) ≤ reply_room =
-    subst (λ (one : Refusal). length (refusal_line (Some session) one) ≤ reply_room) (sym (only_console session refusal refuses)) (console_only_fits (Some session) few) in
-    quiet_refused command session refusal old new who
-    (λ history stands. let so = begins_so history in so.1 ∙ ap (λ (console : Checked (Unit {0})). console >>= so.0) refuses) same_state same_world (said fits)
-
--- an audit that is refused begins no job
-pub refused_begin : (text : Txt) (written : RawAudit) (session : ℕ) (refusal : Refusal) (engine : Engine) → ((history : History) → StandsFor engine.state history → Finds (λ audit. audit) (audit_in history session written) (Err refusal))
-    → IsRefused (state session (stmt.BeginAudit written) text) session refusal engine
-refused_begin text written session refusal engine refuses = record {
-  who = refl;
-  memory = refl;
-  refused = λ history stands. elim (refuses history stands) [
-    | inl is ↦ inl (ap (λ (checked : Checked Audit). checked >>= λ audit. ok_or (free_number (world_of engine.world).jobs) refusals.JobLimit >>= λ number. Ok (deeds.begin_audit number audit)) is)
-    | inr is ↦ inr is
-  ];
-}
+-- BEGIN AUDIT at the console
+pub AddsNothing-does : (command : Command) (number : ℕ) (audit : Audit) (old new : Engine) → Does command (kinds.BeginAudit number audit) old.state old.world → BeginsAt number audit old new → AddsNothing command old new
+AddsNothing-does command number audit old new ((written, text, is), means, free, does) begun =
+    AddsNothing-begun command number audit old new (ap begins_job is) does means.fits free begun

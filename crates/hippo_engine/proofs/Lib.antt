@@ -8,11 +8,10 @@ pub mod LedgerLemmas
 pub mod CarryingLemmas
 mod LineLemmas
 mod ChangeLemmas
-mod LoadLemmas
 mod QuestionLemmas
-mod AskedLemmas
 mod LookingLemmas
 mod ExplainingLemmas
 mod AuditingLemmas
 mod JobLemmas
 mod WatchLemmas
+mod PerformingLemmas

@@ -7,10 +7,11 @@ use Rattle.hippo_io.specs.Lines.{LineText, text_line, too_long_line, not_utf8_li
 use Rattle.hippo_model.specs.declared.statement.Stmt.{Stmt}
 use Rattle.hippo_report.specs.declared.refusal.Refusal.{Refusal}
 use Rattle.hippo_lines.specs.Forms.{Form, says_nothing, sets_clock, asks, states, line_form}
-use Rattle.hippo_commands.specs.Commands.{Command, clock_command, state_command, statement_in, command_by, command_of, commanded}
+use Rattle.hippo_commands.specs.Commands.{clock_command, state_command, statement_in, command_by, command_of, commanded}
 use Rattle.hippo_commands.specs.Moments.{moment_in}
 use Rattle.hippo_following.proofs.CommandTheorem.{commands_are_written}
-use Rattle.hippo_engine.specs.Carrying.{IsText, IsOfLine}
+use Rattle.hippo_engine.specs.Carrying.{IsText}
+use Rattle.hippo_judging.specs.Findings.{IsOfLine}
 use Rattle.hippo_judging.proofs.LengthLemmas.{plain_fits}
 
 clock : (moment : Option Moment) → IsOfLine (clock_command moment)

@@ -1,13 +1,11 @@
 -- From keeping and answering a question to what carrying out its command does.
-use Rattle.std.proofs.Common.{◌≡◌, ◌⊎◌, ◌∙◌, ◌+◌, inl, inr, refl, sym, ap, subst, ℕ, Bool, true, false, List, [], ◌∷◌, ◌++◌, Option, Some, None, Result, Ok, Err, length, append-nil, IfOk}
-use Rattle.std.specs.Prelude.{◌==◌, int_le, nat_lt, ok_or}
+use Rattle.std.proofs.Common.{◌≡◌, ◌⊎◌, ◌∙◌, ◌+◌, inl, inr, refl, sym, ap, subst, ℕ, true, false, List, [], ◌∷◌, ◌++◌, Option, Some, None, Result, Ok, Err, length, IfOk}
+use Rattle.std.specs.Prelude.{int_le, nat_lt}
 use Rattle.std.proofs.lemmas.Bool.{false≢true}
 use Rattle.hippo_values.specs.Texts.{Txt}
 use Rattle.hippo_model.specs.declared.entry.Entry.{Entry}
-use Rattle.hippo_model.specs.declared.statement.Stmt.{Stmt}
 use Rattle.hippo_model.specs.Terms.{History, ShownRow}
-use Rattle.hippo_report.specs.declared.refusal.Refusal.{Refusal}
-use Rattle.hippo_report.specs.declared.refusal.Refusal.TheVariants.{SessionsOnly, NoSession, Memory}
+use Rattle.hippo_report.specs.declared.refusal.Refusal.TheVariants.{Memory}
 use Rattle.hippo_report.specs.Refusals.{refusal_line}
 use Rattle.hippo_keeper.specs.declared.faults.KeeperFault.{KeeperFault}
 use Rattle.hippo_keeper.specs.declared.faults.KeeperFault.TheVariants.{Failed, Memory as KeeperMemory}
@@ -26,25 +24,28 @@ use Rattle.hippo_world.specs.Worlds.{World, session_at}
 use Rattle.hippo_world.specs.Holding.{world_of, KeepsAudits, WatchesFit}
 use Rattle.hippo_values.specs.declared.memory.Memory.{Memory as NoMemory}
 use Rattle.hippo_world.proofs.AuditLemmas.{JobsFit-more, JobsFit-same, taken_of-same, WatchesFit-more, WatchesFit-same}
-use Rattle.hippo_commands.specs.Commands.{Command, state, who_commands}
+use Rattle.hippo_commands.specs.Commands.{Command, who_commands}
 use Rattle.hippo_engine.specs.declared.engine.Engine.{Engine}
 use Rattle.hippo_engine.specs.declared.faults.EngineFault.{EngineFault}
 use Rattle.hippo_engine.specs.declared.faults.EngineFault.TheVariants.{Keeper}
 use Rattle.hippo_judging.specs.declared.asking.Asking.{Asking}
 use Rattle.hippo_judging.specs.declared.asking.Delivery.{Delivery}
 use Rattle.hippo_judging.specs.declared.asking.Delivery.TheVariants as delivered
-use Rattle.hippo_judging.specs.Checks.{Checked, ◌>>=◌, refused_if, open_session}
+use Rattle.hippo_judging.specs.Checks.{Checked}
 use Rattle.hippo_judging.specs.Deeds.{Deed, Question, asked_by, next_entry}
 use Rattle.hippo_judging.specs.Judging.{deed_for, judged}
-use Rattle.hippo_engine.specs.Effects.{Effect, only_reply, row_limit, question_rows, within_limit, asked, done, effect_of, IsShortAnswer, IsShort, IsEffect, may_do_nothing}
+use Rattle.hippo_engine.specs.Effects.{Effect, only_reply, row_limit, question_rows, within_limit, asked, done, effect_of, IsShortAnswer, IsShort, IsEffect}
+use Rattle.hippo_judging.specs.Findings.{may_do_nothing}
+use Rattle.hippo_judging.specs.declared.deeds.Question.{Question as AskedQuestion}
+use Rattle.hippo_judging.specs.Findings.{IsJudged, question_by}
 use Rattle.hippo_engine.specs.Ledgers.{none_taken}
 use Rattle.hippo_engine.specs.Carrying.{Carries}
 use Rattle.hippo_engine.proofs.CarryingLemmas.{Holds-same, Holds-more, IsTimely-same}
 use Rattle.hippo_engine.proofs.ClockLemmas.{int_le-refl, either_clock}
-use Rattle.hippo_judging.specs.Asking.{question_of, deed_asked}
-use Rattle.hippo_engine.specs.Questions.{entry_of, KeptAnswer, Asks, answer_said, world_left, HandsOut, Replies}
+use Rattle.hippo_judging.specs.Asking.{question_of, deed_asked, entry_of}
+use Rattle.hippo_engine.specs.Questions.{KeptAnswer, Asks, answer_said, world_left, HandsOut, Replies}
 use Rattle.hippo_engine.specs.Watching.{alarms_now}
-use Rattle.hippo_engine.proofs.ShortLemmas.{takes_some, short, refused, done_for}
+use Rattle.hippo_engine.proofs.ShortLemmas.{takes_some, short, done_for}
 
 -- what is kept does not hang on what is answered
 pub Keeps-ok : {A B : Type 0} (one : A) (other : B) (entry : Entry) (held : State) (before after : KeeperState) → Keeps entry (ok_of KeeperFault one) held before after → Keeps entry (ok_of KeeperFault other) held before after
@@ -55,18 +56,6 @@ Keeps-ok one other entry held before after keeps = record {
   failed = keeps.failed;
   same = keeps.same;
 }
-
--- a question that is refused, or for which memory is short, has that effect
-pub refused_effect : (history : History) (world : World) (command : Command) (refusal : Refusal) (reply : Txt) → may_do_nothing command ≡ true
-    → (judged history world command ≡ Err refusal) ⊎ (refusal ≡ Memory)
-    → (reply ≡ refusal_line (who_commands command) refusal) ⊎ (reply ≡ refusal_line (who_commands command) Memory)
-    → IsEffect history world command (only_reply world reply)
-refused_effect history world command refusal reply takes found (inr said) =
-    subst (λ (r : Txt). IsEffect history world command (only_reply world r)) (sym said) (short history world command takes)
-refused_effect history world command refusal reply takes (inl is) (inl said) =
-    subst (λ (r : Txt). IsEffect history world command (only_reply world r)) (sym said) (refused history world command refusal is)
-refused_effect history world command refusal reply takes (inr is) (inl said) =
-    subst (λ (r : Txt). IsEffect history world command (only_reply world r)) (sym (said ∙ ap (λ (r : Refusal). refusal_line (who_commands command) r) is)) (short history world command takes)
 
 -- the entry of a question is the next one
 next_is : (history : History) (held : State) (world : HeldWorld) (question : Question) → StandsFor held history
@@ -189,21 +178,23 @@ module _ (command : Command) (deed : Deed) (question : Question) (said : List Sh
     undamaged = λ tells history holds number damaged. cc;
   }
 
--- a session that is open is there
-found_session : (console : Bool) (held : Option Session) (session : Session) → (refused_if console SessionsOnly >>= λ _. ok_or held NoSession) ≡ Ok session → held ≡ Some session
-found_session true held session is = absurd cc
-found_session false None session is = absurd cc
-found_session false (Some one) session is = ap (λ (c : Checked Session). found c) is
-  where
-    found : Checked Session → Option Session
-    found (Ok one) = Some one
-    found (Err refusal) = None
+-- ---- the asker is looked up again
+asked_same : (one other : Session) → ◌≡◌ {A = Option Session} (Some one) (Some other) → one ≡ other
+asked_same one other is = cc
 
-module _ (session : ℕ) (statement : Stmt) (text : Txt) (asked_for : Asking) (old new : Engine) (before after : KeeperState) (steps : ℕ) (sound : IsSound old.state) (timely : IsTimely old.state old.world.clock) (same_audits : KeepsAudits old.world new.world) where
+pub asker_same : (held : Option Session) (one other : Session) → Some one ≡ held → held ≡ Some other → one ≡ other
+asker_same held one other found there = asked_same one other (found ∙ there)
+
+pub asker_missing : (held : Option Session) (asker : Session) → None ≡ held → held ≡ Some asker → ⊥
+asker_missing held asker none there = let both : ◌≡◌ {A = Option Session} None (Some asker) = none ∙ there in absurd cc
+
+pub judged_by : (command : Command) (engine : Engine) (question : AskedQuestion) (delivery : Delivery) (one other : Session) → one ≡ other
+    → IsJudged command engine.state engine.world (Ok (deed_for other (question_by other question) delivery)) → IsJudged command engine.state engine.world (Ok (deed_for one (question_by one question) delivery))
+judged_by command engine question delivery one other same does =
+    subst (λ (asker : Session). IsJudged command engine.state engine.world (Ok (deed_for asker (question_by asker question) delivery))) (sym same) does
+
+module _ (session : ℕ) (asks_it : Command) (asked_for : Asking) (who : who_commands asks_it ≡ Some session) (takes : may_do_nothing asks_it ≡ true) (old new : Engine) (before after : KeeperState) (steps : ℕ) (sound : IsSound old.state) (timely : IsTimely old.state old.world.clock) (same_audits : KeepsAudits old.world new.world) where
   -- a question that is not refused
-  abbrev asks_it : Command
-  asks_it = state session statement text
-
   abbrev question : Question
   question = question_of session asked_for
 
@@ -219,13 +210,16 @@ module _ (session : ℕ) (statement : Stmt) (text : Txt) (asked_for : Asking) (o
   is_question delivered.Records = record { effect = λ history. refl; short = λ history reply result answer. answer }
   is_question (delivered.Cursor cursor) = record { effect = λ history. refl; short = λ history reply result answer. answer }
 
+  said_to : refusal_line (Some session) Memory ≡ refusal_line (who_commands asks_it) Memory
+  said_to = ap (λ (one : Option ℕ). refusal_line one Memory) (sym who)
+
   says : session_at (world_of old.world) session ≡ Some asked_for.asker.now → (rows : List ShownRow) (alarms : Result Txt NoMemory) (more : Txt) → IfOk alarms (λ said. said ≡ more)
       → HandsOut session asked_for.delivery rows alarms new.reply (world_of old.world) (world_of new.world)
       → SaysSo new is_said is_left more rows ⊎ SaysShort asks_it old new
   says there rows (Ok said) more is (inl out) =
       inl (record { reply = out.said ∙ ap (λ (behind : Txt). is_said rows ++ behind) is; world = out.left asked_for.asker.now there })
-  says there rows (Ok said) more is (inr none) = inr (record { said = none.said; same = none.same })
-  says there rows (Err fault) more is none = inr (record { said = none.said; same = none.same })
+  says there rows (Ok said) more is (inr none) = inr (record { said = none.said ∙ said_to; same = none.same })
+  says there rows (Err fault) more is none = inr (record { said = none.said ∙ said_to; same = none.same })
 
   -- an answer leaves the clock
   delivery_clock : (delivery : Delivery) (rows : List ShownRow) → (world_left (world_of old.world) session asked_for.asker.now delivery rows).clock ≡ old.world.clock
@@ -250,22 +244,21 @@ module _ (session : ℕ) (statement : Stmt) (text : Txt) (asked_for : Asking) (o
   of_history (Ok said) are history stands fit = are session history stands fit
   of_history (Err fault) are history stands fit = tt
 
-  pub Carries-question : open_session (world_of old.world) session ≡ Ok asked_for.asker.now
+  pub Carries-question : session_at (world_of old.world) session ≡ Some asked_for.asker.now
       → ((history : History) → StandsFor old.state history → judged history (world_of old.world) asks_it ≡ Ok (deed_asked session asked_for))
       → (kept : KeptAnswer) → Asks (entry_of old.state old.world.clock question) (world_of old.world) question kept old.state new.state before after
       → (alarms : Result Txt NoMemory) → AreAlarms alarms
       → (result : Result (Unit {0}) EngineFault) → Replies session asked_for.delivery alarms kept result new.reply (world_of old.world) (world_of new.world)
       → Carries asks_it result old new before after steps steps
   Carries-question there judged_is (Ok answer) asks alarms are result replies =
-      let at = found_session (session == 0) (session_at (world_of old.world) session) asked_for.asker.now there in
       subst (λ (r : Result (Unit {0}) EngineFault). Carries asks_it r old new before after steps steps) (sym replies.0)
-      (Carries-kept asks_it (deed_asked session asked_for) question is_said is_left old new before after steps refl sound timely same_audits judged_is (is_question asked_for.delivery) answer
-      (clock_left at (question_rows sound.history (world_of old.world) question) alarms (replies.1 (question_rows sound.history (world_of old.world) question) (asks.rows sound.history sound.stands))) asks
-      (λ history stands fit rows answered. says at rows alarms (alarms_now history (world_of old.world) question) (of_history alarms are history stands fit) (replies.1 rows answered)))
+      (Carries-kept asks_it (deed_asked session asked_for) question is_said is_left old new before after steps takes sound timely same_audits judged_is (is_question asked_for.delivery) answer
+      (clock_left there (question_rows sound.history (world_of old.world) question) alarms (replies.1 (question_rows sound.history (world_of old.world) question) (asks.rows sound.history sound.stands))) asks
+      (λ history stands fit rows answered. says there rows alarms (alarms_now history (world_of old.world) question) (of_history alarms are history stands fit) (replies.1 rows answered)))
   Carries-question there judged_is (Err KeeperMemory) asks alarms are result replies =
       subst (λ (r : Result (Unit {0}) EngineFault). Carries asks_it r old new before after steps steps) (sym replies.0.0)
-      (Carries-short asks_it (deed_asked session asked_for) question is_said is_left old new before after steps refl sound timely same_audits judged_is (is_question asked_for.delivery) asks
-      (record { said = replies.0.1; same = replies.1 }))
+      (Carries-short asks_it (deed_asked session asked_for) question is_said is_left old new before after steps takes sound timely same_audits judged_is (is_question asked_for.delivery) asks
+      (record { said = replies.0.1 ∙ said_to; same = replies.1 }))
   Carries-question there judged_is (Err Failed) asks alarms are result replies =
       subst (λ (r : Result (Unit {0}) EngineFault). Carries asks_it r old new before after steps steps) (sym replies.0)
-      (Carries-failed asks_it (deed_asked session asked_for) question is_said is_left old new before after steps refl sound timely same_audits judged_is (is_question asked_for.delivery) asks)
+      (Carries-failed asks_it (deed_asked session asked_for) question is_said is_left old new before after steps takes sound timely same_audits judged_is (is_question asked_for.delivery) asks)

@@ -1,7 +1,7 @@
 -- A line that takes memory may be answered by want of it.
-use Rattle.std.proofs.Common.{◌≡◌, Bool, inl, inr, refl, ap, sym, true, false, Option, Ok, Err, List, Some, None}
+use Rattle.std.proofs.Common.{◌≡◌, Bool, inl, inr, refl, ap, sym, true, false, Option, Ok, Err, List}
 use Rattle.std.proofs.lemmas.Bool.{false≢true}
-use Rattle.std.specs.Prelude.{ℕ, int_lt, ok_or}
+use Rattle.std.specs.Prelude.{ℕ, ok_or}
 use Rattle.hippo_model.specs.declared.audit.Audit.{Audit}
 use Rattle.hippo_model.specs.declared.audit.Pair.{Pair}
 use Rattle.hippo_model.specs.declared.entry.Act.{Act}
@@ -20,7 +20,7 @@ use Rattle.hippo_catalog.specs.ChangesRefused.{change_refused}
 use Rattle.hippo_catalog.specs.ChangesWanted.{wanted_by}
 use Rattle.hippo_tables.specs.Finished.{finished}
 use Rattle.hippo_report.specs.declared.refusal.Refusal.{Refusal}
-use Rattle.hippo_report.specs.declared.refusal.Refusal.TheVariants.{Memory, BadSyntax, NoCursor, NoSuchQuery, NoWatch, WatchLimit, MomentBack, JobLimit, NoJob}
+use Rattle.hippo_report.specs.declared.refusal.Refusal.TheVariants.{Memory, BadSyntax, NoCursor, NoSuchQuery, NoWatch, WatchLimit, JobLimit, NoJob}
 use Rattle.hippo_report.specs.Refusals.{refusal_line}
 use Rattle.hippo_audit_job.specs.Jobs.{OpenAudit}
 use Rattle.hippo_world.specs.declared.cursors.Cursor.{Cursor as HeldCursor}
@@ -35,9 +35,10 @@ use Rattle.hippo_judging.specs.declared.asking.Handing.{Handing}
 use Rattle.hippo_judging.specs.declared.asking.Handing.TheVariants.{Rows, Records, Cursor}
 use Rattle.hippo_judging.specs.Deeds.{Deed, Question}
 use Rattle.hippo_judging.specs.Deeds as deeds
-use Rattle.hippo_judging.specs.Checks.{Checked, ◌>>=◌, refused_if, by_console, open_session, may_log_in, meant, act_made, has_room, question_at}
+use Rattle.hippo_judging.specs.Checks.{Checked, ◌>>=◌, by_console, open_session, may_log_in, meant, act_made, has_room, question_at}
 use Rattle.hippo_judging.specs.Judging.{judged, judged_login, judged_fetch, judged_close, judged_wanted, judged_change, insert_of, judged_load, text_between, question_in, delivery_for, deed_for, judged_question, audit_in, judged_begin, judged_drop}
-use Rattle.hippo_engine.specs.Effects.{only_reply, carried_out, effect_of, IsShort, IsEffect, may_do_nothing}
+use Rattle.hippo_engine.specs.Effects.{only_reply, carried_out, effect_of, IsShort, IsEffect}
+use Rattle.hippo_judging.specs.Findings.{may_do_nothing}
 use Rattle.hippo_engine.specs.Ledgers.{steps_job}
 
 -- a command is no step of a job, and does not set the clock

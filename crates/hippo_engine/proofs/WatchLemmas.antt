@@ -1,9 +1,9 @@
 -- From what each watch says of a question to what all say of it; and what setting and ending a watch does.
-use Rattle.std.proofs.Common.{◌≡◌, ◌∙◌, sym, ap, refl, subst, arith, inl, inr, ℕ, zero, suc, ◌+◌, ◌-◌, Bool, true, false, List, [], ◌∷◌, ◌++◌, length, take, drop, Option, None, Some, Result, Ok, Err, append-nil, append_assoc}
-use Rattle.std.specs.Prelude.{◌||◌, IfSome, OnOk, is_some, slice_get, option_and_then, option_map, codes, ok_or}
-use Rattle.std.specs.List.{AllByRecursion, list_any}
+use Rattle.std.proofs.Common.{◌≡◌, ◌∙◌, sym, ap, refl, subst, arith, inl, ℕ, ◌+◌, ◌-◌, false, List, [], ◌∷◌, ◌++◌, length, take, drop, Option, None, Some, Result, Ok, Err, append-nil}
+use Rattle.std.specs.Prelude.{IfSome, OnOk, is_some, option_and_then, codes}
+use Rattle.std.specs.List.{list_any}
 use Rattle.std.specs.Option.{option_map_or}
-use Rattle.std.proofs.lemmas.Bool.{or_parts, false≢true}
+use Rattle.std.proofs.lemmas.Bool.{false≢true}
 use Rattle.std.proofs.lemmas.List.{take_all}
 use Rattle.hippo_values.specs.Texts.{Txt}
 use Rattle.hippo_values.specs.declared.memory.Memory.{Memory}
@@ -11,8 +11,6 @@ use Rattle.hippo_model.specs.declared.audit.Audit.{Audit}
 use Rattle.hippo_model.specs.declared.audit.SharedRow.{SharedRow}
 use Rattle.hippo_model.specs.declared.entry.Entry.{Entry}
 use Rattle.hippo_model.specs.declared.query.Query.{Query}
-use Rattle.hippo_model.specs.declared.statement.RawAudit.{RawAudit}
-use Rattle.hippo_model.specs.declared.statement.Stmt.TheVariants as stmt
 use Rattle.hippo_model.specs.Audits.{shared, shared_by}
 use Rattle.hippo_model.specs.Terms.{History}
 use Rattle.hippo_model.specs.Verdicts.{Context}
@@ -23,29 +21,24 @@ use Rattle.hippo_watch.specs.declared.alarms.AskedNow.{AskedNow}
 use Rattle.hippo_watch.specs.Alarms.{IsPresentOf, asked_next, IsAskedNext, SharesNext}
 use Rattle.hippo_watch.specs.AlarmLines.{alarm_text}
 use Rattle.hippo_replay.specs.declared.state.State.{State}
-use Rattle.hippo_replay.specs.Standing.{StandsFor, IsSound}
-use Rattle.hippo_report.specs.declared.refusal.Refusal.{Refusal}
-use Rattle.hippo_report.specs.declared.refusal.Refusal.TheVariants.{WatchLimit, NoWatch, ConsoleOnly}
+use Rattle.hippo_replay.specs.Standing.{StandsFor}
 use Rattle.hippo_report.specs.Notices.{done_line, number_line}
-use Rattle.hippo_report.specs.Refusals.{refusal_line}
-use Rattle.hippo_lines.specs.Forms.{unwatches}
 use Rattle.hippo_world.specs.declared.worlds.World.{World as HeldWorld}
-use Rattle.hippo_world.specs.Worlds.{World, with_at, at_number, free_number}
+use Rattle.hippo_world.specs.Worlds.{World, with_at}
 use Rattle.hippo_world.specs.Holding.{world_of, JobsFit, WatchesFit, taken_of}
-use Rattle.hippo_world.specs.Auditing.{AreLooking, AreWatching, all_handed}
+use Rattle.hippo_world.specs.Auditing.{AreWatching}
 use Rattle.hippo_world.proofs.AuditLemmas.{all_with}
-use Rattle.hippo_commands.specs.Commands.{Command, ask, state}
+use Rattle.hippo_commands.specs.Commands.{Command}
 use Rattle.hippo_engine.specs.declared.engine.Engine.{Engine}
 use Rattle.hippo_engine.specs.Carrying.{AddsNothing, shown}
-use Rattle.hippo_engine.specs.Changing.{IsRefused}
-use Rattle.hippo_judging.specs.Checks.{Checked, Finds, ◌>>=◌, by_console, held_watch}
 use Rattle.hippo_judging.specs.Deeds.{Deed, Question, asked_by, next_entry}
 use Rattle.hippo_judging.specs.Deeds as deeds
-use Rattle.hippo_engine.specs.Effects.{Effect, only_reply, done, effect_of, with_watch, alarm_line, alarms_from, IsEffect}
-use Rattle.hippo_judging.specs.Judging.{audit_in, judged}
+use Rattle.hippo_engine.specs.Effects.{only_reply, done, alarms_from}
 use Rattle.hippo_engine.specs.Ledgers.{none_taken}
-use Rattle.hippo_engine.specs.Watching.{AddsAlarm, AddsAlarms, alarms_now, watch_set, Watches}
-use Rattle.hippo_engine.proofs.ShortLemmas.{short, refused, done_for}
+use Rattle.hippo_engine.specs.Watching.{AddsAlarm, AddsAlarms, alarms_now}
+use Rattle.hippo_judging.specs.declared.deeds.Deed.TheVariants as kinds
+use Rattle.hippo_judging.specs.Findings.{IsJudged, Does}
+use Rattle.hippo_engine.proofs.ShortLemmas.{done_for}
 
 -- ---- one watch
 abbrev Said : Type 0
@@ -143,93 +136,27 @@ pub nobody_now : (history : History) (held : HeldWorld) (question : Question) (o
 nobody_now history held question old none =
     sym (append-nil old) ∙ ap (λ (text : Txt). old ++ text) (sym (unwatched history (next_entry history (world_of held) (asked_by question)) 1 held.watches none))
 
--- ---- setting a watch
-module _ (command : Command) (audit : Audit) (old new : Engine) (is : Watches command audit old) (same : new.state ≡ old.state) where
-  pub sets_watch : (number : ℕ) → free_number old.world.watches ≡ Some number → new.world ≡ record old.world { watches = with_at old.world.watches number (Some audit) }
-      → new.reply ≡ number_line 0 (codes "watch") number → AddsNothing command old new
-  sets_watch number free world_is said = record {
+-- ---- setting and ending a watch
+-- a watch stands at a number, or none does any more
+module _ (command : Command) (deed : Deed) (number : ℕ) (held : Option Audit) (old new : Engine) (same : new.state ≡ old.state) (does : IsJudged command old.state old.world (Ok deed)) where
+  pub puts_watch : new.world ≡ record old.world { watches = with_at old.world.watches number held }
+      → ((history : History) → StandsFor old.state history → IfSome held (IsAuditOf history))
+      → ((history : History) → shown new ≡ done history (world_of old.world) deed) → AddsNothing command old new
+  puts_watch world_is fits shows = record {
     same = same;
-    effect = λ history stands.
-        let judged_is : judged history (world_of old.world) command ≡ Ok (deeds.watch number audit) =
-        is.judged_so history stands ∙ ap (λ (found : Option ℕ). ok_or found WatchLimit >>= λ at. Ok (deeds.watch at audit)) free in
-        let made : shown new ≡ done history (world_of old.world) (deeds.watch number audit) = λ i. only_reply (world_of (world_is i)) (said i) in
-        inl (made ∙ sym (done_for history (world_of old.world) command (deeds.watch number audit) judged_is));
+    effect = λ history stands. inl (shows history ∙ sym (done_for history (world_of old.world) command deed (does history stands)));
     jobs = λ history stands fit. subst (λ (world : HeldWorld). JobsFit history world) (sym world_is) fit;
     watches = λ history stands fit. subst (λ (world : HeldWorld). WatchesFit history world) (sym world_is)
-        (all_with (IsAuditOf history) old.world.watches number (Some audit) fit (is.fits history stands));
+        (all_with (IsAuditOf history) old.world.watches number held fit (fits history stands));
     counts = λ versions steps. none_taken refl (ap taken_of world_is);
   }
 
-  -- where there is no room for one
-  pub no_watch_free : free_number old.world.watches ≡ None → IsRefused command 0 WatchLimit old
-  no_watch_free none = record {
-    who = is.who;
-    memory = is.memory;
-    refused = λ history stands. inl (is.judged_so history stands ∙ ap (λ (found : Option ℕ). ok_or found WatchLimit >>= λ at. Ok (deeds.watch at audit)) none);
-  }
+pub sets_watch : (command : Command) (number : ℕ) (audit : Audit) (old new : Engine) → Does command (kinds.Watch number audit) old.state old.world → new.state ≡ old.state
+    → new.world ≡ record old.world { watches = with_at old.world.watches number (Some audit) } → new.reply ≡ number_line 0 (codes "watch") number → AddsNothing command old new
+sets_watch command number audit old new does same world_is said =
+    puts_watch command (deeds.watch number audit) number (Some audit) old new same does.1 world_is does.0.fits (λ history. λ i. only_reply (world_of (world_is i)) (said i))
 
--- WATCH at the console
-pub watches_by : (text : Txt) (written : RawAudit) (audit : Audit) (session : ℕ) (engine : Engine) → session ≡ 0 → ((history : History) → StandsFor engine.state history → audit_in history session written ≡ Ok audit)
-    → ((history : History) → StandsFor engine.state history → IsAuditOf history audit) → Watches (state session (stmt.Watch written) text) audit engine
-watches_by text written audit session engine console means fits = record {
-  who = ap Some console;
-  memory = refl;
-  judged_so = λ history stands. ap (λ (checked : Checked Audit). checked >>= λ made. watch_set (world_of engine.world) made) (means history stands);
-  fits = fits;
-}
-
-pub refused_watch : (text : Txt) (written : RawAudit) (session : ℕ) (refusal : Refusal) (engine : Engine) → ((history : History) → StandsFor engine.state history → Finds (λ audit. audit) (audit_in history session written) (Err refusal))
-    → IsRefused (state session (stmt.Watch written) text) session refusal engine
-refused_watch text written session refusal engine refuses = record {
-  who = refl;
-  memory = refl;
-  refused = λ history stands. elim (refuses history stands) [
-    | inl none ↦ inl (ap (λ (checked : Checked Audit). checked >>= λ audit. watch_set (world_of engine.world) audit) none)
-    | inr none ↦ inr none
-  ];
-}
-
--- ---- ending a watch
-abbrev passed : Checked (Unit {0})
-passed = Ok tt
-
-module _ (session number : ℕ) (old new : Engine) (same : new.state ≡ old.state) where
-  abbrev ends : Command
-  ends = ask session (unwatches number)
-
-  judged_by : (history : History) (found : Checked (Unit {0})) → found ≡ held_watch (world_of old.world) session number → judged history (world_of old.world) ends ≡ found >>= λ _. Ok (deeds.end_watch number)
-  judged_by history found is = parted (by_console session) ∙ ap (λ (checked : Checked (Unit {0})). checked >>= λ _. Ok (deeds.end_watch number)) (sym is)
-    where
-      parted : (console : Checked (Unit {0})) → (console >>= λ _. ok_or (at_number old.world.watches number) (NoWatch number) >>= λ audit. Ok (deeds.end_watch number))
-          ≡ ((console >>= λ _. ok_or (at_number old.world.watches number) (NoWatch number) >>= λ audit. passed) >>= λ _. Ok (deeds.end_watch number))
-      parted (Err refusal) = refl
-      parted (Ok one) = there (at_number old.world.watches number)
-        where
-          there : (held : Option Audit) → (ok_or held (NoWatch number) >>= λ audit. Ok (deeds.end_watch number)) ≡ ((ok_or held (NoWatch number) >>= λ audit. passed) >>= λ _. Ok (deeds.end_watch number))
-          there None = refl
-          there (Some audit) = refl
-
-  -- it stood there
-  pub ends_watch : Ok tt ≡ held_watch (world_of old.world) session number → new.world ≡ record old.world { watches = with_at old.world.watches number None } → new.reply ≡ done_line (Some 0) → AddsNothing ends old new
-  ends_watch is world_is said = record {
-    same = same;
-    effect = λ history stands.
-        let made : shown new ≡ done history (world_of old.world) (deeds.end_watch number) = λ i. only_reply (world_of (world_is i)) (said i) in
-        inl (made ∙ sym (done_for history (world_of old.world) ends (deeds.end_watch number) (judged_by history (Ok tt) is)));
-    jobs = λ history stands fit. subst (λ (world : HeldWorld). JobsFit history world) (sym world_is) fit;
-    watches = λ history stands fit. subst (λ (world : HeldWorld). WatchesFit history world) (sym world_is)
-        (all_with (IsAuditOf history) old.world.watches number None fit tt);
-    counts = λ versions steps. none_taken refl (ap taken_of world_is);
-  }
-
-  -- it is refused
-  pub refused_unwatch : (refusal : Refusal) → Err refusal ≡ held_watch (world_of old.world) session number → new.world ≡ old.world → new.reply ≡ refusal_line (Some session) refusal → AddsNothing ends old new
-  refused_unwatch refusal is world_is said = record {
-    same = same;
-    effect = λ history stands.
-        let shows : shown new ≡ only_reply (world_of old.world) (refusal_line (Some session) refusal) = λ i. only_reply (world_of (world_is i)) (said i) in
-        subst (IsEffect history (world_of old.world) ends) (sym shows) (refused history (world_of old.world) ends refusal (judged_by history (Err refusal) is));
-    jobs = λ history stands fit. subst (λ (world : HeldWorld). JobsFit history world) (sym world_is) fit;
-    watches = λ history stands fit. subst (λ (world : HeldWorld). WatchesFit history world) (sym world_is) fit;
-    counts = λ versions steps. none_taken refl (ap taken_of world_is);
-  }
+pub ends_watch : (command : Command) (number : ℕ) (old new : Engine) → Does command (kinds.EndWatch number) old.state old.world → new.state ≡ old.state
+    → new.world ≡ record old.world { watches = with_at old.world.watches number None } → new.reply ≡ done_line (Some 0) → AddsNothing command old new
+ends_watch command number old new does same world_is said =
+    puts_watch command (deeds.end_watch number) number None old new same does world_is (λ history stands. tt) (λ history. λ i. only_reply (world_of (world_is i)) (said i))

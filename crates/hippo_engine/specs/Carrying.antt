@@ -1,5 +1,5 @@
 -- What carrying out a command does to an engine and its keeper, over the history that is kept.
-use Rattle.std.specs.Prelude.{◌≡◌, ◌≢◌, ◌≤◌, ◌⊎◌, ℕ, ℤ, Bool, false, true, [], ◌∷◌, ◌++◌, length, map, IsUtf8, Option, Some, None, Result, Ok, Err}
+use Rattle.std.specs.Prelude.{◌≡◌, ◌≢◌, ◌⊎◌, ℕ, ℤ, Bool, false, true, [], ◌∷◌, ◌++◌, map, IsUtf8, Option, Some, Result, Ok, Err}
 use Rattle.hippo_io.specs.Lines.{LineText, text_line}
 use Rattle.hippo_model.specs.declared.entry.Entry.{Entry}
 use Rattle.hippo_model.specs.StoredForms.{stored}
@@ -17,16 +17,11 @@ use Rattle.hippo_replay.specs.Recording.{HasKept}
 use Rattle.hippo_replay.specs.TakingIn.{HasLoaded}
 use Rattle.hippo_report.specs.declared.refusal.Refusal.{Refusal}
 use Rattle.hippo_report.specs.declared.refusal.Refusal.TheVariants.{NoSuchQuery}
-use Rattle.hippo_report.specs.Refusals.{refusal_line}
 use Rattle.hippo_world.specs.Holding.{world_of, KeepsAudits, JobsFit, WatchesFit, taken_of}
-use Rattle.hippo_commands.specs.Commands.{Command, wrong}
-use Rattle.hippo_commands.specs.Commands as commands
-use Rattle.hippo_following.specs.CommandLaws.{IsOfLine as StandsIn}
-use Rattle.hippo_values.specs.Texts.{Txt}
+use Rattle.hippo_commands.specs.Commands.{Command}
 use Rattle.hippo_engine.specs.declared.engine.Engine.{Engine}
 use Rattle.hippo_engine.specs.declared.faults.EngineFault.{EngineFault}
 use Rattle.hippo_engine.specs.declared.faults.EngineFault.TheVariants.{Keeper, Write, Damaged}
-use Rattle.hippo_judging.specs.Checks.{reply_room}
 use Rattle.hippo_judging.specs.Judging.{judged}
 use Rattle.hippo_engine.specs.Effects.{Effect, only_reply, effect_of, IsEffect}
 use Rattle.hippo_engine.specs.Ledgers.{reads_kept, Tallies}
@@ -71,12 +66,6 @@ is_carried (Err (Damaged number)) = false
 abbrev pub IsText : Option LineText → Type 0
 IsText (Some (text_line text)) = IsUtf8 text
 IsText line = Unit {0}
-
--- what holds of each command that a line gives: a refusal of nobody's line is short, and a statement stands in the line
-abbrev pub IsOfLine : Command → Type 0
-IsOfLine (wrong None refusal) = length (refusal_line None refusal) ≤ reply_room
-IsOfLine (commands.state session statement text) = (line : Txt) × StandsIn line statement text
-IsOfLine command = Unit {0}
 
 -- what an engine shows after a command that added nothing
 abbrev pub shown : Engine → Effect

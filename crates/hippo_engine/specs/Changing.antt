@@ -1,18 +1,16 @@
 -- What a statement that changes something does: its entry is added, or it is refused.
-use Rattle.std.specs.Prelude.{◌≡◌, ℕ, [], ◌∷◌, Some, true, codes}
+use Rattle.std.specs.Prelude.{◌≡◌, [], ◌∷◌, Some, true, codes}
 use Rattle.hippo_model.specs.declared.entry.Entry.{Entry}
 use Rattle.hippo_model.specs.Terms.{History}
 use Rattle.hippo_replay.specs.Standing.{StandsFor}
-use Rattle.hippo_report.specs.declared.refusal.Refusal.{Refusal}
 use Rattle.hippo_report.specs.Notices.{number_line}
 use Rattle.hippo_world.specs.Worlds.{World}
 use Rattle.hippo_world.specs.Holding.{world_of}
 use Rattle.hippo_commands.specs.Commands.{Command, who_commands}
 use Rattle.hippo_engine.specs.declared.engine.Engine.{Engine}
-use Rattle.hippo_judging.specs.Checks.{Refuses}
 use Rattle.hippo_judging.specs.Deeds.{next_entry}
-use Rattle.hippo_engine.specs.Effects.{Effect, effect_of, may_do_nothing}
-use Rattle.hippo_judging.specs.Judging.{judged}
+use Rattle.hippo_engine.specs.Effects.{Effect, effect_of}
+use Rattle.hippo_judging.specs.Findings.{may_do_nothing}
 
 -- an entry is added, and its number is said
 abbrev pub changed : World → Entry → Effect
@@ -26,10 +24,3 @@ pub record Changes (command : Command) (entry : Entry) (engine : Engine) : Type 
       → effect_of history (world_of engine.world) command ≡ changed (world_of engine.world) entry
   pub next : (history : History) → StandsFor engine.state history
       → entry ≡ next_entry history (world_of engine.world) entry.act
-
--- a session's or the console's command is refused, whatever history the state stands for
-pub record IsRefused (command : Command) (session : ℕ) (refusal : Refusal) (engine : Engine) : Type 0 where
-  pub who : who_commands command ≡ Some session
-  pub memory : may_do_nothing command ≡ true
-  pub refused : (history : History) → StandsFor engine.state history
-      → Refuses (judged history (world_of engine.world) command) refusal

@@ -1,5 +1,5 @@
 -- What is done for a line: its reply, the entries that it adds, and the world after it.
-use Rattle.std.specs.Prelude.{◌≡◌, ◌⊎◌, ◌≤◌, ℕ, ◌+◌, Bool, true, false, nat_lt, List, [], ◌∷◌, ◌++◌, flat_map, length, Option, Some, None, Ok, Err, if◌then◌else◌, codes}
+use Rattle.std.specs.Prelude.{◌≡◌, ◌⊎◌, ◌≤◌, ℕ, ◌+◌, true, nat_lt, List, [], ◌∷◌, ◌++◌, flat_map, length, Option, Some, None, Ok, Err, if◌then◌else◌, codes}
 use Rattle.std.specs.List.{enumerate_from}
 use Rattle.std.specs.Option.{option_map_or}
 use Rattle.hippo_values.specs.Texts.{Txt}
@@ -23,8 +23,7 @@ use Rattle.hippo_world.specs.declared.cursors.Cursor.{Cursor}
 use Rattle.hippo_world.specs.declared.sessions.Session.{Session}
 use Rattle.hippo_audit_job.specs.Jobs.{OpenAudit, step_end}
 use Rattle.hippo_world.specs.Worlds.{World, with_at, with_session, with_cursor, new_session, new_cursor, rows_next, moved_on}
-use Rattle.hippo_lines.specs.Forms.{steps}
-use Rattle.hippo_commands.specs.Commands.{Command, ask, who_commands, takes_memory}
+use Rattle.hippo_commands.specs.Commands.{Command, who_commands, takes_memory}
 use Rattle.hippo_judging.specs.Deeds.{Deed, Question, asked_by, next_entry}
 use Rattle.hippo_judging.specs.Deeds as deeds
 use Rattle.hippo_judging.specs.Checks.{Checked}
@@ -225,12 +224,6 @@ IsShort history world reply (Ok (deeds.extract question)) effect = IsShortAnswer
 IsShort history world reply (Ok (deeds.step_job number job count)) effect =
     IsShortStep history world reply number job count effect
 IsShort history world reply judgement effect = effect ≡ only_reply world reply
-
--- a command that takes memory and may be answered by want of it so that nothing changes, in any world: not a step, which
--- leaves its job at some number up to the step's end
-abbrev pub may_do_nothing : Command → Bool
-may_do_nothing (ask session (steps job count)) = false
-may_do_nothing command = takes_memory command
 
 -- a line may be answered by want of memory, unless it takes none
 abbrev pub IsMemoryEffect : History → World → Command → Effect → Type 0

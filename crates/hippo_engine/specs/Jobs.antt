@@ -1,11 +1,11 @@
 -- Audit jobs at the console: how one begins, and what a step of one does.
-use Rattle.std.specs.Prelude.{◌≡◌, ◌==◌, ◌⊎◌, ℕ, ◌++◌, [], flat_map, Option, Some, None, Result, Ok, Err, codes, if◌then◌else◌}
+use Rattle.std.specs.Prelude.{◌≡◌, ◌==◌, ◌⊎◌, ℕ, ◌++◌, [], flat_map, Some, Result, Ok, Err, codes, if◌then◌else◌}
 use Rattle.hippo_values.specs.Texts.{Txt}
 use Rattle.hippo_model.specs.declared.audit.Audit.{Audit}
 use Rattle.hippo_backlog.specs.declared.faults.ReadFault.{ReadFault}
 use Rattle.hippo_backlog.specs.declared.faults.ReadFault.TheVariants as faults
 use Rattle.hippo_report.specs.declared.format.Format.{Format}
-use Rattle.hippo_report.specs.declared.refusal.Refusal.TheVariants.{JobLimit, Memory}
+use Rattle.hippo_report.specs.declared.refusal.Refusal.TheVariants.{Memory}
 use Rattle.hippo_report.specs.Flags.{flag_line}
 use Rattle.hippo_report.specs.Notices.{number_line}
 use Rattle.hippo_report.specs.Refusals.{refusal_line}
@@ -20,17 +20,6 @@ pub record BeginsAt (number : ℕ) (audit : Audit) (old new : Engine) : Type 0 w
   pub state : new.state ≡ old.state
   pub world : new.world ≡ record (old.world) { jobs = with_at old.world.jobs number (Some job) }
   pub reply : new.reply ≡ number_line 0 (codes "job") number
-
--- no number is free for a job, and that is said
-pub record FindsNone (old new : Engine) : Type 0 where
-  pub state : new.state ≡ old.state
-  pub world : new.world ≡ old.world
-  pub reply : new.reply ≡ refusal_line (Some 0) JobLimit
-
--- a job begins at the lowest number that is free, if there is one
-abbrev pub BeginsJob : Option ℕ → Audit → Engine → Engine → Type 0
-BeginsJob (Some number) audit old new = BeginsAt number audit old new
-BeginsJob None audit old new = FindsNone old new
 
 -- how far a job is, while numbers are left; else how many flags it found
 abbrev pub progress_line : HeldJob → Txt

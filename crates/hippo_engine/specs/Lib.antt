@@ -7,5 +7,6 @@ pub mod Watching
 pub mod Explaining
 pub mod Auditing
 pub mod Jobs
+pub mod Performing
 pub mod Runs
 pub mod EffectLaws

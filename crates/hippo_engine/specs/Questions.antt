@@ -1,7 +1,6 @@
 -- What keeping and answering a question does.
-use Rattle.std.specs.Prelude.{◌≡◌, ◌⊎◌, ℕ, ◌+◌, nat_lt, length, if◌then◌else◌, List, [], ◌∷◌, ◌++◌, Some, Result, Ok, Err, IfOk, OnOk, OnErr, codes}
+use Rattle.std.specs.Prelude.{◌≡◌, ◌⊎◌, ℕ, nat_lt, length, if◌then◌else◌, List, [], ◌∷◌, ◌++◌, Some, Result, Ok, Err, IfOk, OnOk, OnErr, codes}
 use Rattle.hippo_values.specs.Texts.{Txt}
-use Rattle.hippo_values.specs.declared.moments.Moment.{Moment}
 use Rattle.hippo_model.specs.declared.entry.Entry.{Entry}
 use Rattle.hippo_model.specs.Terms.{History, ShownRow}
 use Rattle.hippo_values.specs.declared.memory.Memory.{Memory}
@@ -24,12 +23,8 @@ use Rattle.hippo_judging.specs.declared.asking.Delivery.{Delivery}
 use Rattle.hippo_judging.specs.declared.asking.Delivery.TheVariants as delivered
 use Rattle.hippo_engine.specs.declared.faults.EngineFault.{EngineFault}
 use Rattle.hippo_engine.specs.declared.faults.EngineFault.TheVariants.{Keeper}
-use Rattle.hippo_judging.specs.Deeds.{Question, asked_by}
+use Rattle.hippo_judging.specs.Deeds.{Question}
 use Rattle.hippo_engine.specs.Effects.{row_limit, question_rows, within_limit, listed}
-
--- the entry of a question that comes next
-abbrev pub entry_of : State → Moment → Question → Entry
-entry_of state clock question = record { seq = state.count + 1; moment = clock; act = asked_by question }
 
 -- what keeping a question and answering it comes to: its rows, that they are too many, or want of memory
 abbrev pub KeptAnswer : Type 0

@@ -1,5 +1,5 @@
 -- What watches say of a question that is asked now, and when one is set or ended.
-use Rattle.std.specs.Prelude.{◌≡◌, ℕ, true, List, [], ◌++◌, Option, Some, IfSome, Ok, ok_or}
+use Rattle.std.specs.Prelude.{◌≡◌, ℕ, List, [], ◌++◌, Option, IfSome}
 use Rattle.std.specs.Option.{option_map_or}
 use Rattle.hippo_values.specs.Texts.{Txt}
 use Rattle.hippo_model.specs.declared.audit.Audit.{Audit}
@@ -8,18 +8,10 @@ use Rattle.hippo_model.specs.Terms.{History}
 use Rattle.hippo_audit_job.specs.Examining.{IsAuditOf}
 use Rattle.hippo_watch.specs.declared.alarms.AskedNow.{AskedNow}
 use Rattle.hippo_watch.specs.Alarms.{IsAskedNext}
-use Rattle.hippo_replay.specs.Standing.{StandsFor}
-use Rattle.hippo_report.specs.declared.refusal.Refusal.TheVariants.{WatchLimit}
-use Rattle.hippo_world.specs.Worlds.{World, free_number}
-use Rattle.hippo_world.specs.Holding.{world_of}
+use Rattle.hippo_world.specs.Worlds.{World}
 use Rattle.hippo_world.specs.Auditing.{AreWatching}
-use Rattle.hippo_commands.specs.Commands.{Command, who_commands}
-use Rattle.hippo_engine.specs.declared.engine.Engine.{Engine}
-use Rattle.hippo_judging.specs.Checks.{Checked, ◌>>=◌}
-use Rattle.hippo_judging.specs.Deeds.{Deed, Question, asked_by, next_entry}
-use Rattle.hippo_judging.specs.Deeds as deeds
-use Rattle.hippo_engine.specs.Effects.{alarm_line, alarms_from, alarms, may_do_nothing}
-use Rattle.hippo_judging.specs.Judging.{judged}
+use Rattle.hippo_judging.specs.Deeds.{Question, asked_by, next_entry}
+use Rattle.hippo_engine.specs.Effects.{alarm_line, alarms_from, alarms}
 
 -- what stands at a watch's number says of a question that is asked now is added to a text
 abbrev pub AddsAlarm : AskedNow → ℕ → Option Audit → Txt → Txt → Type 0
@@ -36,15 +28,3 @@ AddsAlarms asked watches old new =
 -- what the watches of a world say of a question that is asked in it
 abbrev pub alarms_now : History → World → Question → Txt
 alarms_now history world question = alarms history world (next_entry history world (asked_by question))
-
--- a number that is free, for a watch
-abbrev pub watch_set : World → Audit → Checked Deed
-watch_set world audit = ok_or (free_number world.watches) WatchLimit >>= λ free. Ok (deeds.watch free audit)
-
--- a command of the console sets a watch where there is room for one, whatever history the state stands for
-pub record Watches (command : Command) (audit : Audit) (engine : Engine) : Type 0 where
-  pub who : who_commands command ≡ Some 0
-  pub memory : may_do_nothing command ≡ true
-  pub judged_so : (history : History) → StandsFor engine.state history
-      → judged history (world_of engine.world) command ≡ watch_set (world_of engine.world) audit
-  pub fits : (history : History) → StandsFor engine.state history → IsAuditOf history audit

@@ -3,13 +3,13 @@ ghost use Rattle.std.specs.Prelude.{◌≡◌, ◌≢◌, ◌⊎◌, ◌++◌, t
 ghost use Rattle.std.specs.Prelude.{Err as Bad};
 ghost use Rattle.std.specs.List.{IsDistinct};
 ghost use Rattle.std.specs.Result.{result_map_both};
-ghost use Rattle.hippo_values.specs.Texts.{Txt as Text};
-ghost use Rattle.hippo_model.specs.declared.statement.Stmt.TheVariants as stmt;
 ghost use Rattle.hippo_keeper.specs.Keeping.{IsReady};
 ghost use Rattle.hippo_report.specs.declared.refusal.Refusal.TheVariants as refusals;
 ghost use Rattle.hippo_report.specs.Flags.{flag_line};
 ghost use Rattle.hippo_report.specs.Refusals.{refusal_line};
-ghost use Rattle.hippo_commands.specs.Commands.{state as command};
+ghost use Rattle.hippo_commands.specs.Commands.{Command};
+ghost use Rattle.hippo_judging.specs.declared.deeds.Deed.TheVariants as deeds;
+ghost use Rattle.hippo_judging.specs.Findings.{Does};
 ghost use Rattle.hippo_engine.specs.declared.faults.EngineFault.TheVariants.{Write as WriteFailed};
 ghost use Rattle.hippo_engine.specs.Auditing.{FindsFlags, ended, told_flags, TellsFlags};
 ghost use Rattle.hippo_engine.specs.Carrying.{AtWork, Carries};
@@ -21,9 +21,8 @@ use crate::replies::refuse_for_memory;
 use hippo_audit_job::{Job, Past};
 use hippo_backlog::ReadFault;
 use hippo_combine::Combine;
-use hippo_judging::audit_in;
 use hippo_keeper::{Keeper, Steps};
-use hippo_model::{Audit, Flag, RawAudit};
+use hippo_model::{Audit, Flag};
 use hippo_replay::State;
 use hippo_report::{Format, flag_line, number_line};
 use hippo_values::Memory;
@@ -142,30 +141,24 @@ impl Engine {
         &mut self,
         alloc: Global,
         keeper: &mut P,
-        session: u8,
-        written: &RawAudit,
+        audit: Audit,
         steps: &mut Steps<L>,
     ) -> Result<(), EngineFault>
         requires at_work { AtWork self.old (P.state keeper.old) }
-        ensures carries { (text : Text) → Carries (command session (stmt.Audit written.now) text) result
-            self.old self.new (P.state keeper.old) (P.state keeper.new) steps.old steps.new }
+        requires differ { IsDistinct bytes_eq audit.tables }
+        ensures carries { (command : Command) → Does command (deeds.Audit audit) self.old.state self.old.world
+            → Carries command result self.old self.new
+            (P.state keeper.old) (P.state keeper.new) steps.old steps.new }
         ensures unwritten { result ≢ Bad WriteFailed }
     {
-        match audit_in(alloc, &self.state, session, written) {
-            Ok(audit) => tell_flags(
-                alloc,
-                keeper,
-                &self.state,
-                self.world.format,
-                audit,
-                &mut self.reply,
-                steps,
-            ),
-            Err(refusal) => {
-                self.refuse_command(session, &refusal);
-                drop(refusal);
-                Ok(())
-            }
-        }
+        tell_flags(
+            alloc,
+            keeper,
+            &self.state,
+            self.world.format,
+            audit,
+            &mut self.reply,
+            steps,
+        )
     }
 }

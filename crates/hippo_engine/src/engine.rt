@@ -5,17 +5,18 @@ ghost use Rattle.hippo_io.specs.LineTexts.{line_text};
 ghost use Rattle.hippo_io.specs.Told.{Appends, AppendsFront};
 ghost use Rattle.hippo_world.specs.Worlds.{opening};
 ghost use Rattle.hippo_world.specs.Holding.{world_of};
-ghost use Rattle.hippo_commands.specs.Commands.{state, commanded};
+ghost use Rattle.hippo_commands.specs.Commands.{commanded};
 ghost use Rattle.hippo_commands.specs.Lent.{command};
 ghost use Rattle.hippo_engine.specs.declared.faults.EngineFault.TheVariants.{Write as WriteFailed};
-ghost use Rattle.hippo_engine.specs.Carrying.{IsText, IsOfLine, AtWork, is_carried, Carries};
+ghost use Rattle.hippo_judging.specs.Findings.{IsOfLine};
+ghost use Rattle.hippo_engine.specs.Carrying.{IsText, AtWork, is_carried, Carries};
+ghost use Rattle.hippo_engine.specs.Performing.{Needs, Performs};
 
 use crate::faults::EngineFault;
 use hippo_commands::{Command, command_of};
 use hippo_io::{Line, Sink};
-use hippo_judging::written_question;
+use hippo_judging::{Deed, Delivery, judge, who_commands};
 use hippo_keeper::{Keeper, Steps};
-use hippo_model::Stmt;
 use hippo_replay::State;
 use hippo_report::Format;
 use hippo_values::{Memory, Moment, RoomyTxt};
@@ -94,41 +95,59 @@ impl Engine {
         self.reply.as_str()
     }
 
-    // Carries out a statement of a session or of the console.
-    fn state<P: Keeper, L: Ledger>(
+    // Performs what is to be done for a command.
+    fn perform<P: Keeper, L: Ledger>(
         &mut self,
         alloc: Global,
         keeper: &mut P,
-        session: u8,
-        statement: &Stmt,
-        text: &str,
+        deed: Deed<'_>,
         steps: &mut Steps<L>,
     ) -> Result<(), EngineFault>
         requires at_work { AtWork self.old (P.state keeper.old) }
-        requires of_line { IsOfLine (state session statement.now text.now) }
-        ensures carries { Carries (state session statement.now text.now) result self.old self.new
+        requires needs { Needs deed self.old }
+        ensures performs { Performs deed.entry result self.old self.new
             (P.state keeper.old) (P.state keeper.new) steps.old steps.new }
         ensures unwritten { result ≢ Err WriteFailed }
     {
-        match statement {
-            Stmt::Explain(number) => self.explain(alloc, keeper, session, number, steps),
-            Stmt::Audit(written) => self.audit(alloc, keeper, session, written, steps),
-            Stmt::BeginAudit(written) => {
-                self.begin_audit(alloc, session, written);
-                Ok(())
+        match deed {
+            Deed::DoNothing => self.do_nothing(),
+            Deed::SetClock { moment } => self.set_clock(moment),
+            Deed::LogIn {
+                session,
+                user,
+                pair,
+            } => self.log_in(alloc, session, user, pair),
+            Deed::LogOut { session } => self.log_out(session),
+            Deed::HandOut {
+                session,
+                cursor,
+                count,
+            } => self.hand_out(session, cursor, count),
+            Deed::CloseCursor { session, cursor } => self.close_cursor(session, cursor),
+            Deed::StepJob { job, count } => {
+                return self.step_job(alloc, keeper, job, count, steps);
             }
-            Stmt::Watch(written) => {
-                self.watch(alloc, session, written);
-                Ok(())
+            Deed::DropJob { job } => self.drop_job(job),
+            Deed::EndWatch { watch } => self.end_watch(watch),
+            Deed::Change { entry } => return self.change(alloc, keeper, entry),
+            Deed::Answer { question } => {
+                return self.question(alloc, keeper, question, Delivery::Rows);
             }
-            _ => match written_question(statement, text) {
-                Some(written) => self.question(alloc, keeper, session, &written),
-                None => self.change(alloc, keeper, session, statement),
-            },
+            Deed::OpenCursor { cursor, question } => {
+                return self.question(alloc, keeper, question, Delivery::Cursor(cursor));
+            }
+            Deed::Extract { question } => {
+                return self.question(alloc, keeper, question, Delivery::Records);
+            }
+            Deed::Explain { entry } => return self.explain(alloc, keeper, entry, steps),
+            Deed::Audit { audit } => return self.audit(alloc, keeper, audit, steps),
+            Deed::BeginAudit { job, audit } => self.begin_audit(alloc, job, audit),
+            Deed::Watch { watch, audit } => self.watch(watch, audit),
         }
+        Ok(())
     }
 
-    // Carries out what a line commands.
+    // Carries out what a line commands: it is judged, and what is found is performed, or the refusal is said.
     fn carry_out<P: Keeper, L: Ledger>(
         &mut self,
         alloc: Global,
@@ -142,24 +161,11 @@ impl Engine {
             (P.state keeper.old) (P.state keeper.new) steps.old steps.new }
         ensures unwritten { result ≢ Err WriteFailed }
     {
-        match found {
-            Command::Nothing => self.say_nothing(),
-            Command::Wrong { who, refusal } => self.refuse_whatever(who, &refusal),
-            Command::SetClock { moment } => self.set_clock(moment),
-            Command::Ask { session, request } => {
-                return self.ask(alloc, keeper, session, request, steps);
-            }
-            Command::State {
-                session,
-                statement,
-                text,
-            } => {
-                let result = self.state(alloc, keeper, session, &statement, text, steps);
-                drop(statement);
-                return result;
-            }
+        let who = who_commands(&found);
+        match judge(alloc, &self.state, &self.world, keeper, found, steps) {
+            Ok(deed) => self.perform(alloc, keeper, deed, steps),
+            Err(unjudged) => self.refuse_unjudged(who, unjudged),
         }
-        Ok(())
     }
 
     /// Carries out a line and makes its reply whole in memory; what it adds to the history is kept when the call

@@ -1,28 +1,24 @@
 //! Audit jobs at the console: one begins, looks on, or is dropped.
 ghost use Rattle.std.specs.Prelude.{◌≡◌, ◌≢◌, ◌++◌, bytes_eq, OnOk, Err as Bad};
 ghost use Rattle.std.specs.List.{IsDistinct};
-ghost use Rattle.hippo_values.specs.Texts.{Txt as Text};
-ghost use Rattle.hippo_model.specs.declared.statement.Stmt.TheVariants as stmt;
-ghost use Rattle.hippo_replay.specs.Standing.{IsSound};
 ghost use Rattle.hippo_lines.specs.Forms as requests;
-ghost use Rattle.hippo_commands.specs.Commands.{ask, state};
-ghost use Rattle.hippo_world.specs.Worlds.{free_number};
+ghost use Rattle.hippo_commands.specs.Commands.{ask};
 ghost use Rattle.hippo_engine.specs.declared.faults.EngineFault.TheVariants.{Write as WriteFailed};
+ghost use Rattle.hippo_judging.specs.Checks.{StandsJob};
 ghost use Rattle.hippo_engine.specs.Auditing.{ended};
 ghost use Rattle.hippo_engine.specs.Carrying.{AtWork, AddsNothing, Carries};
-ghost use Rattle.hippo_engine.specs.Jobs.{BeginsJob, progress_line, step_text, SaysStep, TellsStep};
+ghost use Rattle.hippo_engine.specs.Jobs.{BeginsAt, progress_line, step_text, SaysStep, TellsStep};
 
 use crate::auditing::append_flags;
 use crate::engine::{Engine, Reply};
 use crate::faults::EngineFault;
 use crate::fetching::{append_end, append_part};
-use crate::replies::{refuse, refuse_for_memory, say_done, say_number};
+use crate::replies::{refuse_for_memory, say_done, say_number};
 use hippo_audit_job::Past;
 use hippo_backlog::ReadFault;
-use hippo_judging::{audit_in, check_console};
 use hippo_keeper::{Keeper, Steps};
-use hippo_model::{Audit, RawAudit};
-use hippo_report::{Format, Refusal};
+use hippo_model::Audit;
+use hippo_report::Format;
 use hippo_values::Memory;
 use hippo_world::AuditJob;
 use std::alloc::Global;
@@ -89,41 +85,20 @@ fn tell_step(
 }
 
 impl Engine {
-    // A job begins at the lowest number that is free, over all that was asked so far. Takes no
-    // memory.
-    fn begin_job(&mut self, alloc: Global, audit: Audit)
+    /// A job begins at a number that is free, over all that was asked so far. Takes no memory.
+    pub(crate) fn begin_audit(&mut self, alloc: Global, number: usize, audit: Audit)
         requires differ { IsDistinct bytes_eq audit.tables }
-        ensures { BeginsJob (free_number self.old.world.jobs) audit self.old self.new }
+        ensures { BeginsAt number audit self.old self.new }
     {
-        match self.world.jobs.free() {
-            Some(number) => {
-                let job = AuditJob::begin(alloc, audit, self.state.count);
-                self.world.jobs.put(number, Some(job));
-                say_number(0, "job", number as u64, &mut self.reply);
-            }
-            None => {
-                drop(audit);
-                refuse(Some(0), &Refusal::JobLimit, &mut self.reply);
-            }
-        }
+        let job = AuditJob::begin(alloc, audit, self.state.count);
+        self.world.jobs.put(number, Some(job));
+        say_number(0, "job", number as u64, &mut self.reply);
     }
 
-    /// Begins an audit job of the console, whose number is said.
-    pub(crate) fn begin_audit(&mut self, alloc: Global, session: u8, written: &RawAudit)
-        requires sound { IsSound self.old.state }
-        ensures { (text : Text) → AddsNothing (state session (stmt.BeginAudit written.now) text) self.old self.new }
-    {
-        match audit_in(alloc, &self.state, session, written) {
-            Ok(audit) => self.begin_job(alloc, audit),
-            Err(refusal) => {
-                self.refuse_command(session, &refusal);
-                drop(refusal);
-            }
-        }
-    }
-
-    // Lets the job at a number look at so many further entries, and prints the flags that wait.
-    fn step_held<P: Keeper, L: Ledger>(
+    /// Lets the job at a number look at so many further entries. The flags that it finds are printed, or they wait where
+    /// memory is short. Answers `Keeper` only where the keeper failed, and `Damaged` only where it does not tell what it
+    /// keeps. Each version that is read counts as a step.
+    pub(crate) fn step_job<P: Keeper, L: Ledger>(
         &mut self,
         alloc: Global,
         keeper: &mut P,
@@ -132,6 +107,7 @@ impl Engine {
         steps: &mut Steps<L>,
     ) -> Result<(), EngineFault>
         requires at_work { AtWork self.old (P.state keeper.old) }
+        requires there { StandsJob self.old.world number }
         ensures carries { Carries (ask 0 (requests.steps number count)) result self.old self.new
             (P.state keeper.old) (P.state keeper.new) steps.old steps.new }
         ensures unwritten { result ≢ Bad WriteFailed }
@@ -149,64 +125,16 @@ impl Engine {
                 self.world.jobs.put(at, Some(job));
                 told
             }
-            None => {
-                refuse(Some(0), &Refusal::NoJob(u64::from(number)), &mut self.reply);
-                Ok(())
-            }
+            None => unreachable!(),
         }
     }
 
-    /// Lets an audit job of the console look at so many further entries. The flags that it finds
-    /// are printed, or they wait where memory is short. Answers `Keeper` only where the keeper
-    /// failed, and `Damaged` only where it does not tell what it keeps. Each version that is read
-    /// counts as a step.
-    pub(crate) fn step_job<P: Keeper, L: Ledger>(
-        &mut self,
-        alloc: Global,
-        keeper: &mut P,
-        session: u8,
-        number: u8,
-        count: u32,
-        steps: &mut Steps<L>,
-    ) -> Result<(), EngineFault>
-        requires at_work { AtWork self.old (P.state keeper.old) }
-        ensures carries { Carries (ask session (requests.steps number count)) result self.old self.new
-            (P.state keeper.old) (P.state keeper.new) steps.old steps.new }
-        ensures unwritten { result ≢ Bad WriteFailed }
-    {
-        match check_console(session) {
-            Ok(()) => self.step_held(alloc, keeper, number, count, steps),
-            Err(refusal) => {
-                refuse(Some(session), &refusal, &mut self.reply);
-                drop(refusal);
-                Ok(())
-            }
-        }
-    }
-
-    // Gives up the job at a number. Takes no memory.
-    fn drop_held(&mut self, number: u8)
+    /// Gives up the job at a number. Takes no memory.
+    pub(crate) fn drop_job(&mut self, number: u8)
+        requires there { StandsJob self.old.world number }
         ensures { AddsNothing (ask 0 (requests.drops number)) self.old self.new }
     {
-        match self.world.jobs.take(usize::from(number)) {
-            Some(job) => {
-                drop(job);
-                say_done(Some(0), &mut self.reply);
-            }
-            None => refuse(Some(0), &Refusal::NoJob(u64::from(number)), &mut self.reply),
-        }
-    }
-
-    /// Gives up an audit job of the console. Takes no memory.
-    pub(crate) fn drop_job(&mut self, session: u8, number: u8)
-        ensures { AddsNothing (ask session (requests.drops number)) self.old self.new }
-    {
-        match check_console(session) {
-            Ok(()) => self.drop_held(number),
-            Err(refusal) => {
-                refuse(Some(session), &refusal, &mut self.reply);
-                drop(refusal);
-            }
-        }
+        self.world.jobs.put(usize::from(number), None);
+        say_done(Some(0), &mut self.reply);
     }
 }

@@ -9,7 +9,6 @@ mod faults;
 mod fetching;
 mod jobs;
 pub mod laws;
-mod loading;
 mod plain;
 mod questions;
 mod replies;

@@ -1,31 +1,47 @@
-//! What a line does that says nothing or is refused whatever the history; and writing a reply.
+//! Saying why nothing is done for a line; and writing a reply.
 ghost use Rattle.std.specs.Prelude.{◌≡◌, ◌≢◌, true, Err, OnOk};
 ghost use Rattle.hippo_io.specs.Faults.{HasRisen};
 ghost use Rattle.hippo_io.specs.Told.{Appends, AppendsFront};
-ghost use Rattle.hippo_commands.specs.Commands.{nothing, wrong};
 ghost use Rattle.hippo_engine.specs.declared.faults.EngineFault.TheVariants.{Write as WriteFailed};
-ghost use Rattle.hippo_engine.specs.Carrying.{IsOfLine, is_carried, IsQuiet};
+ghost use Rattle.hippo_engine.specs.Carrying.{is_carried};
+ghost use Rattle.hippo_engine.specs.Performing.{SaysUnjudged};
 
 use crate::engine::Engine;
 use crate::faults::EngineFault;
-use crate::replies::refuse;
+use crate::replies::{refuse, refuse_for_memory};
+use hippo_backlog::ReadFault;
 use hippo_io::{Sink, write_whole};
+use hippo_judging::Unjudged;
 use hippo_report::Refusal;
 
 impl Engine {
-    /// A line that says nothing has no reply.
-    pub(crate) fn say_nothing(&mut self)
-        ensures { IsQuiet nothing self.old self.new }
+    /// Says why nothing is done for a command. Answers `Keeper` only where the keeper failed, and `Damaged` only where
+    /// it does not tell what it keeps.
+    pub(crate) fn refuse_unjudged(
+        &mut self,
+        who: Option<u8>,
+        unjudged: Unjudged,
+    ) -> Result<(), EngineFault>
+        ensures says { SaysUnjudged who unjudged result self.old self.new }
+        ensures unwritten { result ≢ Err WriteFailed }
     {
-        self.reply.clear();
-    }
-
-    /// A line that is refused whatever the history.
-    pub(crate) fn refuse_whatever(&mut self, who: Option<u8>, refusal: &Refusal)
-        requires { IsOfLine (wrong who refusal.now) }
-        ensures { IsQuiet (wrong who refusal.now) self.old self.new }
-    {
-        refuse(who, refusal, &mut self.reply);
+        match unjudged {
+            Unjudged::Refused(refusal) => {
+                refuse(who, &refusal, &mut self.reply);
+                drop(refusal);
+                Ok(())
+            }
+            Unjudged::NoQuestion(number) => {
+                refuse(Some(0), &Refusal::NoSuchQuery(number), &mut self.reply);
+                Ok(())
+            }
+            Unjudged::Unread(ReadFault::Memory) => {
+                refuse_for_memory(Some(0), &mut self.reply);
+                Ok(())
+            }
+            Unjudged::Unread(ReadFault::Keeper) => Err(EngineFault::Keeper),
+            Unjudged::Unread(ReadFault::Damaged(number)) => Err(EngineFault::Damaged(number)),
+        }
     }
 
     /// Writes the reply to the last line.

@@ -1,7 +1,6 @@
 //! Questions: each is kept before it is answered.
 ghost use Rattle.std.specs.Prelude.{◌≡◌, ◌≢◌, ◌⊎◌, ℕ, ◌+◌, ◌<◌, ◌≤◌, ◌^◌, List, [], ◌∷◌, ◌++◌};
 ghost use Rattle.std.specs.Prelude.{length, true, Some, Err as Bad, IfOk, OnOk};
-ghost use Rattle.hippo_values.specs.Moments.{is_moment};
 ghost use Rattle.hippo_model.specs.declared.entry.Act.TheVariants.{Asked};
 ghost use Rattle.hippo_model.specs.Terms.{History, ShownRow};
 ghost use Rattle.hippo_model.specs.Validity.{may_follow};
@@ -15,12 +14,13 @@ ghost use Rattle.hippo_replay.specs.Standing.{StandsFor, MayFollow, IsNext, take
 ghost use Rattle.hippo_world.specs.declared.sessions.Session.{Session as KeptSession};
 ghost use Rattle.hippo_world.specs.Worlds.{session_at};
 ghost use Rattle.hippo_world.specs.Holding.{world_of, KeepsAudits};
-ghost use Rattle.hippo_following.specs.Written.{names_fit};
+ghost use Rattle.hippo_commands.specs.Commands.{Command};
 ghost use Rattle.hippo_engine.specs.declared.faults.EngineFault.TheVariants.{Write as WriteFailed};
-ghost use Rattle.hippo_engine.specs.Carrying.{IsOfLine, AtWork, IsBacked, Carries};
+ghost use Rattle.hippo_engine.specs.Carrying.{AtWork, IsBacked, Carries};
 ghost use Rattle.hippo_engine.specs.Effects.{row_limit, question_rows, listed};
-ghost use Rattle.hippo_judging.specs.Asking.{question_of, command_of, IsAnswerable};
-ghost use Rattle.hippo_engine.specs.Questions.{entry_of, Asks, short_line, answer_said, world_left};
+ghost use Rattle.hippo_judging.specs.Asking.{question_of, entry_of, IsAnswerable};
+ghost use Rattle.hippo_judging.specs.Findings.{MayBeAsked};
+ghost use Rattle.hippo_engine.specs.Questions.{Asks, short_line, answer_said, world_left};
 ghost use Rattle.hippo_engine.specs.Questions.{IsUnkept, IsHandedOut, IsShort, HandsOut, Replies};
 
 use crate::engine::{Engine, Reply};
@@ -30,8 +30,7 @@ use crate::watches::alarms_of;
 use hippo_answering::answer;
 use hippo_csv::extract_lines;
 use hippo_eval::EvalFault;
-use hippo_following::{moment_fits, name_fits};
-use hippo_judging::{Asking, Delivery, WrittenQuestion, asks};
+use hippo_judging::{Asking, Delivery, Question};
 use hippo_keeper::{Keeper, KeeperFault};
 use hippo_model::{Act, Answer, CellRow, Entry};
 use hippo_replay::State;
@@ -39,16 +38,6 @@ use hippo_report::{Refusal, answer_lines, number_line, refusal_line};
 use hippo_values::{Duplicate, Memory, Moment, Txt};
 use hippo_world::{Session, World};
 use std::alloc::Global;
-
-// By their types who asks, and what for, are named in lower case.
-fn names_fit(asking: &Asking<'_>)
-    ensures { names_fit asking.now.asker.now.user asking.now.asker.now.pair.purpose
-        asking.now.asker.now.pair.recipient ≡ true }
-{
-    name_fits(&asking.asker.user);
-    name_fits(&asking.asker.pair.purpose);
-    name_fits(&asking.asker.pair.recipient);
-}
 
 fn asked_act(alloc: Global, asker: &Session, text: &str) -> Result<Act, Memory>
     ensures { IfOk result (λ act.
@@ -154,16 +143,12 @@ fn keep_and_answer<P: Keeper>(
 ) -> Result<Result<Answer, EvalFault>, KeeperFault>
     requires backed { IsBacked state.old (P.state keeper.old) }
     requires number { state.old.count + 1 < 2 ^ 63 }
-    requires follows { names_fit asking.now.asker.now.user asking.now.asker.now.pair.purpose
-        asking.now.asker.now.pair.recipient ≡ true → is_moment world.now.clock ≡ true
-        → MayFollow state.old (entry_of state.old world.now.clock (question_of 0 asking.now)) }
+    requires follows { MayFollow state.old (entry_of state.old world.now.clock (question_of 0 asking.now)) }
     requires answerable { IsAnswerable state.old asking.now.query }
     ensures asks { (session : ℕ) → Asks (entry_of state.old world.now.clock (question_of session asking.now))
         (world_of world.now) (question_of session asking.now) result
         state.old state.new (P.state keeper.old) (P.state keeper.new) }
 {
-    names_fit(asking);
-    moment_fits(world.clock);
     match entry_of(alloc, state, &world.clock, asking) {
         Ok(entry) => {
             let answer = keep_entry(alloc, keeper, state, world, asking, &entry);
@@ -388,18 +373,25 @@ impl Engine {
         &mut self,
         alloc: Global,
         keeper: &mut P,
-        session: u8,
-        written: &WrittenQuestion<'_>,
+        question: Question<'_>,
+        delivery: Delivery,
     ) -> Result<(), EngineFault>
         requires at_work { AtWork self.old (P.state keeper.old) }
-        requires of_line { IsOfLine (command_of session written.now) }
-        ensures carries { (steps : ℕ) → Carries (command_of session written.now) result self.old self.new
-            (P.state keeper.old) (P.state keeper.new) steps steps }
+        requires needs { (command : Command) × MayBeAsked command question delivery self.old.state self.old.world }
+        ensures carries { (command : Command) (steps : ℕ)
+            → MayBeAsked command question.entry delivery self.old.state self.old.world
+            → Carries command result self.old self.new (P.state keeper.old) (P.state keeper.new) steps steps }
         ensures unwritten { result ≢ Bad WriteFailed }
     {
-        match asks(alloc, &self.state, &self.world, session, written) {
-            Ok(asking) => {
-                let delivery = asking.delivery;
+        let session = question.session;
+        match self.world.session(session) {
+            Some(asker) => {
+                let asking = Asking {
+                    asker: &*asker,
+                    text: &*question.text,
+                    query: question.query,
+                    delivery,
+                };
                 let alarms = alarms_of(alloc, &self.state, &self.world, &asking);
                 let kept = keep_and_answer(alloc, keeper, &mut self.state, &self.world, &asking);
                 drop(asking);
@@ -413,11 +405,7 @@ impl Engine {
                     &mut self.reply,
                 )
             }
-            Err(refusal) => {
-                refuse(Some(session), &refusal, &mut self.reply);
-                drop(refusal);
-                Ok(())
-            }
+            None => unreachable!(),
         }
     }
 }

@@ -3,28 +3,26 @@ ghost use Rattle.std.specs.Prelude.{◌≡◌, ◌+◌, ◌<◌, ◌^◌, ◌++�
 ghost use Rattle.std.specs.Prelude.{OnOk};
 ghost use Rattle.std.specs.List.{IsDistinct, list_any};
 ghost use Rattle.std.specs.Option.{option_map_or};
-ghost use Rattle.hippo_values.specs.Texts.{Txt as Text};
-ghost use Rattle.hippo_model.specs.declared.statement.Stmt.TheVariants as stmt;
 ghost use Rattle.hippo_model.specs.Terms.{History};
-ghost use Rattle.hippo_lines.specs.Forms.{unwatches};
 ghost use Rattle.hippo_typing.specs.Meanings.{meaning};
 ghost use Rattle.hippo_watch.specs.Alarms.{AreOfSome};
 ghost use Rattle.hippo_watch.specs.AlarmLines.{alarm_text};
 ghost use Rattle.hippo_replay.specs.Standing.{StandsFor, IsSound};
 ghost use Rattle.hippo_world.specs.Holding.{world_of, WatchesFit};
-ghost use Rattle.hippo_commands.specs.Commands.{Command, ask, state as command};
+ghost use Rattle.hippo_commands.specs.Commands.{Command};
+ghost use Rattle.hippo_judging.specs.declared.deeds.Deed.TheVariants as deeds;
+ghost use Rattle.hippo_judging.specs.Findings.{Does};
 ghost use Rattle.hippo_judging.specs.Asking.{question_of};
 ghost use Rattle.hippo_judging.specs.Deeds.{Question as AskedQuestion};
 ghost use Rattle.hippo_engine.specs.Carrying.{AddsNothing};
-ghost use Rattle.hippo_engine.specs.Watching.{AddsAlarm, AddsAlarms, alarms_now, Watches};
+ghost use Rattle.hippo_engine.specs.Watching.{AddsAlarm, AddsAlarms, alarms_now};
 
 use crate::engine::{Engine, Reply};
-use crate::replies::{refuse, say_done, say_number};
+use crate::replies::{say_done, say_number};
 use hippo_audit_job::Past;
-use hippo_judging::{Asking, audit_in, held_watch};
-use hippo_model::{Audit, Pair, Query, RawAudit, SharedTuple};
+use hippo_judging::Asking;
+use hippo_model::{Audit, Pair, Query, SharedTuple};
 use hippo_replay::State;
-use hippo_report::Refusal;
 use hippo_typing::read_meaning;
 use hippo_values::Memory;
 use hippo_watch::{AskedNow, alarm, alarm_line};
@@ -181,48 +179,22 @@ pub(crate) fn alarms_of(
 }
 
 impl Engine {
-    // Sets a watch at the lowest number that is free.
-    fn set_watch(&mut self, audit: Audit)
+    /// Sets a watch at a number that is free. Takes no memory.
+    pub(crate) fn watch(&mut self, number: usize, audit: Audit)
         requires differ { IsDistinct bytes_eq audit.tables }
-        ensures { (command : Command) → Watches command audit self.old → AddsNothing command self.old self.new }
+        ensures { (command : Command) → Does command (deeds.Watch number audit) self.old.state self.old.world
+            → AddsNothing command self.old self.new }
     {
-        match self.world.watches.free() {
-            Some(number) => {
-                self.world.watches.put(number, Some(Watch::new(audit)));
-                say_number(0, "watch", number as u64, &mut self.reply);
-            }
-            None => {
-                drop(audit);
-                self.refuse_command(0, &Refusal::WatchLimit);
-            }
-        }
-    }
-
-    /// Watches from now on for what an audit flags, at the console alone, where its names and types
-    /// mean something.
-    pub(crate) fn watch(&mut self, alloc: Global, session: u8, written: &RawAudit)
-        requires { IsSound self.old.state }
-        ensures { (text : Text) → AddsNothing (command session (stmt.Watch written.now) text) self.old self.new }
-    {
-        match audit_in(alloc, &self.state, session, written) {
-            Ok(audit) => self.set_watch(audit),
-            Err(refusal) => {
-                self.refuse_command(session, &refusal);
-                drop(refusal);
-            }
-        }
+        self.world.watches.put(number, Some(Watch::new(audit)));
+        say_number(0, "watch", number as u64, &mut self.reply);
     }
 
     /// Ends a watch. Takes no memory.
-    pub(crate) fn unwatch(&mut self, session: u8, number: u8)
-        ensures { AddsNothing (ask session (unwatches number)) self.old self.new }
+    pub(crate) fn end_watch(&mut self, number: u8)
+        ensures { (command : Command) → Does command (deeds.EndWatch number) self.old.state self.old.world
+            → AddsNothing command self.old self.new }
     {
-        match held_watch(&self.world, session, number) {
-            Ok(()) => {
-                self.world.watches.put(usize::from(number), None);
-                say_done(Some(0), &mut self.reply);
-            }
-            Err(refusal) => refuse(Some(session), &refusal, &mut self.reply),
-        }
+        self.world.watches.put(usize::from(number), None);
+        say_done(Some(0), &mut self.reply);
     }
 }

@@ -56,11 +56,11 @@ judged_asked Rows history world session select start end text = refl
 judged_asked Records history world session select start end text = refl
 judged_asked Cursor history world session select start end text = refl
 
-pub judged_written : (written : WrittenQuestion) (history : History) (world : World) (session : ℕ)
-    → judged history world (command_of session written)
-    ≡ judged_question written.handing history world session written.select.now (text_of written)
-judged_written written history world session =
-    judged_asked written.handing history world session written.select.now written.start written.end written.text.now
+pub judged_written : (written : WrittenQuestion) (text : Txt) (history : History) (world : World) (session : ℕ)
+    → judged history world (command_of session written text)
+    ≡ judged_question written.handing history world session written.select.now (text_of written text)
+judged_written written text history world session =
+    judged_asked written.handing history world session written.select.now written.start written.end text
 
 front_none : {A : Type 0} (front rest : List A) → front ++ rest ≡ [] → front ≡ []
 front_none [] rest none = refl

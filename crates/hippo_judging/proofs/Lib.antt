@@ -5,3 +5,6 @@ pub mod AskingLemmas
 pub mod AuditLemmas
 pub mod EntryLemmas
 pub mod FollowingLemmas
+mod AskedLemmas
+mod FindingLemmas
+mod LookUpLemmas

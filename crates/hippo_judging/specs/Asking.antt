@@ -1,6 +1,8 @@
 -- What is found where a question may be asked.
-use Rattle.std.specs.Prelude.{◌≡◌, ℕ, nat_le, Bool, true, false, Option, Some, None, Ok, Err}
+use Rattle.std.specs.Prelude.{◌≡◌, ℕ, ◌+◌, nat_le, Bool, true, false, Option, Some, None, Ok, Err}
 use Rattle.hippo_values.specs.Texts.{Txt}
+use Rattle.hippo_values.specs.declared.moments.Moment.{Moment}
+use Rattle.hippo_model.specs.declared.entry.Entry.{Entry}
 use Rattle.hippo_model.specs.declared.query.Query.{Query}
 use Rattle.hippo_model.specs.declared.statement.RawSelect.{RawSelect}
 use Rattle.hippo_model.specs.declared.statement.Stmt.{Stmt}
@@ -17,7 +19,7 @@ use Rattle.hippo_judging.specs.declared.asking.Handing.{Handing}
 use Rattle.hippo_judging.specs.declared.asking.Handing.TheVariants.{Rows, Records, Cursor}
 use Rattle.hippo_judging.specs.declared.asking.WrittenQuestion.{WrittenQuestion}
 use Rattle.hippo_judging.specs.Checks.{Checked, ◌>>=◌, refused_if}
-use Rattle.hippo_judging.specs.Deeds.{Deed, Question}
+use Rattle.hippo_judging.specs.Deeds.{Deed, Question, asked_by}
 use Rattle.hippo_judging.specs.Judging.{text_between, delivery_for, deed_for}
 
 -- the question that is asked in a session, whose asker and text are lent
@@ -36,15 +38,15 @@ statement_asked Rows select start end = stmt.Select select start end
 statement_asked Records select start end = stmt.Extract select start end
 statement_asked Cursor select start end = stmt.Ask select start end
 
--- the statement of a written question, the command that it is in a session, and its own text
+-- the statement of a written question, the command that it is in a session and a text, and its own text
 abbrev pub statement_of : WrittenQuestion → Stmt
 statement_of written = statement_asked written.handing written.select.now written.start written.end
 
-abbrev pub command_of : ℕ → WrittenQuestion → Command
-command_of session written = commands.state session (statement_of written) written.text.now
+abbrev pub command_of : ℕ → WrittenQuestion → Txt → Command
+command_of session written text = commands.state session (statement_of written) text
 
-abbrev pub text_of : WrittenQuestion → Txt
-text_of written = text_between written.text.now written.start written.end
+abbrev pub text_of : WrittenQuestion → Txt → Txt
+text_of written text = text_between text written.start written.end
 
 -- a statement that asks a question
 abbrev pub is_asking : Stmt → Bool
@@ -53,10 +55,10 @@ is_asking (stmt.Extract select start end) = true
 is_asking (stmt.Ask select start end) = true
 is_asking statement = false
 
--- the question that a statement asks in a text; none where it asks nothing
-abbrev pub IsWritten : Stmt → Txt → Option WrittenQuestion → Type 0
-IsWritten statement text (Some written) = (statement ≡ statement_of written) × (written.text.now ≡ text)
-IsWritten statement text None = is_asking statement ≡ false
+-- the question that a statement asks; none where it asks nothing
+abbrev pub IsWritten : Stmt → Option WrittenQuestion → Type 0
+IsWritten statement (Some written) = statement ≡ statement_of written
+IsWritten statement None = is_asking statement ≡ false
 
 -- how an answer is handed out, where there is room for one entry more
 abbrev pub delivery_in_room : Handing → Session → ℕ → ℕ → Checked Delivery
@@ -72,6 +74,10 @@ asking_with asking (Err refusal) = Err refusal
 -- what is to be done for a question that was found
 abbrev pub deed_asked : ℕ → Asking → Deed
 deed_asked session asking = deed_for asking.asker.now (question_of session asking) asking.delivery
+
+-- the entry of a question that comes next
+abbrev pub entry_of : State → Moment → Question → Entry
+entry_of state clock question = record { seq = state.count + 1; moment = clock; act = asked_by question }
 
 -- a query that a state can answer: its tables are kept
 pub record IsAnswerable (state : State) (query : Query) : Type 0 where

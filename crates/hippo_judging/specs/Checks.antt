@@ -1,5 +1,5 @@
 -- The checks of a line, one after the other; the first that fails refuses it.
-use Rattle.std.specs.Prelude.{◌≡◌, ◌⊎◌, ℕ, ◌==◌, ℤ, pos, Bool, true, false, not, nat_le, if◌then◌else◌, List, [], ◌∷◌, length, find, ◌&&◌, Option, is_some, Result, Ok, Err, ok_or}
+use Rattle.std.specs.Prelude.{◌≡◌, ◌⊎◌, ℕ, ◌==◌, ℤ, pos, Bool, true, false, not, nat_le, if◌then◌else◌, List, [], ◌∷◌, length, find, ◌&&◌, Option, Some, is_some, Result, Ok, Err, ok_or}
 use Rattle.std.specs.Ordering.{int_eq}
 use Rattle.hippo_model.specs.declared.audit.Pair.{Pair}
 use Rattle.hippo_values.specs.declared.names.Name.{Name}
@@ -13,10 +13,13 @@ use Rattle.hippo_model.specs.declared.table_fault.TableFault.{TableFault}
 use Rattle.hippo_model.specs.declared.table_fault.TableFault.TheVariants as tables
 use Rattle.hippo_model.specs.Rules.{authorized_at}
 use Rattle.hippo_model.specs.Terms.{History}
+use Rattle.hippo_audit_job.specs.Jobs.{OpenAudit}
 use Rattle.hippo_report.specs.declared.refusal.Refusal.{Refusal}
-use Rattle.hippo_report.specs.declared.refusal.Refusal.TheVariants.{NoSession, SessionOpen, NotAuthorized, ConsoleOnly, SessionsOnly, Meaningless, KeyThere, KeyMissing, HistoryFull, NoCursor, NoWatch, Memory}
+use Rattle.hippo_report.specs.declared.refusal.Refusal.TheVariants.{NoSession, SessionOpen, NotAuthorized, ConsoleOnly, SessionsOnly, Meaningless, KeyThere, KeyMissing, HistoryFull, NoCursor, NoJob, NoWatch, Memory}
 use Rattle.hippo_world.specs.declared.cursors.Cursor.{Cursor}
 use Rattle.hippo_world.specs.declared.sessions.Session.{Session}
+use Rattle.hippo_world.specs.declared.worlds.World.{World as HeldWorld}
+use Rattle.hippo_world.specs.Auditing.{HeldJob}
 use Rattle.hippo_world.specs.Worlds.{World, at_number, session_at}
 
 -- what a check finds, or the refusal
@@ -101,6 +104,14 @@ is_question act = false
 -- the question with this number
 abbrev pub question_at : History → ℤ → Option Entry
 question_at history number = find (λ entry. int_eq (pos entry.seq) number && is_question entry.act) history
+
+-- the job with a number
+abbrev pub job_at : World → ℕ → ℕ → Checked OpenAudit
+job_at world number at = by_console number >>= λ _. ok_or (at_number world.jobs at) (NoJob at)
+
+-- a job stands at this number
+abbrev pub StandsJob : HeldWorld → ℕ → Type 0
+StandsJob world number = (job : HeldJob) × (at_number world.jobs number ≡ Some job)
 
 -- a watch stands at this number
 abbrev pub held_watch : World → ℕ → ℕ → Checked (Unit {0})

@@ -4,3 +4,4 @@ pub mod Judging
 pub mod Changes
 pub mod Asking
 pub mod Entries
+pub mod Findings

@@ -1,21 +1,25 @@
-//! Questions of sessions: what is asked, or why it may not be.
-ghost use Rattle.std.specs.Prelude.{◌≡◌, ◌+◌, ◌<◌, ◌≤◌, ◌^◌, length, MatchResult, IfOk, OnOk};
+//! Questions of sessions: what is to be done for each, or why it may not be asked.
+ghost use Rattle.std.specs.Prelude.{◌≡◌, ◌+◌, ◌<◌, ◌≤◌, ◌^◌, length, true, MatchResult, IfOk, OnOk};
 ghost use Rattle.std.specs.Prelude.{Ok as Good, Err as Bad};
 ghost use Rattle.hippo_values.specs.Limits.{line_limit};
 ghost use Rattle.hippo_model.specs.Terms.{History};
 ghost use Rattle.hippo_report.specs.declared.refusal.Refusal.TheVariants.{Memory as NoMemory};
 ghost use Rattle.hippo_catalog.specs.Catalogs.{known_at};
 ghost use Rattle.hippo_catalog.specs.Selects.{select_refused, query_of};
-ghost use Rattle.hippo_replay.specs.Standing.{StandsFor, IsSound};
+ghost use Rattle.hippo_following.specs.Written.{names_fit};
+ghost use Rattle.hippo_replay.specs.Standing.{StandsFor, IsSound, IsTimely};
 ghost use Rattle.hippo_world.specs.Holding.{world_of};
 ghost use Rattle.hippo_judging.specs.Checks.{Finds, open_session, meant};
 ghost use Rattle.hippo_judging.specs.declared.asking.Delivery.TheVariants as delivered;
-ghost use Rattle.hippo_judging.specs.Judging.{delivery_for, judged_question, judged};
-ghost use Rattle.hippo_judging.specs.Asking.{IsWritten, text_of, command_of, IsAnswerable};
+ghost use Rattle.hippo_judging.specs.Judging.{delivery_for, judged_question, text_between};
+ghost use Rattle.hippo_judging.specs.Asking.{IsWritten, command_of, IsAnswerable};
 ghost use Rattle.hippo_judging.specs.Asking.{delivery_in_room, asking_with, deed_asked};
+ghost use Rattle.hippo_judging.specs.Findings.{IsOfLine, FindsDeed, deed_by};
 
+use crate::deeds::{Deed, Question};
 use crate::refusals::{check_room, name_refusal};
 use crate::session_checks::{check_allowed, open_session};
+use hippo_following::{moment_fits, name_fits};
 use hippo_model::{Query, RawSelect, Stmt};
 use hippo_replay::State;
 use hippo_report::Refusal;
@@ -33,13 +37,12 @@ pub enum Handing {
     Cursor,
 }
 
-/// A question as it is written: its select, what its answer is to be, and the text in which it stands, with where it
-/// begins and ends there, in bytes.
+/// A question as it is written: its select, what its answer is to be, and where it begins and ends in its text, in
+/// bytes.
 #[derive(Clone, Copy)]
 pub struct WrittenQuestion<'a> {
     pub handing: Handing,
     pub select: &'a RawSelect,
-    pub text: &'a str,
     pub start: usize,
     pub end: usize,
 }
@@ -62,9 +65,9 @@ pub struct Asking<'a> {
     pub delivery: Delivery,
 }
 
-/// The question that a statement asks in a text; none where it asks nothing.
-pub fn written_question<'a>(statement: &'a Stmt, text: &'a str) -> Option<WrittenQuestion<'a>>
-    ensures { IsWritten statement.now text.now result }
+/// The question that a statement asks; none where it asks nothing.
+pub(crate) fn written_question(statement: &Stmt) -> Option<WrittenQuestion<'_>>
+    ensures { IsWritten statement.now result }
 {
     let (handing, select, start, end) = match statement {
         Stmt::Select { select, start, end } => (Handing::Rows, select, start, end),
@@ -75,28 +78,26 @@ pub fn written_question<'a>(statement: &'a Stmt, text: &'a str) -> Option<Writte
     Some(WrittenQuestion {
         handing,
         select,
-        text,
         start: *start,
         end: *end,
     })
 }
 
-impl WrittenQuestion<'_> {
-    // The text of the question alone; one that cannot be cut out, or is longer than a line, is answered by want of
-    // memory.
-    fn cut(&self) -> Result<&str, Refusal>
-        ensures cut { MatchResult result (λ cut. cut.now ≡ text_of self.now) (λ refusal. refusal ≡ NoMemory) }
-        ensures short { OnOk result (length (text_of self.now) ≤ line_limit) }
-    {
-        match self.text.get(self.start..self.end) {
-            Some(cut) => {
-                if cut.len() > LINE_LIMIT {
-                    return Err(Refusal::Memory);
-                }
-                Ok(cut)
+// The part of a text that is a question; one that cannot be cut out, or is longer than a line, is answered by want of
+// memory.
+fn cut(text: &str, start: usize, end: usize) -> Result<&str, Refusal>
+    ensures cut { MatchResult result (λ cut. cut.now ≡ text_between text.now start end)
+        (λ refusal. refusal ≡ NoMemory) }
+    ensures short { OnOk result (length (text_between text.now start end) ≤ line_limit) }
+{
+    match text.get(start..end) {
+        Some(cut) => {
+            if cut.len() > LINE_LIMIT {
+                return Err(Refusal::Memory);
             }
-            None => Err(Refusal::Memory),
+            Ok(cut)
         }
+        None => Err(Refusal::Memory),
     }
 }
 
@@ -195,6 +196,7 @@ fn question<'a>(
         result }
     ensures asker { IfOk result (λ asking. open_session (world_of world.now) session ≡ Good asking.asker.now) }
     ensures answerable { IfOk result (λ asking. IsAnswerable state.now asking.query) }
+    ensures text { IfOk result (λ asking. asking.text.now ≡ text.now) }
     ensures below { OnOk result (state.now.count + 1 < 2 ^ 63) }
 {
     let asker = asker(world, session)?;
@@ -210,24 +212,55 @@ fn question<'a>(
     with_delivery(asking, delivery)
 }
 
-/// What a SELECT, an EXTRACT or an OPEN asks, or why it may not be asked: its session has to be
-/// open, its user still authorized, its names and types have to mean something, an OPEN's session
-/// has to have a cursor left, and the history has to have room. Want of memory may refuse it, too.
-pub fn asks<'a>(
+// By their types who asks, and what for, are named in lower case.
+fn names_fit(asker: &Session)
+    ensures { names_fit asker.now.user asker.now.pair.purpose asker.now.pair.recipient ≡ true }
+{
+    name_fits(&asker.user);
+    name_fits(&asker.pair.purpose);
+    name_fits(&asker.pair.recipient);
+}
+
+// What is to be done for a question, whose text is the line's own.
+fn deed_of<'t>(session: u8, text: &'t str, asking: Asking<'_>) -> Deed<'t>
+    ensures { result ≡ deed_by (record { session = session; text = text.entry; query = asking.entry.query })
+        asking.entry.delivery }
+{
+    let question = Question {
+        session,
+        text,
+        query: asking.query,
+    };
+    match asking.delivery {
+        Delivery::Rows => Deed::Answer { question },
+        Delivery::Records => Deed::Extract { question },
+        Delivery::Cursor(cursor) => Deed::OpenCursor { cursor, question },
+    }
+}
+
+/// What is to be done for a SELECT, an EXTRACT or an OPEN that stands in a text, or why it may not be asked: its session
+/// has to be open, its user still authorized, its names and types have to mean something, an OPEN's session has to have
+/// a cursor left, and the history has to have room. Want of memory may refuse it, too.
+pub(crate) fn judge_question<'t>(
     alloc: Global,
     state: &State,
-    world: &'a World,
+    world: &World,
     session: u8,
-    written: &'a WrittenQuestion<'_>,
-) -> Result<Asking<'a>, Refusal>
-    requires { IsSound state.now }
-    ensures found { (history : History) → StandsFor state.now history → Finds (deed_asked session)
-        (judged history (world_of world.now) (command_of session written.now)) result }
-    ensures asker { IfOk result (λ asking. open_session (world_of world.now) session ≡ Good asking.asker.now) }
-    ensures answerable { IfOk result (λ asking. IsAnswerable state.now asking.query) }
-    ensures below { OnOk result (state.now.count + 1 < 2 ^ 63) }
-    ensures short { OnOk result (length (text_of written.now) ≤ line_limit) }
+    written: &WrittenQuestion<'_>,
+    text: &'t str,
+) -> Result<Deed<'t>, Refusal>
+    requires sound { IsSound state.now }
+    requires timely { IsTimely state.now world.now.clock }
+    requires of_line { IsOfLine (command_of session written.now text.now) }
+    ensures { FindsDeed (command_of session written.now text.now) result state.now world.now }
 {
-    let text = written.cut()?;
-    question(alloc, state, world, session, written, text)
+    let part = cut(text, written.start, written.end)?;
+    match question(alloc, state, world, session, written, part) {
+        Ok(asking) => {
+            names_fit(asking.asker);
+            moment_fits(world.clock);
+            Ok(deed_of(session, part, asking))
+        }
+        Err(refusal) => Err(refusal),
+    }
 }

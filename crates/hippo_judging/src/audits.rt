@@ -35,7 +35,7 @@ fn meaning(alloc: Global, catalog: &Catalog, written: &RawAudit) -> Result<Audit
 
 /// The audit that an audit expression of the console means; or its first refusal: that it is a
 /// session's, or that its names, types or period are wrong. Want of memory may refuse it, too.
-pub fn audit_in(
+pub(crate) fn audit_in(
     alloc: Global,
     state: &State,
     session: u8,

@@ -116,7 +116,7 @@ pub(crate) fn entry_for(
 /// It may follow the history. Or its first refusal: that it is a session's, that its names or types
 /// are wrong, that the rows which are there do not let it be, or that the history is full. Want of
 /// memory may refuse it, too.
-pub fn entry_of_change(
+pub(crate) fn entry_of_change(
     alloc: Global,
     state: &State,
     world: &World,

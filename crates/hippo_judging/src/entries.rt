@@ -1,19 +1,22 @@
 //! The entry with a number, read from the history that a keeper keeps.
 ghost use Rattle.std.specs.Prelude.{◌≡◌, ◌≤◌, ◌∷◌, [], true};
+ghost use Rattle.std.specs.Bool.{then_some};
 ghost use Rattle.hippo_keeper.specs.Keeping.{IsReady};
 ghost use Rattle.hippo_judging.specs.Checks.{is_question};
 ghost use Rattle.hippo_judging.specs.Entries.{number_in, IsRead, ReadsEntry};
+ghost use Rattle.hippo_judging.specs.Findings.{LooksUp};
 
 use hippo_backlog::{ReadFault, fault_of};
 use hippo_entry::decode;
 use hippo_keeper::{Keeper, Steps};
 use hippo_model::{Act, Entry, StoredEntry};
+use hippo_replay::State;
 use hippo_values::Memory;
 use std::alloc::Global;
 use std::sync::ledger::Ledger;
 
-/// A number as that of one of so many entries; none where it is below one or above their count.
-pub fn number_in(number: &i64, count: u64) -> Option<u64>
+// A number as that of one of so many entries; none where it is below one or above their count.
+fn number_in(number: &i64, count: u64) -> Option<u64>
     ensures { result ≡ number_in number.now count }
 {
     if *number < 1 {
@@ -23,8 +26,8 @@ pub fn number_in(number: &i64, count: u64) -> Option<u64>
     if number <= count { Some(number) } else { None }
 }
 
-/// Whether an act is a question.
-pub fn is_question(act: &Act) -> bool
+// Whether an act is a question.
+fn is_question(act: &Act) -> bool
     ensures { result ≡ is_question act.now }
 {
     matches!(act, Act::Asked { .. })
@@ -58,10 +61,10 @@ fn first_entry(alloc: Global, list: &[StoredEntry], number: u64) -> Result<Entry
     }
 }
 
-/// The entry with a number in the history that a keeper keeps. Or a fault: `Keeper` only where the
-/// keeper failed, `Damaged` only where it does not tell what it keeps, or want of memory. A version
-/// that is read counts as a step.
-pub fn read_entry<P: Keeper, L: Ledger>(
+// The entry with a number in the history that a keeper keeps. Or a fault: `Keeper` only where the
+// keeper failed, `Damaged` only where it does not tell what it keeps, or want of memory. A version
+// that is read counts as a step.
+fn read_entry<P: Keeper, L: Ledger>(
     alloc: Global,
     keeper: &mut P,
     number: u64,
@@ -78,5 +81,39 @@ pub fn read_entry<P: Keeper, L: Ledger>(
             entry
         }
         Err(fault) => Err(fault_of(fault)),
+    }
+}
+
+// An entry, if it is a question.
+fn if_question(entry: Entry) -> Option<Entry>
+    ensures { result ≡ then_some (is_question entry.act) entry }
+{
+    if is_question(&entry.act) {
+        Some(entry)
+    } else {
+        drop(entry);
+        None
+    }
+}
+
+/// The question with a number in the history that a keeper keeps; none where no question has it. Or a fault, as reading
+/// an entry has it. A version that is read counts as a step.
+pub(crate) fn question_at<P: Keeper, L: Ledger>(
+    alloc: Global,
+    keeper: &mut P,
+    state: &State,
+    number: &i64,
+    steps: &mut Steps<L>,
+) -> Result<Option<Entry>, ReadFault>
+    requires ready { IsReady true (P.state keeper.old) }
+    ensures looks { LooksUp number.now result state.now (P.state keeper.old) (P.state keeper.new)
+        steps.old steps.new }
+{
+    match number_in(number, state.count) {
+        None => Ok(None),
+        Some(place) => match read_entry(alloc, keeper, place, steps) {
+            Ok(entry) => Ok(if_question(entry)),
+            Err(fault) => Err(fault),
+        },
     }
 }

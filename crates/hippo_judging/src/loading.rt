@@ -150,7 +150,7 @@ fn insert_of(
 /// history. Or its first refusal: that it is a session's, that there is no such table, that the text
 /// is not one record with a field of its form for each column, or that of the INSERT. Want of memory
 /// may refuse it, too.
-pub fn entry_of_record(
+pub(crate) fn entry_of_record(
     alloc: Global,
     state: &State,
     world: &World,

@@ -18,7 +18,7 @@ use hippo_world::{Cursor, Session, World};
 
 /// The open session with a number; or the refusal that only a session may, or that none is open
 /// with it. Its refusals are short.
-pub fn open_session(world: &World, number: u8) -> Result<&Session, Refusal>
+pub(crate) fn open_session(world: &World, number: u8) -> Result<&Session, Refusal>
     ensures found { result_map_both (λ session. session.now) (λ refusal. refusal) result
         ≡ open_session (world_of world.now) number }
     ensures fits { IfErr result (λ refusal. length (refusal_line (Some number) refusal) ≤ reply_room) }
@@ -45,7 +45,7 @@ fn held_cursor(session: &Session, number: u8, cursor: u8) -> Result<&Cursor, Ref
 
 /// The cursor with a number in the open session with a number; or the refusal of `open_session`, or
 /// that there is no such cursor. Its refusals are short.
-pub fn open_cursor(world: &World, number: u8, cursor: u8) -> Result<&Cursor, Refusal>
+pub(crate) fn open_cursor(world: &World, number: u8, cursor: u8) -> Result<&Cursor, Refusal>
     ensures found { result_map_both (λ held. held.now) (λ refusal. refusal) result
         ≡ open_cursor (world_of world.now) number cursor }
     ensures fits { IfErr result (λ refusal. length (refusal_line (Some number) refusal) ≤ reply_room) }
@@ -85,7 +85,7 @@ pub(crate) fn check_allowed(state: &State, user: &Name, pair: &Pair) -> Result<(
 /// Whether a user may open the session with a number, to ask for a purpose and recipient; or the
 /// refusal that only a session may, that one is open with the number, or that the user is not
 /// authorized.
-pub fn check_login(
+pub(crate) fn check_login(
     state: &State,
     world: &World,
     number: u8,

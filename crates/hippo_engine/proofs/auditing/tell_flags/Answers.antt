@@ -1,4 +1,3 @@
-use Rattle.std.proofs.Common.{refl}
 use Rattle.std.specs.Result.{result_map_both}
 use Rattle.hippo_engine.proofs.AuditingLemmas.{ended_view}
 use Rattle.hippo_engine.proofs.auditing.tell_flags.Goals as goal

@@ -9,7 +9,7 @@ use Rattle.hippo_engine.proofs.questions.keep_and_answer.Goals as goal
 
 pub keep_entry-answer-requires-clause-follows : goal.keep_entry-answer-requires-clause-follows
 keep_entry-answer-requires-clause-follows g c =
-    subst (λ (entry : Entry). MayFollow c.args.state.now entry) (sym c.in-Ok.ensures) (c.requires.follows c.names_fit.ensures c.moment_fits.ensures)
+    subst (λ (entry : Entry). MayFollow c.args.state.now entry) (sym c.in-Ok.ensures) c.requires.follows
 
 pub returns-in-Ok : goal.returns-in-Ok
 returns-in-Ok g c = record {

@@ -1,24 +1,11 @@
--- Only the console may.
-use Rattle.std.proofs.Common.{refl, sym, arith, Ok}
-use Rattle.std.specs.Prelude.{ok_or}
-use Rattle.hippo_lines.specs.Forms.{drops}
-use Rattle.hippo_commands.specs.Commands.{ask}
-use Rattle.hippo_report.specs.declared.refusal.Refusal.TheVariants.{NoJob}
-use Rattle.hippo_world.specs.Holding.{world_of}
-use Rattle.hippo_world.specs.Worlds.{at_number}
+-- The job is given up.
+use Rattle.std.proofs.Common.{refl}
 use Rattle.hippo_engine.specs.declared.engine.Engine.{Engine}
-use Rattle.hippo_judging.specs.Checks.{◌>>=◌}
-use Rattle.hippo_judging.specs.Deeds.{drop_job}
-use Rattle.hippo_engine.proofs.CarryingLemmas.{AddsNothing-quiet}
-use Rattle.hippo_engine.proofs.JobLemmas.{not_console}
+use Rattle.hippo_engine.proofs.JobLemmas.{AddsNothing-dropped}
 use Rattle.hippo_engine.proofs.engine.Engine.drop_job.Goals as goal
 
-pub returns-in-Err : goal.returns-in-Err
-returns-in-Err c =
-    let old : Engine = c.args.self.now in
-    let new : Engine = record { state = old.state; world = old.world; reply = c.refuse.new.reply } in
-    let command = ask c.args.session (drops c.args.number) in
-    AddsNothing-quiet command old new
-    (not_console command c.args.session c.in-Err.refusal old new (omega (arith, c.ranges.session.fits)) refl
-    (λ history. ((λ console. ok_or (at_number (world_of old.world).jobs c.args.number) (NoJob c.args.number) >>= λ job. Ok (drop_job c.args.number)), refl))
-    (sym c.in-Err.ensures.judged) refl refl c.refuse.ensures.fits)
+pub returns : goal.returns
+returns c =
+    let new : Engine = record { state = c.args.self.now.state; world = record (c.args.self.now.world) { jobs = c.put.new.self }; reply = c.say_done.new.reply } in
+    AddsNothing-dropped c.args.number c.args.self.now new c.requires.there.0 c.requires.there.1 refl
+    (λ i. record (c.args.self.now.world) { jobs = (rw c.from.ensures at c.put.ensures) i }) c.say_done.ensures

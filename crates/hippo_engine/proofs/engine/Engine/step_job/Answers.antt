@@ -1,24 +1,37 @@
--- Only the console may.
-use Rattle.std.proofs.Common.{refl, sym, arith, Ok}
-use Rattle.std.specs.Prelude.{ok_or}
+-- The job looks on and is put back.
+use Rattle.std.proofs.Common.{◌≡◌, refl, sym, subst, ℕ, Some, None}
 use Rattle.hippo_lines.specs.Forms.{steps}
 use Rattle.hippo_commands.specs.Commands.{ask}
-use Rattle.hippo_report.specs.declared.refusal.Refusal.TheVariants.{NoJob}
-use Rattle.hippo_world.specs.Holding.{world_of}
-use Rattle.hippo_world.specs.Worlds.{at_number}
+use Rattle.hippo_world.specs.Worlds.{with_at}
 use Rattle.hippo_engine.specs.declared.engine.Engine.{Engine}
-use Rattle.hippo_judging.specs.Checks.{◌>>=◌}
-use Rattle.hippo_judging.specs.Deeds as deeds
-use Rattle.hippo_engine.proofs.CarryingLemmas.{Carries-quiet}
-use Rattle.hippo_engine.proofs.JobLemmas.{not_console}
+use Rattle.hippo_engine.specs.Carrying.{Carries}
+use Rattle.hippo_engine.proofs.JobLemmas.{Carries-stepped, held_there}
 use Rattle.hippo_engine.proofs.engine.Engine.step_job.Goals as goal
 
-pub returns-in-Err-clause-carries : goal.returns-in-Err-clause-carries
-returns-in-Err-clause-carries g c =
+pub returns-clause-carries : goal.returns-clause-carries
+returns-clause-carries g c =
     let old : Engine = c.args.self.now in
-    let new : Engine = record { state = old.state; world = old.world; reply = c.refuse.new.reply } in
-    let command = ask c.args.session (steps c.args.number c.args.count) in
-    Carries-quiet command old new (g.P.Keeper.state c.args.keeper.now) c.args.steps.now c.requires.at_work
-    (not_console command c.args.session c.in-Err.refusal old new (omega (arith, c.ranges.session.fits)) refl
-    (λ history. ((λ console. ok_or (at_number (world_of old.world).jobs c.args.number) (NoJob c.args.number) >>= λ job. Ok (deeds.step_job c.args.number job c.args.count)), refl))
-    (sym c.in-Err.ensures.judged) refl refl c.refuse.ensures.fits)
+    let new : Engine = record { state = old.state; world = record (old.world) { jobs = c.put.new.self }; reply = c.tell_step-told.new.reply } in
+    let before = g.P.Keeper.state c.args.keeper.now in
+    let after = g.P.Keeper.state c.step-looked.new.keeper in
+    subst (λ (number : ℕ). Carries (ask 0 (steps number c.args.count)) c.tell_step-told.result old new before after c.args.steps.now c.step-looked.new.steps) c.from-at.ensures
+    (subst (λ (count : ℕ). Carries (ask 0 (steps c.from-at.result count)) c.tell_step-told.result old new before after c.args.steps.now c.step-looked.new.steps) c.from.ensures
+    (Carries-stepped c.from-at.result c.from.result _ c.step-looked.result old new before after c.args.steps.now c.step-looked.new.steps
+    (record {
+      job = c.in-Some.job;
+      mid = c.step-looked.new.self;
+      told = c.tell_step-told.new.job;
+      there = sym c.in-Some.ensures.taken;
+      stepped = c.step-looked.ensures.stepped;
+      tells = c.tell_step-told.ensures.told;
+      same = refl;
+      world = λ i. record (old.world) { jobs = put_there i };
+    })
+    c.tell_step-told.result c.tell_step-told.ensures.ended c.requires.at_work
+    (λ history stands. record { valid = stands.valid; names = stands.names; book = stands.book; count = stands.count })))
+  where
+    put_there : c.put.new.self ≡ with_at (with_at c.args.self.now.world.jobs c.from-at.result None) c.from-at.result (Some c.tell_step-told.new.job)
+    put_there = rw c.in-Some.ensures.left at c.put.ensures
+
+pub unreachable-requires : goal.unreachable-requires
+unreachable-requires g c = let none = rw c.from-at.ensures at c.in-None.ensures.taken in absurd (held_there c.args.self.now.world.jobs c.args.number c.requires.there.0 c.requires.there.1 none)

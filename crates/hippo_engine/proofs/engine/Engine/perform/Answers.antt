@@ -1,0 +1,122 @@
+-- Each deed is done by its own method.
+use Rattle.std.proofs.Common.{sym, subst}
+use Rattle.hippo_lines.specs.Forms as requests
+use Rattle.hippo_commands.specs.Commands.{Command, ask}
+use Rattle.hippo_keeper.proofs.Results.{well}
+use Rattle.hippo_engine.specs.declared.faults.EngineFault.{EngineFault}
+use Rattle.hippo_engine.specs.Carrying.{Carries}
+use Rattle.hippo_engine.proofs.CarryingLemmas.{Carries-nothing, Carries-quiet}
+use Rattle.hippo_engine.proofs.ChangeLemmas.{changes_by}
+use Rattle.hippo_engine.proofs.JobLemmas.{AddsNothing-does}
+use Rattle.hippo_engine.proofs.engine.Engine.perform.Goals as goal
+
+pub hand_out-requires : goal.hand_out-requires
+hand_out-requires g c = rw c.in-HandOut.is at c.requires.needs
+
+pub step_job-requires-clause-there : goal.step_job-requires-clause-there
+step_job-requires-clause-there g c = let needs = rw c.in-StepJob.is at c.requires.needs in (needs.1.1.job, needs.1.1.there)
+
+pub drop_job-requires : goal.drop_job-requires
+drop_job-requires g c = let needs = rw c.in-DropJob.is at c.requires.needs in record { there = (needs.1.1.job, needs.1.1.there) }
+
+pub change-requires-clause-number : goal.change-requires-clause-number
+change-requires-clause-number g c = let needs = rw c.in-Change.is at c.requires.needs in needs.1.number
+
+pub change-requires-clause-follows : goal.change-requires-clause-follows
+change-requires-clause-follows g c = let needs = rw c.in-Change.is at c.requires.needs in needs.1.follows
+
+pub question-requires-clause-needs : goal.question-requires-clause-needs
+question-requires-clause-needs g c = rw c.in-Answer.is at c.requires.needs
+
+pub question-requires-in-OpenCursor-clause-needs : goal.question-requires-in-OpenCursor-clause-needs
+question-requires-in-OpenCursor-clause-needs g c = rw c.in-OpenCursor.is at c.requires.needs
+
+pub question-requires-in-Extract-clause-needs : goal.question-requires-in-Extract-clause-needs
+question-requires-in-Extract-clause-needs g c = rw c.in-Extract.is at c.requires.needs
+
+pub audit-requires-clause-differ : goal.audit-requires-clause-differ
+audit-requires-clause-differ g c = let needs = rw c.in-Audit.is at c.requires.needs in needs.1.1.differ
+
+pub begin_audit-requires : goal.begin_audit-requires
+begin_audit-requires g c = let needs = rw c.in-BeginAudit.is at c.requires.needs in record { differ = needs.1.1.differ }
+
+pub watch-requires : goal.watch-requires
+watch-requires g c = let needs = rw c.in-Watch.is at c.requires.needs in record { differ = needs.1.0.differ }
+
+pub returns-in-DoNothing-clause-performs : goal.returns-in-DoNothing-clause-performs
+returns-in-DoNothing-clause-performs g c =
+    rw c.in-DoNothing.is
+    (λ command does. Carries-quiet command c.args.self.now c.do_nothing.new.self (g.P.Keeper.state c.args.keeper.now) c.args.steps.now c.requires.at_work (c.do_nothing.ensures command does))
+
+pub returns-in-SetClock-clause-performs : goal.returns-in-SetClock-clause-performs
+returns-in-SetClock-clause-performs g c =
+    rw c.in-SetClock.is
+    (λ command does. Carries-quiet command c.args.self.now c.set_clock.new.self (g.P.Keeper.state c.args.keeper.now) c.args.steps.now c.requires.at_work (c.set_clock.ensures command does))
+
+pub returns-in-LogIn-clause-performs : goal.returns-in-LogIn-clause-performs
+returns-in-LogIn-clause-performs g c =
+    rw c.in-LogIn.is
+    (λ command does. Carries-quiet command c.args.self.now c.log_in.new.self (g.P.Keeper.state c.args.keeper.now) c.args.steps.now c.requires.at_work (c.log_in.ensures command does))
+
+pub returns-in-LogOut-clause-performs : goal.returns-in-LogOut-clause-performs
+returns-in-LogOut-clause-performs g c =
+    rw c.in-LogOut.is
+    (λ command does. Carries-quiet command c.args.self.now c.log_out.new.self (g.P.Keeper.state c.args.keeper.now) c.args.steps.now c.requires.at_work (c.log_out.ensures command does))
+
+pub returns-in-HandOut-clause-performs : goal.returns-in-HandOut-clause-performs
+returns-in-HandOut-clause-performs g c =
+    rw c.in-HandOut.is
+    (λ command does. Carries-quiet command c.args.self.now c.hand_out.new.self (g.P.Keeper.state c.args.keeper.now) c.args.steps.now c.requires.at_work (c.hand_out.ensures command does))
+
+pub returns-in-CloseCursor-clause-performs : goal.returns-in-CloseCursor-clause-performs
+returns-in-CloseCursor-clause-performs g c =
+    rw c.in-CloseCursor.is
+    (λ command does. Carries-quiet command c.args.self.now c.close_cursor.new.self (g.P.Keeper.state c.args.keeper.now) c.args.steps.now c.requires.at_work (c.close_cursor.ensures command does))
+
+pub returns-in-StepJob-clause-performs : goal.returns-in-StepJob-clause-performs
+returns-in-StepJob-clause-performs g c =
+    rw c.in-StepJob.is
+    (λ command does.
+    subst (λ (one : Command). Carries one c.step_job.result c.args.self.now c.step_job.new.self (g.P.Keeper.state c.args.keeper.now) (g.P.Keeper.state c.step_job.new.keeper) c.args.steps.now c.step_job.new.steps) (sym does.0) c.step_job.ensures.carries)
+
+pub returns-in-DropJob-clause-performs : goal.returns-in-DropJob-clause-performs
+returns-in-DropJob-clause-performs g c =
+    rw c.in-DropJob.is
+    (λ command does.
+    subst (λ (one : Command). Carries one (well EngineFault) c.args.self.now c.drop_job.new.self (g.P.Keeper.state c.args.keeper.now) (g.P.Keeper.state c.args.keeper.now) c.args.steps.now c.args.steps.now) (sym does.0)
+    (Carries-nothing (ask 0 (requests.drops c.in-DropJob.job)) c.args.self.now c.drop_job.new.self (g.P.Keeper.state c.args.keeper.now) c.args.steps.now c.requires.at_work c.drop_job.ensures))
+
+pub returns-in-EndWatch-clause-performs : goal.returns-in-EndWatch-clause-performs
+returns-in-EndWatch-clause-performs g c =
+    rw c.in-EndWatch.is
+    (λ command does. Carries-nothing command c.args.self.now c.end_watch.new.self (g.P.Keeper.state c.args.keeper.now) c.args.steps.now c.requires.at_work (c.end_watch.ensures command does))
+
+pub returns-in-Change-clause-performs : goal.returns-in-Change-clause-performs
+returns-in-Change-clause-performs g c =
+    rw c.in-Change.is (λ command does. c.change.ensures.carries command c.args.steps.now (changes_by command c.in-Change.entry c.args.self.now does))
+
+pub returns-in-Answer-clause-performs : goal.returns-in-Answer-clause-performs
+returns-in-Answer-clause-performs g c = rw c.in-Answer.is (λ command does. c.question.ensures.carries command c.args.steps.now does)
+
+pub returns-in-OpenCursor-clause-performs : goal.returns-in-OpenCursor-clause-performs
+returns-in-OpenCursor-clause-performs g c = rw c.in-OpenCursor.is (λ command does. c.question-in-OpenCursor.ensures.carries command c.args.steps.now does)
+
+pub returns-in-Extract-clause-performs : goal.returns-in-Extract-clause-performs
+returns-in-Extract-clause-performs g c = rw c.in-Extract.is (λ command does. c.question-in-Extract.ensures.carries command c.args.steps.now does)
+
+pub returns-in-Explain-clause-performs : goal.returns-in-Explain-clause-performs
+returns-in-Explain-clause-performs g c = rw c.in-Explain.is c.explain.ensures.explained
+
+pub returns-in-Audit-clause-performs : goal.returns-in-Audit-clause-performs
+returns-in-Audit-clause-performs g c = rw c.in-Audit.is c.audit.ensures.carries
+
+pub returns-in-BeginAudit-clause-performs : goal.returns-in-BeginAudit-clause-performs
+returns-in-BeginAudit-clause-performs g c =
+    rw c.in-BeginAudit.is
+    (λ command does. Carries-nothing command c.args.self.now c.begin_audit.new.self (g.P.Keeper.state c.args.keeper.now) c.args.steps.now c.requires.at_work
+    (AddsNothing-does command c.in-BeginAudit.job c.in-BeginAudit.audit c.args.self.now c.begin_audit.new.self does c.begin_audit.ensures))
+
+pub returns-in-Watch-clause-performs : goal.returns-in-Watch-clause-performs
+returns-in-Watch-clause-performs g c =
+    rw c.in-Watch.is
+    (λ command does. Carries-nothing command c.args.self.now c.watch.new.self (g.P.Keeper.state c.args.keeper.now) c.args.steps.now c.requires.at_work (c.watch.ensures command does))

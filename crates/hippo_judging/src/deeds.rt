@@ -1,0 +1,54 @@
+//! What is to be done for a line that is not refused.
+use hippo_backlog::ReadFault;
+use hippo_model::{Audit, Entry, Pair, Query};
+use hippo_report::Refusal;
+use hippo_values::{Moment, Name};
+
+/// A question of an open session: its text, which is the line's own, and what that means.
+#[derive(Drop)]
+pub struct Question<'a> {
+    pub session: u8,
+    pub text: &'a str,
+    pub query: Query,
+}
+
+/// What is to be done for a line, with what the checks found. Sessions, cursors, jobs and watches are told by their
+/// numbers.
+#[derive(Drop)]
+pub enum Deed<'a> {
+    DoNothing,
+    SetClock { moment: Moment },
+    LogIn { session: u8, user: Name, pair: Pair },
+    LogOut { session: u8 },
+    /// So many further rows of a cursor of a session.
+    HandOut { session: u8, cursor: u8, count: u32 },
+    CloseCursor { session: u8, cursor: u8 },
+    /// So many further entry numbers of a job.
+    StepJob { job: u8, count: u32 },
+    DropJob { job: u8 },
+    EndWatch { watch: u8 },
+    /// The entry that is added.
+    Change { entry: Entry },
+    Answer { question: Question<'a> },
+    /// With the number that the cursor gets, in the question's session.
+    OpenCursor { cursor: u8, question: Question<'a> },
+    Extract { question: Question<'a> },
+    /// The entry of the question that is explained.
+    Explain { entry: Entry },
+    Audit { audit: Audit },
+    /// With the number that the job gets.
+    BeginAudit { job: usize, audit: Audit },
+    /// With the number that the watch gets.
+    Watch { watch: usize, audit: Audit },
+}
+
+/// Why nothing is to be done for a line.
+#[derive(Debug, Drop)]
+pub enum Unjudged {
+    /// Its first refusal, or want of memory.
+    Refused(Refusal),
+    /// No question has the number that an EXPLAIN of the console names.
+    NoQuestion(i64),
+    /// The entry with that number was not read.
+    Unread(ReadFault),
+}

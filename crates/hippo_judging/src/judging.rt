@@ -1,0 +1,70 @@
+//! What is to be done for what a line commands, or why not.
+ghost use Rattle.std.specs.Prelude.{◌≡◌, true};
+ghost use Rattle.hippo_keeper.specs.Keeping.{IsReady};
+ghost use Rattle.hippo_commands.specs.Commands as commands;
+ghost use Rattle.hippo_commands.specs.Lent.{command};
+ghost use Rattle.hippo_replay.specs.Standing.{IsSound, IsTimely};
+ghost use Rattle.hippo_judging.specs.Findings.{IsOfLine, Judges, is_still};
+
+use crate::deeds::{Deed, Unjudged};
+use crate::requests::{judge_clock, judge_request};
+use crate::statements::{judge_statement, unread};
+use hippo_commands::Command;
+use hippo_keeper::{Keeper, Steps};
+use hippo_replay::State;
+use hippo_world::World;
+use std::alloc::Global;
+use std::sync::ledger::Ledger;
+
+/// Whose line a command is: a session's, the console's, which is session 0, or nobody's.
+pub fn who_commands(found: &Command<'_>) -> Option<u8>
+    ensures { result ≡ commands.who_commands (command found.now) }
+{
+    match found {
+        Command::Nothing => None,
+        Command::Wrong { who, .. } => *who,
+        Command::SetClock { .. } => None,
+        Command::Ask { session, .. } => Some(*session),
+        Command::State { session, .. } => Some(*session),
+    }
+}
+
+/// What is to be done for a command, or why not: its first refusal, or want of memory. An EXPLAIN of the console looks up
+/// its question in what the keeper keeps, where each version that is read counts as a step; nothing else reads.
+pub fn judge<'t, P: Keeper, L: Ledger>(
+    alloc: Global,
+    state: &State,
+    world: &World,
+    keeper: &mut P,
+    found: Command<'t>,
+    steps: &mut Steps<L>,
+) -> Result<Deed<'t>, Unjudged>
+    requires sound { IsSound state.now }
+    requires timely { IsTimely state.now world.now.clock }
+    requires ready { IsReady true (P.state keeper.old) }
+    requires of_line { IsOfLine (command found) }
+    ensures judges { Judges (command found.entry) result state.now world.now (P.state keeper.old) (P.state keeper.new)
+        steps.old steps.new }
+    ensures still { is_still result ≡ true → keeper.new ≡ keeper.old }
+    ensures idle { is_still result ≡ true → steps.new ≡ steps.old }
+{
+    match found {
+        Command::Nothing => Ok(Deed::DoNothing),
+        Command::Wrong { refusal, .. } => Err(Unjudged::Refused(refusal)),
+        Command::SetClock { moment } => unread(judge_clock(world, moment)),
+        Command::Ask { session, request } => unread(judge_request(
+            alloc, state, world, session, &request,
+        )),
+        Command::State {
+            session,
+            statement,
+            text,
+        } => {
+            let judged = judge_statement(
+                alloc, state, world, keeper, session, &statement, text, steps,
+            );
+            drop(statement);
+            judged
+        }
+    }
+}

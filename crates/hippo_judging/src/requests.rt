@@ -1,0 +1,202 @@
+//! The clock, and what short words ask for: what is to be done, or why not.
+ghost use Rattle.std.specs.Prelude.{◌≡◌, int_lt, IfOk};
+ghost use Rattle.hippo_lines.specs.Forms as requests;
+ghost use Rattle.hippo_lines.specs.Lent.{request};
+ghost use Rattle.hippo_commands.specs.Commands as commands;
+ghost use Rattle.hippo_replay.specs.declared.state.State.{State as HeldState};
+ghost use Rattle.hippo_replay.specs.Standing.{IsTimely};
+ghost use Rattle.hippo_judging.specs.Findings.{FindsDeed};
+
+use crate::console_checks::{check_job, held_watch};
+use crate::deeds::Deed;
+use crate::loading::entry_of_record;
+use crate::session_checks::{check_login, open_cursor, open_session};
+use hippo_lines::{RequestForm, WrittenName};
+use hippo_model::Pair;
+use hippo_replay::State;
+use hippo_report::Refusal;
+use hippo_values::{Memory, Moment, Name};
+use hippo_world::World;
+use std::alloc::Global;
+
+fn is_earlier(moment: &Moment, clock: &Moment) -> bool
+    ensures { result ≡ int_lt moment.now clock.now }
+{
+    moment.seconds() < clock.seconds()
+}
+
+/// The clock does not go back.
+pub(crate) fn judge_clock(world: &World, moment: Moment) -> Result<Deed<'static>, Refusal>
+    ensures { (state : HeldState) → FindsDeed (commands.set_clock moment) result state world.now }
+{
+    if is_earlier(&moment, &world.clock) {
+        Err(Refusal::MomentBack(world.clock))
+    } else {
+        Ok(Deed::SetClock { moment })
+    }
+}
+
+// The names of a line that opens a session, or want of memory.
+fn login_names(
+    alloc: Global,
+    user: &WrittenName<'_>,
+    purpose: &WrittenName<'_>,
+    recipient: &WrittenName<'_>,
+) -> Result<(Name, Pair), Memory>
+    ensures user { IfOk result (λ names. names.0 ≡ user.now) }
+    ensures purpose { IfOk result (λ names. names.1.purpose ≡ purpose.now) }
+    ensures recipient { IfOk result (λ names. names.1.recipient ≡ recipient.now) }
+{
+    let user = user.name(alloc)?;
+    let purpose = purpose.name(alloc)?;
+    let recipient = recipient.name(alloc)?;
+    Ok((user, Pair { purpose, recipient }))
+}
+
+fn judge_user(
+    state: &State,
+    world: &World,
+    session: u8,
+    user: Name,
+    pair: Pair,
+) -> Result<Deed<'static>, Refusal>
+    ensures { FindsDeed (commands.ask session (requests.logs_in user pair.purpose pair.recipient)) result
+        state.now world.now }
+{
+    match check_login(state, world, session, &user, &pair) {
+        Ok(()) => Ok(Deed::LogIn {
+            session,
+            user,
+            pair,
+        }),
+        Err(refusal) => Err(refusal),
+    }
+}
+
+fn judge_login(
+    alloc: Global,
+    state: &State,
+    world: &World,
+    session: u8,
+    user: &WrittenName<'_>,
+    purpose: &WrittenName<'_>,
+    recipient: &WrittenName<'_>,
+) -> Result<Deed<'static>, Refusal>
+    ensures { FindsDeed (commands.ask session (requests.logs_in user.now purpose.now recipient.now)) result
+        state.now world.now }
+{
+    match login_names(alloc, user, purpose, recipient) {
+        Ok((user, pair)) => judge_user(state, world, session, user, pair),
+        Err(Memory) => Err(Refusal::Memory),
+    }
+}
+
+fn judge_logout(world: &World, session: u8) -> Result<Deed<'static>, Refusal>
+    ensures { (state : HeldState) → FindsDeed (commands.ask session requests.logs_out) result state world.now }
+{
+    match open_session(world, session) {
+        Ok(_) => Ok(Deed::LogOut { session }),
+        Err(refusal) => Err(refusal),
+    }
+}
+
+fn judge_fetch(world: &World, session: u8, cursor: u8, count: u32) -> Result<Deed<'static>, Refusal>
+    ensures { (state : HeldState)
+        → FindsDeed (commands.ask session (requests.fetches cursor count)) result state world.now }
+{
+    match open_cursor(world, session, cursor) {
+        Ok(_) => Ok(Deed::HandOut {
+            session,
+            cursor,
+            count,
+        }),
+        Err(refusal) => Err(refusal),
+    }
+}
+
+fn judge_close(world: &World, session: u8, cursor: u8) -> Result<Deed<'static>, Refusal>
+    ensures { (state : HeldState)
+        → FindsDeed (commands.ask session (requests.closes cursor)) result state world.now }
+{
+    match open_cursor(world, session, cursor) {
+        Ok(_) => Ok(Deed::CloseCursor { session, cursor }),
+        Err(refusal) => Err(refusal),
+    }
+}
+
+fn judge_step(world: &World, session: u8, job: u8, count: u32) -> Result<Deed<'static>, Refusal>
+    ensures { (state : HeldState)
+        → FindsDeed (commands.ask session (requests.steps job count)) result state world.now }
+{
+    match check_job(world, session, job) {
+        Ok(()) => Ok(Deed::StepJob { job, count }),
+        Err(refusal) => Err(refusal),
+    }
+}
+
+fn judge_drop(world: &World, session: u8, job: u8) -> Result<Deed<'static>, Refusal>
+    ensures { (state : HeldState)
+        → FindsDeed (commands.ask session (requests.drops job)) result state world.now }
+{
+    match check_job(world, session, job) {
+        Ok(()) => Ok(Deed::DropJob { job }),
+        Err(refusal) => Err(refusal),
+    }
+}
+
+fn judge_unwatch(world: &World, session: u8, watch: u8) -> Result<Deed<'static>, Refusal>
+    ensures { (state : HeldState)
+        → FindsDeed (commands.ask session (requests.unwatches watch)) result state world.now }
+{
+    match held_watch(world, session, watch) {
+        Ok(()) => Ok(Deed::EndWatch { watch }),
+        Err(refusal) => Err(refusal),
+    }
+}
+
+fn judge_load(
+    alloc: Global,
+    state: &State,
+    world: &World,
+    session: u8,
+    table: &WrittenName<'_>,
+    text: &str,
+) -> Result<Deed<'static>, Refusal>
+    requires timely { IsTimely state.now world.now.clock }
+    ensures { FindsDeed (commands.ask session (requests.loads table.now text.now)) result state.now world.now }
+{
+    match entry_of_record(alloc, state, world, session, table, text) {
+        Ok(entry) => Ok(Deed::Change { entry }),
+        Err(refusal) => Err(refusal),
+    }
+}
+
+/// What is to be done for what a short word asks for in a session or at the console, or why not.
+pub(crate) fn judge_request(
+    alloc: Global,
+    state: &State,
+    world: &World,
+    session: u8,
+    asked: &RequestForm<'_>,
+) -> Result<Deed<'static>, Refusal>
+    requires timely { IsTimely state.now world.now.clock }
+    ensures { FindsDeed (commands.ask session (request asked.now)) result state.now world.now }
+{
+    match asked {
+        RequestForm::Login {
+            user,
+            purpose,
+            recipient,
+        } => judge_login(alloc, state, world, session, user, purpose, recipient),
+        RequestForm::Logout => judge_logout(world, session),
+        RequestForm::Fetch { cursor, count } => judge_fetch(world, session, *cursor, *count),
+        RequestForm::Close { cursor } => judge_close(world, session, *cursor),
+        RequestForm::Step { job, count } => judge_step(world, session, *job, *count),
+        RequestForm::Drop { job } => judge_drop(world, session, *job),
+        RequestForm::Unwatch { watch } => judge_unwatch(world, session, *watch),
+        RequestForm::Load {
+            table,
+            record: text,
+        } => judge_load(alloc, state, world, session, table, text),
+    }
+}

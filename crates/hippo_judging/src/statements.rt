@@ -1,0 +1,221 @@
+//! Statements: what is to be done for each, or why not.
+ghost use Rattle.std.specs.Prelude.{◌≡◌, true, false, ok_or};
+ghost use Rattle.hippo_values.specs.Texts.{Txt as Text};
+ghost use Rattle.hippo_model.specs.declared.statement.Stmt.TheVariants as stmt;
+ghost use Rattle.hippo_catalog.specs.ChangesWanted.{changes_something};
+ghost use Rattle.hippo_keeper.specs.Keeping.{IsReady};
+ghost use Rattle.hippo_commands.specs.Commands as commands;
+ghost use Rattle.hippo_following.specs.Written.{is_written};
+ghost use Rattle.hippo_replay.specs.Standing.{IsSound, IsTimely};
+ghost use Rattle.hippo_report.specs.declared.refusal.Refusal.TheVariants as refusals;
+ghost use Rattle.hippo_world.specs.declared.worlds.World.{World as HeldWorld};
+ghost use Rattle.hippo_world.specs.Worlds.{free_number};
+ghost use Rattle.hippo_judging.specs.Findings.{IsOfLine, FindsDeed, begun_with, set_with, unread, Judges, is_still};
+
+use crate::asking::{judge_question, written_question};
+use crate::audits::audit_in;
+use crate::changes::entry_of_change;
+use crate::console_checks::check_console;
+use crate::deeds::{Deed, Unjudged};
+use crate::entries::question_at;
+use hippo_keeper::{Keeper, Steps};
+use hippo_model::{Audit, RawAudit, Stmt};
+use hippo_replay::State;
+use hippo_report::Refusal;
+use hippo_world::World;
+use std::alloc::Global;
+use std::sync::ledger::Ledger;
+
+fn judge_change(
+    alloc: Global,
+    state: &State,
+    world: &World,
+    session: u8,
+    statement: &Stmt,
+) -> Result<Deed<'static>, Refusal>
+    requires timely { IsTimely state.now world.now.clock }
+    requires changes { changes_something statement.now ≡ true }
+    requires written { is_written statement.now ≡ true }
+    ensures { (text : Text) → FindsDeed (commands.state session statement.now text) result state.now world.now }
+{
+    match entry_of_change(alloc, state, world, session, statement) {
+        Ok(entry) => Ok(Deed::Change { entry }),
+        Err(refusal) => Err(refusal),
+    }
+}
+
+fn judge_audit(
+    alloc: Global,
+    state: &State,
+    session: u8,
+    written: &RawAudit,
+) -> Result<Deed<'static>, Refusal>
+    requires sound { IsSound state.now }
+    ensures { (text : Text) (world : HeldWorld)
+        → FindsDeed (commands.state session (stmt.Audit written.now) text) result state.now world }
+{
+    match audit_in(alloc, state, session, written) {
+        Ok(audit) => Ok(Deed::Audit { audit }),
+        Err(refusal) => Err(refusal),
+    }
+}
+
+fn free_job(world: &World) -> Result<usize, Refusal>
+    ensures { result ≡ ok_or (free_number world.now.jobs) refusals.JobLimit }
+{
+    match world.jobs.free() {
+        Some(number) => Ok(number),
+        None => Err(Refusal::JobLimit),
+    }
+}
+
+// A job gets the lowest number that is free.
+fn begun_with(audit: Audit, free: Result<usize, Refusal>) -> Result<Deed<'static>, Refusal>
+    ensures { result ≡ begun_with audit free }
+{
+    match free {
+        Ok(job) => Ok(Deed::BeginAudit { job, audit }),
+        Err(refusal) => {
+            drop(audit);
+            Err(refusal)
+        }
+    }
+}
+
+fn judge_begin(
+    alloc: Global,
+    state: &State,
+    world: &World,
+    session: u8,
+    written: &RawAudit,
+) -> Result<Deed<'static>, Refusal>
+    requires sound { IsSound state.now }
+    ensures { (text : Text) → FindsDeed (commands.state session (stmt.BeginAudit written.now) text) result
+        state.now world.now }
+{
+    match audit_in(alloc, state, session, written) {
+        Ok(audit) => begun_with(audit, free_job(world)),
+        Err(refusal) => Err(refusal),
+    }
+}
+
+fn free_watch(world: &World) -> Result<usize, Refusal>
+    ensures { result ≡ ok_or (free_number world.now.watches) refusals.WatchLimit }
+{
+    match world.watches.free() {
+        Some(number) => Ok(number),
+        None => Err(Refusal::WatchLimit),
+    }
+}
+
+// A watch gets the lowest number that is free.
+fn set_with(audit: Audit, free: Result<usize, Refusal>) -> Result<Deed<'static>, Refusal>
+    ensures { result ≡ set_with audit free }
+{
+    match free {
+        Ok(watch) => Ok(Deed::Watch { watch, audit }),
+        Err(refusal) => {
+            drop(audit);
+            Err(refusal)
+        }
+    }
+}
+
+fn judge_watch(
+    alloc: Global,
+    state: &State,
+    world: &World,
+    session: u8,
+    written: &RawAudit,
+) -> Result<Deed<'static>, Refusal>
+    requires sound { IsSound state.now }
+    ensures { (text : Text) → FindsDeed (commands.state session (stmt.Watch written.now) text) result
+        state.now world.now }
+{
+    match audit_in(alloc, state, session, written) {
+        Ok(audit) => set_with(audit, free_watch(world)),
+        Err(refusal) => Err(refusal),
+    }
+}
+
+// What was found without reading.
+pub(crate) fn unread<'t>(found: Result<Deed<'t>, Refusal>) -> Result<Deed<'t>, Unjudged>
+    ensures { result ≡ unread found.entry }
+{
+    match found {
+        Ok(deed) => Ok(deed),
+        Err(refusal) => Err(Unjudged::Refused(refusal)),
+    }
+}
+
+// EXPLAIN at the console looks up the question with a number.
+fn look_up<P: Keeper, L: Ledger>(
+    alloc: Global,
+    state: &State,
+    keeper: &mut P,
+    number: &i64,
+    steps: &mut Steps<L>,
+) -> Result<Deed<'static>, Unjudged>
+    requires ready { IsReady true (P.state keeper.old) }
+    ensures judges { (text : Text) (world : HeldWorld) → Judges (commands.state 0 (stmt.Explain number.now) text) result
+        state.now world (P.state keeper.old) (P.state keeper.new) steps.old steps.new }
+    ensures looks { is_still result ≡ false }
+{
+    match question_at(alloc, keeper, state, number, steps) {
+        Ok(Some(entry)) => Ok(Deed::Explain { entry }),
+        Ok(None) => Err(Unjudged::NoQuestion(*number)),
+        Err(fault) => Err(Unjudged::Unread(fault)),
+    }
+}
+
+fn judge_explain<P: Keeper, L: Ledger>(
+    alloc: Global,
+    state: &State,
+    keeper: &mut P,
+    session: u8,
+    number: &i64,
+    steps: &mut Steps<L>,
+) -> Result<Deed<'static>, Unjudged>
+    requires ready { IsReady true (P.state keeper.old) }
+    ensures judges { (text : Text) (world : HeldWorld) → Judges (commands.state session (stmt.Explain number.now) text)
+        result state.now world (P.state keeper.old) (P.state keeper.new) steps.old steps.new }
+    ensures still { is_still result ≡ true → keeper.new ≡ keeper.old }
+    ensures idle { is_still result ≡ true → steps.new ≡ steps.old }
+{
+    match check_console(session) {
+        Ok(()) => look_up(alloc, state, keeper, number, steps),
+        Err(refusal) => Err(Unjudged::Refused(refusal)),
+    }
+}
+
+/// What is to be done for a statement that stands in a text, or why not. Only EXPLAIN reads what is kept.
+pub(crate) fn judge_statement<'t, P: Keeper, L: Ledger>(
+    alloc: Global,
+    state: &State,
+    world: &World,
+    keeper: &mut P,
+    session: u8,
+    statement: &Stmt,
+    text: &'t str,
+    steps: &mut Steps<L>,
+) -> Result<Deed<'t>, Unjudged>
+    requires sound { IsSound state.now }
+    requires timely { IsTimely state.now world.now.clock }
+    requires ready { IsReady true (P.state keeper.old) }
+    requires of_line { IsOfLine (commands.state session statement.now text.now) }
+    ensures judges { Judges (commands.state session statement.now text.now) result state.now world.now
+        (P.state keeper.old) (P.state keeper.new) steps.old steps.new }
+    ensures still { is_still result ≡ true → keeper.new ≡ keeper.old }
+    ensures idle { is_still result ≡ true → steps.new ≡ steps.old }
+{
+    match statement {
+        Stmt::Explain(number) => judge_explain(alloc, state, keeper, session, number, steps),
+        Stmt::Audit(written) => unread(judge_audit(alloc, state, session, written)),
+        Stmt::BeginAudit(written) => unread(judge_begin(alloc, state, world, session, written)),
+        Stmt::Watch(written) => unread(judge_watch(alloc, state, world, session, written)),
+        _ => match written_question(statement) {
+            Some(written) => unread(judge_question(alloc, state, world, session, &written, text)),
+            None => unread(judge_change(alloc, state, world, session, statement)),
+        },
+    }
+}
