@@ -112,7 +112,7 @@ impl<'a, C: ChoiceView> Side<'a, C> {
 
     // Whether some combination counts that has the rows that are chosen, and shows each cell that is to be seen.
     #[cycle(has)]
-    fn has_from(
+    pub(crate) fn has_from(
         &self,
         alloc: Global,
         stages: &[Stage],
