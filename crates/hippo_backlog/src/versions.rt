@@ -18,6 +18,9 @@ use std::sync::ledger::Ledger;
 // How many versions are read at once.
 const PIECE: u64 = 1000;
 
+// So many rows are looked at one by one, without an order.
+const FEW_ROWS: usize = 256;
+
 fn raised(place: u64, number: u64) -> u64
     ensures { result ≡ raised place number }
 {
@@ -75,6 +78,16 @@ impl Versions {
     {
         let Versions { rows, .. } = self;
         rows
+    }
+
+    /// Keeps, from now on, an order of the rows by a column, where there are more than 256, so that rows are found by it;
+    /// they stay what they are.
+    pub fn order_by(&mut self, alloc: Global, column: usize)
+        ensures { self.new ≡ self.old }
+    {
+        if self.rows.len() > FEW_ROWS {
+            self.rows.order_by(alloc, column);
+        }
     }
 
     /// How many versions were handed over, those that wait included.
