@@ -8,6 +8,7 @@ pub mod MarkLemmas
 pub mod CandidateLemmas
 pub mod AmongLemmas
 pub mod SearchLemmas
+pub mod ToldLemmas
 pub mod SharedTheorem
 pub mod HistoryLemmas
 mod SharingExamples

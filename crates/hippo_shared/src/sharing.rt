@@ -6,7 +6,7 @@ ghost use Rattle.hippo_eval.specs.Unmasked.{unmasked_condition};
 ghost use Rattle.hippo_shared.specs.Sharing.{HaveSameRows, first_shared};
 
 use crate::commons::common_places;
-use crate::searching::first_places;
+use crate::told::first_places;
 use crate::tuples::tuple_at;
 use hippo_eval::unmasked_condition;
 use hippo_join::{Side, blank_row};
