@@ -144,8 +144,8 @@ fn bring_tables<P: Keeper, L: Ledger>(
     )
 }
 
-/// Brings the tables of an audit and of a query forward to a number, of those that are known. Orders are kept of the rows
-/// that are held, for the columns by which either ties two tables.
+/// Brings the tables of an audit and of a query forward to a number, of those that are known. Orders are kept of the
+/// rows that are held, for the columns by which either ties two tables.
 pub(crate) fn bring_both<P: Keeper, L: Ledger>(
     tables: &mut Vec<Lives>,
     keeper: &mut P,

@@ -75,8 +75,8 @@ fn order_for_condition(
     }
 }
 
-/// Keeps orders, from now on, by the columns by which an audit and a query tie two tables, of the rows that are held; they
-/// stay what they are.
+/// Keeps orders, from now on, by the columns by which an audit and a query tie two tables, of the rows that are held;
+/// they stay what they are.
 pub(crate) fn order_for(tables: &mut Vec<Lives>, alloc: Global, query: &Query, audit: &Audit)
     ensures { tables.new.items ≡ tables.old.items }
 {

@@ -1,8 +1,7 @@
 -- Rows that each combination which counts has.
-use Rattle.std.proofs.Common.{◌≡◌, ℕ, zero, suc, ◌<◌, ◌≤◌, Bool, true, false, cond, List, [], ◌∷◌, ◌++◌, ◌+◌, append_assoc, drop, if◌then◌else◌, map, length, length-set, get_or, refl, sym, ap, subst, ◌∙◌, Option, Some, None, inl, inr, ◌⊎◌, arith}
+use Rattle.std.proofs.Common.{◌≡◌, ℕ, suc, ◌<◌, ◌≤◌, Bool, true, false, cond, List, [], ◌∷◌, ◌++◌, ◌+◌, append_assoc, drop, if◌then◌else◌, map, length, length-set, get_or, refl, sym, ap, subst, ◌∙◌, Option, Some, None, inl, inr, ◌⊎◌, arith}
 use Rattle.std.specs.Prelude.{slice_get, slice_set, filter, IfSome}
 use Rattle.std.specs.List.{All, Contains}
-use Rattle.std.proofs.lemmas.Bool.{false≢true}
 use Rattle.std.proofs.lemmas.List.{append-nil, drop_all, drop_more}
 use Rattle.std.proofs.lemmas.Option.{slice_get-get_or}
 use Rattle.hippo_model.specs.declared.query.Masked.{Masked}
@@ -11,7 +10,7 @@ use Rattle.hippo_model.specs.RowSets.{KeyedRows}
 use Rattle.hippo_model.specs.Masking.{Choices}
 use Rattle.hippo_join.specs.declared.stages.Stage.{Stage}
 use Rattle.hippo_join.specs.Known.{is_chosen, is_open}
-use Rattle.hippo_join.specs.Places.{Fits, stands}
+use Rattle.hippo_join.specs.Places.{Fits}
 use Rattle.hippo_join.specs.Settling.{Settles}
 use Rattle.hippo_join.specs.Stages.{ReachesFrom}
 use Rattle.hippo_join.specs.Walking.{IsWalkable, AreWalkable, CanWalk}

@@ -288,8 +288,8 @@ impl<'a, C: ChoiceView> Side<'a, C> {
         Ok(tests)
     }
 
-    // The stages of a join behind rows that are chosen, in an order of tables: all with their places, or only those whose
-    // rows are not looked up.
+    // The stages of a join behind rows that are chosen, in an order of tables: all with their places, or only those
+    // whose rows are not looked up.
     pub(crate) fn stages_behind(
         &self,
         alloc: Global,

@@ -132,9 +132,9 @@ impl<'a, C: ChoiceView> Side<'a, C> {
     }
 
     /// Whether some combination counts that has the rows that are chosen, and shows each cell that is to be seen. The
-    /// tables whose rows are not chosen are joined behind the others in an order of all; where rows before say the key of
-    /// a row, or the value of a column by which its table has an order, it is looked up. Leaves the slots as they are,
-    /// but where memory is short.
+    /// tables whose rows are not chosen are joined behind the others in an order of all; where rows before say the key
+    /// of a row, or the value of a column by which its table has an order, it is looked up. Leaves the slots as they
+    /// are, but where memory is short.
     pub fn has_joined(
         &self,
         alloc: Global,

@@ -1,8 +1,7 @@
 -- Places of the common tables that look-ups tell.
-use Rattle.std.proofs.Common.{◌≡◌, ℕ, zero, suc, ◌+◌, ◌<◌, ◌≤◌, Bool, true, false, List, [], ◌∷◌, ◌++◌, length, drop, get_or, refl, sym, ap, subst, ◌∙◌, Option, Some, None, option_map, if◌then◌else◌, replicate, arith, append_assoc, Vec, Global, Ok}
-use Rattle.std.specs.Prelude.{slice_get, IfSome}
+use Rattle.std.proofs.Common.{◌≡◌, ℕ, ◌+◌, ◌<◌, ◌≤◌, Bool, true, false, List, [], ◌∷◌, ◌++◌, length, drop, get_or, refl, sym, ap, subst, ◌∙◌, Option, Some, None, option_map, if◌then◌else◌, replicate, arith, append_assoc, Vec, Global, Ok}
+use Rattle.std.specs.Prelude.{IfSome}
 use Rattle.std.proofs.lemmas.List.{append-nil, drop_all, drop_more}
-use Rattle.hippo_model.specs.declared.query.Expr.{Expr}
 use Rattle.hippo_model.specs.declared.query.Masked.{Masked}
 use Rattle.hippo_model.specs.Masking.{Choices}
 use Rattle.hippo_model.specs.RowSets.{KeyedRows}
@@ -11,8 +10,8 @@ use Rattle.hippo_join.specs.declared.sides.Side.{Side}
 use Rattle.hippo_join.specs.Existence.{HasOne, Decides}
 use Rattle.hippo_join.specs.Places.{Fits, slot_at, stands}
 use Rattle.hippo_join.proofs.SlotLemmas.{Fits-at}
-use Rattle.hippo_shared.specs.FirstPlaces.{AgreeAt, AreChosen, AreFirst, AreOpen, IsFirst, with_rows}
-use Rattle.hippo_shared.specs.Searching.{AreCommon, AreTold, HasOneOf, IsOnlyShared, SharedPlaces}
+use Rattle.hippo_shared.specs.FirstPlaces.{AgreeAt, AreChosen, AreFirst, IsFirst}
+use Rattle.hippo_shared.specs.Searching.{AreCommon, AreTold, HasOneOf, IsOnlyShared}
 use Rattle.hippo_shared.proofs.SideLemmas.{share-both, one-agrees}
 
 -- ---- places that are chosen in some tables

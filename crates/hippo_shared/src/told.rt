@@ -134,7 +134,8 @@ fn first_told<C: ChoiceView>(
 ) -> Result<Option<Vec<usize>>, Memory>
     requires common { AreCommon (length query.now.sets.now) (length audit.now.sets.now)
         common.now.query.items common.now.audit.items }
-    requires told { IsOnlyShared C.choices query.now audit.now common.now.query.items common.now.audit.items told.items }
+    requires told { IsOnlyShared C.choices query.now audit.now
+        common.now.query.items common.now.audit.items told.items }
     ensures { IfOk result (λ found. IsFirst (SharedPlaces C.choices query.now audit.now seen.now
         common.now.query.items common.now.audit.items) (option_map (λ places. places.items) found)) }
 {

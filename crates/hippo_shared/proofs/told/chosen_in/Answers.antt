@@ -1,5 +1,5 @@
 -- One place more, and all.
-use Rattle.std.proofs.Common.{[], ◌++◌, sym, subst, ◌∙◌, arith}
+use Rattle.std.proofs.Common.{sym, ◌∙◌, arith}
 use Rattle.hippo_shared.proofs.ToldLemmas.{chosen-more, chosen-all}
 use Rattle.hippo_shared.proofs.told.chosen_in.Goals as goal
 

@@ -1,5 +1,5 @@
 -- All tables stand in the order, and the rows at the places are chosen.
-use Rattle.std.proofs.Common.{◌≡◌, ◌<◌, ℕ, List, Option, None, length, replicate, sym, ap, subst, ◌∙◌}
+use Rattle.std.proofs.Common.{◌<◌, ℕ, List, Option, None, length, replicate, sym, ap, subst, ◌∙◌}
 use Rattle.std.specs.List.{All, Contains}
 use Rattle.std.proofs.lemmas.List.{length-replicate}
 use Rattle.hippo_model.specs.Terms.{Place}

@@ -1,5 +1,5 @@
 -- One side after the other.
-use Rattle.std.proofs.Common.{ℕ, ◌≡◌, ◌<◌, List, Option, None, [], length, replicate, sym, ap, subst, ◌∙◌, arith}
+use Rattle.std.proofs.Common.{◌<◌, List, Option, None, [], length, replicate, sym, ap, subst, arith}
 use Rattle.std.specs.List.{All}
 use Rattle.hippo_model.specs.Terms.{Place}
 use Rattle.hippo_shared.specs.FirstPlaces.{with_rows}

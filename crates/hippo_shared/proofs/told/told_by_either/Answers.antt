@@ -1,5 +1,5 @@
 -- What either side tells.
-use Rattle.std.proofs.Common.{ℕ, List, Option, Vec, Global, subst, ◌∙◌}
+use Rattle.std.proofs.Common.{ℕ, List, Vec, Global, subst}
 use Rattle.std.specs.Prelude.{IfSome}
 use Rattle.hippo_model.specs.Terms.{Place}
 use Rattle.hippo_shared.specs.Searching.{AreTold}

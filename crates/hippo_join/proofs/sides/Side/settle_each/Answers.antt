@@ -1,5 +1,5 @@
 -- One table more.
-use Rattle.std.proofs.Common.{◌∙◌, arith}
+use Rattle.std.proofs.Common.{arith}
 use Rattle.hippo_join.proofs.SettlingLemmas.{Settles_refl, Settles-trans}
 use Rattle.hippo_join.proofs.sides.Side.settle_each.Goals as goal
 
