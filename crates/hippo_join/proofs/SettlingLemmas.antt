@@ -10,9 +10,9 @@ use Rattle.hippo_model.specs.RowSets.{KeyedRows}
 use Rattle.hippo_model.specs.Masking.{Choices}
 use Rattle.hippo_join.specs.declared.stages.Stage.{Stage}
 use Rattle.hippo_join.specs.Known.{is_chosen, is_open}
-use Rattle.hippo_join.specs.Places.{Fits}
+use Rattle.hippo_join.specs.Places.{Fits, stands}
 use Rattle.hippo_join.specs.Settling.{Settles}
-use Rattle.hippo_join.specs.Stages.{ReachesFrom}
+use Rattle.hippo_join.specs.Stages.{Reaches, ReachesFrom}
 use Rattle.hippo_join.specs.Walking.{IsWalkable, AreWalkable, CanWalk}
 use Rattle.hippo_join.proofs.ExistenceLemmas.{get_or_default}
 use Rattle.hippo_join.proofs.FindingLemmas.{closed_chosen, first_or_later}
@@ -45,6 +45,12 @@ module _ (choices : Choices) (query : Masked) (sets : List KeyedRows) where
       → IfSome found (λ first. (length some ≤ 1) × (first ≡ get_or some 0 0)) → IfSome found (λ first. Settles choices query sets slots (slice_set slots table (Some first)))
   only-settles slots table some None within reaches only = tt
   only-settles slots table some (Some first) within reaches only = settles-one slots table some first within reaches only.0 only.1
+
+  -- what may follow the rows that are settled is all that can count
+  pub reaches-settled : (slots here : List (Option Place)) (table : Place) (some listed : List Place) → ((places : List Place) → stands choices query sets places ≡ true → Fits slots places) → here ≡ slots
+      → ReachesFrom choices query sets here table some → listed ≡ some → Reaches choices query sets table listed
+  reaches-settled slots here table some listed settled same reaches is places counts place at =
+      subst (λ (l : List Place). Contains l place) (sym is) (reaches places (subst (λ (s : List (Option Place)). Fits s places) (sym same) (settled places counts)) counts place at)
 
 -- a member that passes a test is kept
 Contains-kept : (test : Place → Bool) (xs : List Place) (x : Place) → Contains xs x → test x ≡ true → Contains (filter test xs) x

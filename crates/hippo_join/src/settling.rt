@@ -6,9 +6,10 @@ ghost use Rattle.hippo_join.specs.Known.{is_open};
 ghost use Rattle.hippo_join.specs.Places.{Fits, stands};
 ghost use Rattle.hippo_join.specs.Existence.{HasOne, Decides};
 ghost use Rattle.hippo_join.specs.Settling.{Settles};
+ghost use Rattle.hippo_join.specs.Stages.{Reaches};
 ghost use Rattle.hippo_join.specs.Walking.{followed};
 
-use crate::following::Following;
+use crate::following::{Following, listed};
 use crate::known::is_open;
 use crate::reaching::{open_slots, push_if};
 use crate::sides::Side;
@@ -129,6 +130,26 @@ impl<'a, C: ChoiceView> Side<'a, C> {
         let mut slots = open_slots(alloc, self.sets.len())?;
         self.settle(alloc, &mut slots)?;
         Ok(slots)
+    }
+
+    /// The places of a table's rows that can count, where look-ups find so many at most. No row is tested.
+    pub fn few_places(
+        &self,
+        alloc: Global,
+        table: usize,
+        most: usize,
+    ) -> Result<Option<Vec<usize>>, Memory>
+        requires { table < length self.now.sets.now }
+        ensures { IfOk result (λ found. IfSome found (λ places. Reaches
+            (C.choices self.now.choices.now) self.now.query.now self.now.sets.now table places.items)) }
+    {
+        let slots = self.settled(alloc)?;
+        let following = self.candidates(alloc, table, &slots, 1)?;
+        if following.len() > most {
+            return Ok(None);
+        }
+        let places = listed(alloc, &following)?;
+        Ok(Some(places))
     }
 
     /// Whether some combination counts that has the rows that are chosen, and shows each cell that is to be seen. The
