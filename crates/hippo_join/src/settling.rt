@@ -17,6 +17,15 @@ use hippo_model::{ChoiceView, Expr};
 use hippo_values::Memory;
 use std::alloc::Global;
 
+// So many places are few.
+const FEW: usize = 16;
+
+// How many of so many rows are few.
+fn few_of(rows: usize) -> usize {
+    let part = rows / FEW;
+    if part < FEW { part } else { FEW }
+}
+
 // The place of which there is no other; 0 where there is none.
 fn only_of(following: &Following<'_>) -> Option<usize>
     ensures { IfSome result (λ first. (length (followed following.now) ≤ 1)
@@ -132,20 +141,16 @@ impl<'a, C: ChoiceView> Side<'a, C> {
         Ok(slots)
     }
 
-    /// The places of a table's rows that can count, where look-ups find so many at most. No row is tested.
-    pub fn few_places(
-        &self,
-        alloc: Global,
-        table: usize,
-        most: usize,
-    ) -> Result<Option<Vec<usize>>, Memory>
+    /// The places of a table's rows that can count, where look-ups find few: sixteen at most, and of sixteen rows one. No
+    /// row is tested.
+    pub fn few_places(&self, alloc: Global, table: usize) -> Result<Option<Vec<usize>>, Memory>
         requires { table < length self.now.sets.now }
         ensures { IfOk result (λ found. IfSome found (λ places. Reaches
             (C.choices self.now.choices.now) self.now.query.now self.now.sets.now table places.items)) }
     {
         let slots = self.settled(alloc)?;
         let following = self.candidates(alloc, table, &slots, 1)?;
-        if following.len() > most {
+        if following.len() > few_of(self.sets.get(table).len()) {
             return Ok(None);
         }
         let places = listed(alloc, &following)?;
