@@ -9,6 +9,7 @@ pub mod CandidateLemmas
 pub mod AmongLemmas
 pub mod SearchLemmas
 pub mod ToldLemmas
+pub mod FewLemmas
 pub mod SharedTheorem
 pub mod HistoryLemmas
 mod SharingExamples

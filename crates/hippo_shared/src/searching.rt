@@ -32,7 +32,7 @@ fn shorter<'s>(some: &'s [usize], others: &'s [usize]) -> &'s [usize]
     }
 }
 
-fn in_order(alloc: Global, places: &[usize]) -> Result<Vec<usize>, Memory>
+pub(crate) fn in_order(alloc: Global, places: &[usize]) -> Result<Vec<usize>, Memory>
     ensures permutation { IfOk result (λ sorted. IsPermutation places.now sorted.items) }
     ensures order { IfOk result (λ sorted. IsNonDecreasing sorted.items) }
 {

@@ -1,16 +1,16 @@
 //! The first places of the common tables' rows, where look-ups alone tell the only ones that both sides may have.
-ghost use Rattle.std.specs.Prelude.{◌≡◌, ◌<◌, None, Some, IfOk, IfSome, if◌then◌else◌, length, option_copied, option_map, replicate};
+ghost use Rattle.std.specs.Prelude.{◌≡◌, ◌<◌, [], ◌∷◌, None, Some, IfOk, IfSome, if◌then◌else◌, get_or, length, map, option_copied, option_map, replicate};
 ghost use Rattle.std.specs.List.{All};
 ghost use Rattle.hippo_join.specs.Existence.{Decides};
 ghost use Rattle.hippo_shared.specs.FirstPlaces.{AreChosen, IsFirst, IsFirstAmong, with_rows};
 ghost use Rattle.hippo_join.specs.Places.{slot_at};
-ghost use Rattle.hippo_shared.specs.Searching.{AreCommon, AreTold, HasOneOf, IsOnlyShared, SharedPlaces};
+ghost use Rattle.hippo_shared.specs.Searching.{AreCommon, AreFewOf, AreFewShared, AreTold, HasOneOf, IsOnlyShared, SharedPlaces};
 
 use crate::commons::{CommonPlaces, order_from};
-use crate::searching::{first_staged, first_walked, slots_with};
+use crate::searching::{first_staged, first_walked, in_order, slots_with};
 use hippo_join::Side;
 use hippo_model::{ChoiceView, Expr, Places};
-use hippo_values::Memory;
+use hippo_values::{Memory, Sequence};
 use std::alloc::Global;
 
 // So many candidates are looked up one by one, before stages are made for all.
@@ -143,6 +143,110 @@ fn first_told<C: ChoiceView>(
     Ok(kept_if(shares, told))
 }
 
+// The one table that there is.
+fn only_table(tables: &[usize]) -> Option<usize>
+    ensures { IfSome result (λ table. (length tables.now ≡ 1) × (table ≡ get_or tables.now 0 0)) }
+{
+    if tables.len() == 1 {
+        Some(tables[0])
+    } else {
+        None
+    }
+}
+
+// The places of a table's rows, in ascending order, among which each combination has one that counts for a side: where
+// it is the only table, and look-ups find few.
+fn few_places<C: ChoiceView>(
+    alloc: Global,
+    side: &Side<'_, C>,
+    tables: &[usize],
+) -> Result<Option<Vec<usize>>, Memory>
+    requires { All (λ table. table < length side.now.sets.now) tables.now }
+    ensures { IfOk result (λ found. IfSome found (λ places. AreFewOf C.choices side.now tables.now places.items)) }
+{
+    let Some(table) = only_table(tables) else {
+        return Ok(None);
+    };
+    let found = side.few_places(alloc, table)?;
+    let Some(places) = found else {
+        return Ok(None);
+    };
+    let sorted = in_order(alloc, &places)?;
+    Ok(Some(sorted))
+}
+
+// The places of the one common table among which those are that are shared, where look-ups on either side find few.
+fn few_by_either<C: ChoiceView>(
+    alloc: Global,
+    query: &Side<'_, C>,
+    audit: &Side<'_, C>,
+    common: &CommonPlaces,
+) -> Result<Option<Vec<usize>>, Memory>
+    requires { AreCommon (length query.now.sets.now) (length audit.now.sets.now)
+        common.now.query.items common.now.audit.items }
+    ensures { IfOk result (λ found. IfSome found (λ few. AreFewShared C.choices query.now audit.now
+        common.now.query.items common.now.audit.items few.items)) }
+{
+    if let Some(places) = few_places(alloc, query, &common.query)? {
+        return Ok(Some(places));
+    }
+    let found = few_places(alloc, audit, &common.audit)?;
+    Ok(found)
+}
+
+fn single(alloc: Global, place: usize) -> Result<Places, Memory>
+    ensures { IfOk result (λ single. single ≡ place ∷ []) }
+{
+    let mut single = Sequence::with_capacity(alloc, 1)?;
+    single.push(place)?;
+    Ok(single)
+}
+
+// Each place alone.
+fn singles(alloc: Global, places: &[usize]) -> Result<Vec<Places>, Memory>
+    ensures { IfOk result (λ singles. singles.items ≡ map (λ place. place ∷ []) places.now) }
+{
+    let mut singles = Vec::with_capacity(alloc, places.len())?;
+    for place in places {
+        let one = single(alloc, *place)?;
+        singles.push(one)?;
+    }
+    Ok(singles)
+}
+
+fn copied(alloc: Global, places: Option<&Places>) -> Result<Option<Vec<usize>>, Memory>
+    ensures { IfOk result (λ made. option_map (λ copy. copy.items) made ≡ option_copied places.entry) }
+{
+    match places {
+        Some(places) => {
+            let made = Vec::from_slice(alloc, places.as_slice())?;
+            Ok(Some(made))
+        }
+        None => Ok(None),
+    }
+}
+
+// The first of a few places of the one common table with which both sides have a combination.
+fn first_of_few<C: ChoiceView>(
+    alloc: Global,
+    query: &Side<'_, C>,
+    audit: &Side<'_, C>,
+    seen: &[Expr],
+    common: &CommonPlaces,
+    few: &[usize],
+) -> Result<Option<Vec<usize>>, Memory>
+    requires common { AreCommon (length query.now.sets.now) (length audit.now.sets.now)
+        common.now.query.items common.now.audit.items }
+    requires few { AreFewShared C.choices query.now audit.now
+        common.now.query.items common.now.audit.items few.now }
+    ensures { IfOk result (λ found. IsFirst (SharedPlaces C.choices query.now audit.now seen.now
+        common.now.query.items common.now.audit.items) (option_map (λ places. places.items) found)) }
+{
+    let candidates = singles(alloc, few)?;
+    let found = first_looked_up(alloc, query, audit, seen, common, &candidates)?;
+    copied(alloc, found)
+}
+
 // The first places of the common tables' rows with which both sides have a combination.
 pub(crate) fn first_places<C: ChoiceView>(
     alloc: Global,
@@ -156,10 +260,13 @@ pub(crate) fn first_places<C: ChoiceView>(
     ensures { IfOk result (λ found. IsFirst (SharedPlaces C.choices query.now audit.now seen.now
         common.now.query.items common.now.audit.items) (option_map (λ places. places.items) found)) }
 {
-    match told_by_either(alloc, query, audit, common)? {
-        Some(told) => first_told(alloc, query, audit, seen, common, told),
-        None => first_walked(alloc, query, audit, seen, common),
+    if let Some(told) = told_by_either(alloc, query, audit, common)? {
+        return first_told(alloc, query, audit, seen, common, told);
     }
+    if let Some(few) = few_by_either(alloc, query, audit, common)? {
+        return first_of_few(alloc, query, audit, seen, common, &few);
+    }
+    first_walked(alloc, query, audit, seen, common)
 }
 
 // The first of some places with which both sides have a combination, where each is looked up.
