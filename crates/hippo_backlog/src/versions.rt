@@ -77,6 +77,13 @@ impl Versions {
         rows
     }
 
+    /// Keeps, from now on, an order of the rows by a column, so that rows are found by it; they stay what they are.
+    pub fn order_by(&mut self, alloc: Global, column: usize)
+        ensures { self.new ≡ self.old }
+    {
+        self.rows.order_by(alloc, column);
+    }
+
     /// How many versions were handed over, those that wait included.
     pub fn handed(&self) -> u64
         ensures { result ≡ self.now.ahead.handed }

@@ -1,5 +1,5 @@
 -- Tables that are brought forward, call by call.
-use Rattle.std.proofs.Common.{◌≡◌, ◌≢◌, ◌∙◌, sym, ap, refl, subst, arith, ℕ, ◌+◌, ◌<◌, ◌≤◌, Bool, true, false, cond, not, List, [], ◌∷◌, ◌++◌, map, length, Option, None, Some, option_map, Result, Ok, Err}
+use Rattle.std.proofs.Common.{◌≡◌, ◌≢◌, ◌∙◌, sym, ap, refl, subst, arith, ℕ, zero, suc, ◌+◌, ◌<◌, ◌≤◌, Bool, true, false, cond, not, List, [], ◌∷◌, ◌++◌, map, length, Option, None, Some, option_map, Result, Ok, Err}
 use Rattle.std.specs.Prelude.{slice_get, slice_set, slice_index_or, bytes_eq, is_some, OnOk, nat_eq}
 use Rattle.std.specs.List.{IsDistinct, position_or_len}
 use Rattle.std.proofs.lemmas.List.{map-append}
@@ -42,6 +42,16 @@ module _ (table : Name) where
 
   none_found : (found : Option HeldLives) → found ≡ None → is_some found ≡ false
   none_found found is = ap is_some is
+
+-- a table that stays what it is
+pub set_same : (tables : List HeldLives) (place : ℕ) (lives new : HeldLives) → slice_get tables place ≡ Some lives → new ≡ lives → slice_set tables place new ≡ tables
+set_same [] zero lives new at same = absurd cc
+set_same [] (suc place) lives new at same = absurd cc
+set_same (first ∷ tables) zero lives new at same = ap (λ (l : HeldLives). l ∷ tables) (same ∙ sym (some_is at))
+  where
+    some_is : {a b : HeldLives} → Some a ≡ Some b → a ≡ b
+    some_is e = cc
+set_same (first ∷ tables) (suc place) lives new at same = ap (λ (l : List HeldLives). first ∷ l) (set_same tables place lives new at same)
 
 module _ (schema : Schema) where
   abbrev first_place : List HeldLives → ℕ

@@ -4,6 +4,7 @@
 mod bringing;
 mod combine;
 mod held;
+mod ordering;
 mod sharing;
 
 pub use combine::Combine;

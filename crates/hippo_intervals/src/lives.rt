@@ -68,6 +68,13 @@ impl Lives {
         self.versions.rows()
     }
 
+    /// Keeps, from now on, an order of the rows by a column, so that rows are found by it; they stay what they are.
+    pub fn order_by(&mut self, alloc: Global, column: usize)
+        ensures { self.new ≡ self.old }
+    {
+        self.versions.order_by(alloc, column);
+    }
+
     /// How many versions were handed over and taken in: those whose rows have ended and those that wait included.
     pub fn taken(&self) -> u64
         ensures { result ≡ taken_by self.now }

@@ -122,7 +122,7 @@ open-unchosen (None ∷ slots) zero still = refl
 open-unchosen (Some place ∷ slots) zero still = absurd (false≢true still)
 open-unchosen (slot ∷ slots) (suc table) still = open-unchosen slots table still
 
-closed_chosen : (slots : List (Option Place)) (table : Place) → is_open slots table ≡ false → table < length slots → is_chosen slots table ≡ true
+pub closed_chosen : (slots : List (Option Place)) (table : Place) → is_open slots table ≡ false → table < length slots → is_chosen slots table ≡ true
 closed_chosen [] table closed within = absurd (omega arith)
 closed_chosen (None ∷ slots) zero closed within = absurd (false≢true (sym closed))
 closed_chosen (Some place ∷ slots) zero closed within = refl

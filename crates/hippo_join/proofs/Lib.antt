@@ -12,6 +12,7 @@ pub mod ReachLemmas
 pub mod SeekingLemmas
 pub mod FindingLemmas
 pub mod ExistenceLemmas
+pub mod SettlingLemmas
 pub mod AnswerLemmas
 pub mod OrderLemmas
 pub mod VisitingLemmas

@@ -9,5 +9,6 @@ pub mod Stages
 pub mod Finding
 pub mod Walking
 pub mod Existence
+pub mod Settling
 pub mod Visiting
 pub mod Plans

@@ -1,9 +1,10 @@
 //! Whether some combination of rows counts, with an end at the first that is found.
-ghost use Rattle.std.specs.Prelude.{◌≡◌, OnOk, length};
+ghost use Rattle.std.specs.Prelude.{◌≡◌, false, OnOk, length};
 ghost use Rattle.std.specs.List.{All};
 ghost use Rattle.hippo_model.specs.Masking.{masked_cell, is_shown_cell};
 ghost use Rattle.hippo_join.specs.Finding.{Covers};
 ghost use Rattle.hippo_join.specs.Stages.{IsStage};
+ghost use Rattle.hippo_join.specs.Walking.{CanWalk};
 ghost use Rattle.hippo_join.specs.Existence.{are_shown, HasOne, Decides};
 
 use crate::sides::Side;
@@ -67,19 +68,17 @@ impl<'a, C: ChoiceView> PlaceVisitor for Seeker<'a, C> {
 }
 
 impl<'a, C: ChoiceView> Side<'a, C> {
-    /// Whether some combination counts that has the rows that are chosen, and shows each cell that is to be seen. Wants
-    /// stages for all tables whose row is not chosen; leaves the slots as they are, but where memory is short.
-    pub fn has(
+    // Whether some combination counts that has the rows that are chosen, and shows each cell that is to be seen, along
+    // stages of the tables whose row is not chosen.
+    pub(crate) fn has_along(
         &self,
         alloc: Global,
         stages: &[Stage],
         seen: &[Expr],
         slots: &mut [Option<usize>],
     ) -> Result<bool, Memory>
-        requires long { length slots.old ≡ length self.now.sets.now }
-        requires stages { All (IsStage (C.choices self.now.choices.now) self.now.query.now self.now.sets.now)
-            stages.now }
-        requires covers { Covers stages.now slots.old }
+        requires { CanWalk (C.choices self.now.choices.now) self.now.query.now self.now.sets.now false
+            stages.now slots.old }
         ensures slots { OnOk result (slots.new ≡ slots.old) }
         ensures one { Decides (HasOne (C.choices self.now.choices.now) self.now.query.now seen.now self.now.sets.now
             slots.old) result }
@@ -100,5 +99,25 @@ impl<'a, C: ChoiceView> Side<'a, C> {
             &mut is_found,
         )?;
         Ok(is_found)
+    }
+
+    /// Whether some combination counts that has the rows that are chosen, and shows each cell that is to be seen. Wants
+    /// stages for all tables whose row is not chosen; leaves the slots as they are, but where memory is short.
+    pub fn has(
+        &self,
+        alloc: Global,
+        stages: &[Stage],
+        seen: &[Expr],
+        slots: &mut [Option<usize>],
+    ) -> Result<bool, Memory>
+        requires long { length slots.old ≡ length self.now.sets.now }
+        requires stages { All (IsStage (C.choices self.now.choices.now) self.now.query.now self.now.sets.now)
+            stages.now }
+        requires covers { Covers stages.now slots.old }
+        ensures slots { OnOk result (slots.new ≡ slots.old) }
+        ensures one { Decides (HasOne (C.choices self.now.choices.now) self.now.query.now seen.now self.now.sets.now
+            slots.old) result }
+    {
+        self.has_along(alloc, stages, seen, slots)
     }
 }

@@ -14,6 +14,7 @@ mod orders;
 mod ranges;
 mod reaching;
 mod seeking;
+mod settling;
 mod sides;
 mod stages;
 mod ties;

@@ -288,6 +288,32 @@ impl<'a, C: ChoiceView> Side<'a, C> {
         Ok(tests)
     }
 
+    // The stages of a join behind rows that are chosen, in an order of tables: all with their places, or only those
+    // whose rows are not looked up.
+    pub(crate) fn stages_behind(
+        &self,
+        alloc: Global,
+        chosen: &[Option<usize>],
+        order: &[usize],
+        lists: bool,
+    ) -> Result<Vec<Stage>, Memory>
+        requires long { length chosen.now ≡ length self.now.sets.now }
+        requires below { All (λ table. table < length self.now.sets.now) order.now }
+        ensures { IfOk result (λ stages. AreWalkable
+            (C.choices self.now.choices.now) self.now.query.now self.now.sets.now lists order.now stages.items) }
+    {
+        let mut slots = Vec::from_slice(alloc, chosen)?;
+        let mut stages = Vec::new(alloc);
+        let mut before = 1;
+        for table in order {
+            let stage = self.stage(alloc, *table, &slots, before, lists)?;
+            before = after_stage(before, &stage);
+            stages.push(stage)?;
+            slots[*table] = Some(0);
+        }
+        Ok(stages)
+    }
+
     // The stages of a join, in an order of tables: all with their places, or only those whose rows are not looked up.
     pub(crate) fn stages_in(
         &self,
@@ -299,16 +325,8 @@ impl<'a, C: ChoiceView> Side<'a, C> {
         ensures { IfOk result (λ stages. AreWalkable
             (C.choices self.now.choices.now) self.now.query.now self.now.sets.now lists order.now stages.items) }
     {
-        let mut slots = open_slots(alloc, self.sets.len())?;
-        let mut stages = Vec::new(alloc);
-        let mut before = 1;
-        for table in order {
-            let stage = self.stage(alloc, *table, &slots, before, lists)?;
-            before = after_stage(before, &stage);
-            stages.push(stage)?;
-            slots[*table] = Some(0);
-        }
-        Ok(stages)
+        let slots = open_slots(alloc, self.sets.len())?;
+        self.stages_behind(alloc, &slots, order, lists)
     }
 
     /// The stages of a join, in an order of tables.

@@ -25,7 +25,8 @@ use Rattle.hippo_shared.specs.Tuples.{tuple_at}
 use Rattle.hippo_shared.specs.Marks.{place_like, row_place, row_places, same_places, mark_of, is_one}
 use Rattle.hippo_shared.proofs.CommonLemmas.{place-found, common-in-query, common-in-audit}
 use Rattle.hippo_shared.proofs.MarkLemmas.{same-exact, same-from, place_like-own, is_one-passing}
-use Rattle.hippo_shared.proofs.TupleLemmas.{AllStandIn, AgreeAt, no_rows, set_at, agrees-from-tuple, tuple-from-agrees, agrees-in-range}
+use Rattle.hippo_shared.specs.FirstPlaces.{AgreeAt}
+use Rattle.hippo_shared.proofs.TupleLemmas.{AllStandIn, no_rows, set_at, agrees-from-tuple, tuple-from-agrees, agrees-in-range}
 
 from_all : {X : Type 0} (P : X → Type 0) (xs : List X) → All P xs → AllByRecursion P xs
 from_all P [] all = tt

@@ -8,6 +8,8 @@ pub mod MarkLemmas
 pub mod CandidateLemmas
 pub mod AmongLemmas
 pub mod SearchLemmas
+pub mod ToldLemmas
+pub mod FewLemmas
 pub mod SharedTheorem
 pub mod HistoryLemmas
 mod SharingExamples

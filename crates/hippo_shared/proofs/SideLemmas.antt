@@ -34,9 +34,8 @@ use Rattle.hippo_join.proofs.ProductLemmas.{product-rows, has-places_of}
 use Rattle.hippo_join.proofs.FoundLemmas.{same_places}
 use Rattle.hippo_join.proofs.SlotLemmas.{Fits-at, Fits-set, Fits-open, length-in_range}
 use Rattle.hippo_join.proofs.ExistenceLemmas.{Fits-unset}
-use Rattle.hippo_shared.specs.FirstPlaces.{AreOpen, ShareAt, with_rows}
+use Rattle.hippo_shared.specs.FirstPlaces.{AgreeAt, AreOpen, ShareAt, with_rows}
 use Rattle.hippo_shared.specs.Sharing.{has_tuple, audit_has}
-use Rattle.hippo_shared.proofs.TupleLemmas.{AgreeAt}
 
 -- ---- a combination of the product that passes a test
 list_any-map : {A B : Type 0} (test : B → Bool) (f : A → B) (xs : List A) → list_any test (map f xs) ≡ list_any (λ x. test (f x)) xs

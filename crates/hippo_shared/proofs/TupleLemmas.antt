@@ -19,6 +19,7 @@ use Rattle.hippo_join.specs.Places.{blank, row_at, chosen, in_range, places_of}
 use Rattle.hippo_join.proofs.ProductLemmas.{each_row, map-map, map-flat_map}
 use Rattle.hippo_join.proofs.SlotLemmas.{row-at, length-in_range}
 use Rattle.hippo_join.proofs.PruneLemmas.{below-rows}
+use Rattle.hippo_shared.specs.FirstPlaces.{AgreeAt}
 use Rattle.hippo_shared.specs.Sharing.{place_in, rows_named, shared_rows, virtual_tuples, key_at, has_tuple}
 use Rattle.hippo_shared.specs.Tuples.{row_shared, tuple_at}
 use Rattle.hippo_shared.proofs.CommonLemmas.{place-found}
@@ -63,13 +64,6 @@ module _ (names : List Name) (sets : List KeyedRows) where
       ∙ map-map (λ others. row place ∷ others) later places
       ∙ sym (map-map whole (λ others. place ∷ others) places)) range
       ∙ sym (map-flat_map whole (λ place. map (λ others. place ∷ others) places) range)
-
--- places that have, in some tables, those that are given
-abbrev pub AgreeAt : List Place → List Place → List Place → Type 0
-AgreeAt [] [] places = Unit {0}
-AgreeAt [] (given ∷ others) places = ⊥
-AgreeAt (table ∷ tables) [] places = ⊥
-AgreeAt (table ∷ tables) (given ∷ others) places = (slice_get places table ≡ Some given) × AgreeAt tables others places
 
 pub set_at : (tables : List Name) (sets : List KeyedRows) (table : Name) → length sets ≡ length tables → list_any (bytes_eq table) tables ≡ true → slice_get sets (place_in tables table) ≡ Some (rows_named tables sets table)
 set_at tables sets table long has = slice_get-get_or sets (place_in tables table) no_rows (subst (λ (n : ℕ). place_in tables table < n) (sym long) (place-found tables table has).0)

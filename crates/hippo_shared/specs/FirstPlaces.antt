@@ -6,6 +6,7 @@ use Rattle.hippo_model.specs.Masking.{Choices}
 use Rattle.hippo_model.specs.RowSets.{KeyedRows}
 use Rattle.hippo_model.specs.Terms.{Place}
 use Rattle.hippo_join.specs.declared.stages.Stage.{Stage}
+use Rattle.hippo_join.specs.Places.{slot_at}
 use Rattle.hippo_join.specs.Stages.{IsStage}
 
 -- tables whose rows are not chosen, whatever rows of the others are
@@ -57,3 +58,17 @@ with_rows (table ∷ tables) (place ∷ places) slots = with_rows tables places 
 pub record AreWhole (choices : Choices) (query : Masked) (sets : List KeyedRows) (stages : List Stage) : Type 0 where
   pub each : All (IsStage choices query sets) stages
   pub all : (table : Place) → table < length sets → Contains (map (λ stage. stage.table) stages) table
+
+-- places that have, in some tables, those that are given
+abbrev pub AgreeAt : List Place → List Place → List Place → Type 0
+AgreeAt [] [] places = Unit {0}
+AgreeAt [] (given ∷ others) places = ⊥
+AgreeAt (table ∷ tables) [] places = ⊥
+AgreeAt (table ∷ tables) (given ∷ others) places = (slice_get places table ≡ Some given) × AgreeAt tables others places
+
+-- places of some tables at which a place is chosen in each
+abbrev pub AreChosen : List (Option Place) → List Place → List Place → Type 0
+AreChosen slots [] [] = Unit {0}
+AreChosen slots [] (place ∷ places) = ⊥
+AreChosen slots (table ∷ tables) [] = ⊥
+AreChosen slots (table ∷ tables) (place ∷ places) = (slot_at slots table ≡ Some place) × AreChosen slots tables places

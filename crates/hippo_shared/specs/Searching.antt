@@ -1,6 +1,7 @@
 -- The search for the first places of the common tables' rows: what it counts on, and what it finds.
-use Rattle.std.specs.Prelude.{◌≡◌, ℕ, ◌<◌, List, [], map, length, replicate, Option, None, Result, OnOk, IfOk, option_map}
-use Rattle.std.specs.List.{All}
+use Rattle.std.specs.Prelude.{◌≡◌, ℕ, ◌<◌, true, List, [], ◌∷◌, get_or, map, length, replicate, Option, None, Result, OnOk, IfOk, option_map}
+use Rattle.std.specs.List.{All, Contains}
+use Rattle.std.specs.List.Sorted.{IsNonDecreasing}
 use Rattle.std.specs.Global.{Vec}
 use Rattle.hippo_values.specs.declared.memory.Memory.{Memory}
 use Rattle.hippo_model.specs.declared.query.Expr.{Expr}
@@ -9,10 +10,11 @@ use Rattle.hippo_model.specs.Masking.{Choices}
 use Rattle.hippo_join.specs.declared.sides.Side.{Side}
 use Rattle.hippo_join.specs.declared.stages.Stage.{Stage}
 use Rattle.hippo_join.specs.Existence.{HasOne}
-use Rattle.hippo_join.specs.Stages.{IsStage, ReachesFrom}
+use Rattle.hippo_join.specs.Places.{stands}
+use Rattle.hippo_join.specs.Stages.{IsStage, Reaches, ReachesFrom}
 use Rattle.hippo_shared.specs.declared.commons.CommonStages.{CommonStages}
 use Rattle.hippo_shared.specs.declared.searching.Search.{Search}
-use Rattle.hippo_shared.specs.FirstPlaces.{AreOpen, AreWhole, ShareAt, IsFirst}
+use Rattle.hippo_shared.specs.FirstPlaces.{AgreeAt, AreOpen, AreWhole, ShareAt, IsFirst}
 
 -- the row that is chosen of each of a side's tables
 abbrev pub Slots : Type 0
@@ -80,3 +82,27 @@ pub record AreCommon (query_count audit_count : ℕ) (query audit : List Place) 
   pub query_below : All (λ table. table < query_count) query
   pub audit_below : All (λ table. table < audit_count) audit
   pub same : length query ≡ length audit
+
+-- each combination that counts for a side has these places of some tables
+abbrev pub AreTold : {C : Type 0} → (C → Choices) → Side C → List Place → List Place → Type 0
+AreTold choices side tables told =
+    (places : List Place) → stands (choices side.choices.now) side.query.now side.sets.now places ≡ true
+    → AgreeAt tables told places
+
+-- no other places of the common tables are shared, whatever is to be seen
+abbrev pub IsOnlyShared : {C : Type 0} → (C → Choices) → Side C → Side C → List Place → List Place → List Place → Type 0
+IsOnlyShared choices query audit tables others told =
+    (seen : List Expr) (given : List Place) → SharedPlaces choices query audit seen tables others given → given ≡ told
+
+-- of one table, each combination that counts for a side has a row at one of these places, which ascend
+pub record AreFewOf {C : Type 0} (choices : C → Choices) (side : Side C) (tables few : List Place) : Type 0 where
+  pub one : length tables ≡ 1
+  pub rises : IsNonDecreasing few
+  pub reaches : Reaches (choices side.choices.now) side.query.now side.sets.now (get_or tables 0 0) few
+
+-- what is shared is one of these places, which ascend
+pub record AreFewShared {C : Type 0} (choices : C → Choices) (query audit : Side C) (tables others few : List Place)
+    : Type 0 where
+  pub rises : IsNonDecreasing few
+  pub all : (seen : List Expr) (given : List Place) → SharedPlaces choices query audit seen tables others given
+      → (place : Place) × (given ≡ place ∷ []) × Contains few place

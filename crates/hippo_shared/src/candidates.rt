@@ -9,8 +9,8 @@ ghost use Rattle.hippo_shared.specs.Sharing.{HaveSameRows, common_tables, audit_
 ghost use Rattle.hippo_shared.specs.Candidates.{AreThoseOf, first_passing};
 
 use crate::commons::{common_places, order_from};
-use crate::searching::first_candidate;
 use crate::sharing::{know_order, unmasked_query};
+use crate::told::first_candidate;
 use crate::tuples::tuple_at;
 use hippo_join::{Side, blank_row, open_slots};
 use hippo_model::{Audit, ChoiceView, Exprs, Masked, Places, Sets, SharedTuple};

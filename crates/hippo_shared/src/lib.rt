@@ -7,6 +7,7 @@ pub mod laws;
 mod marks;
 mod searching;
 mod sharing;
+mod told;
 mod tuples;
 
 pub use candidates::{audit_has_any, first_of};

@@ -32,7 +32,7 @@ fn shorter<'s>(some: &'s [usize], others: &'s [usize]) -> &'s [usize]
     }
 }
 
-fn in_order(alloc: Global, places: &[usize]) -> Result<Vec<usize>, Memory>
+pub(crate) fn in_order(alloc: Global, places: &[usize]) -> Result<Vec<usize>, Memory>
     ensures permutation { IfOk result (λ sorted. IsPermutation places.now sorted.items) }
     ensures order { IfOk result (λ sorted. IsNonDecreasing sorted.items) }
 {
@@ -49,7 +49,7 @@ fn with_first(place: usize, mut others: Vec<usize>) -> Result<Vec<usize>, Memory
 }
 
 // Slots of some tables, where the rows of these are chosen.
-fn slots_with(
+pub(crate) fn slots_with(
     alloc: Global,
     count: usize,
     tables: &[usize],
@@ -224,7 +224,7 @@ impl<'a, C: ChoiceView> Search<'a, C> {
 }
 
 // The first of some places of the common tables' rows with which both sides have a combination.
-pub(crate) fn first_candidate<'p, C: ChoiceView>(
+pub(crate) fn first_staged<'p, C: ChoiceView>(
     alloc: Global,
     query: &Side<'_, C>,
     audit: &Side<'_, C>,
@@ -252,7 +252,7 @@ pub(crate) fn first_candidate<'p, C: ChoiceView>(
 }
 
 // The first places of the common tables' rows with which both sides have a combination.
-pub(crate) fn first_places<C: ChoiceView>(
+pub(crate) fn first_walked<C: ChoiceView>(
     alloc: Global,
     query: &Side<'_, C>,
     audit: &Side<'_, C>,

@@ -6,7 +6,7 @@ ghost use Rattle.hippo_eval.specs.Unmasked.{unmasked_condition};
 ghost use Rattle.hippo_shared.specs.Sharing.{HaveSameRows, first_shared};
 
 use crate::commons::common_places;
-use crate::searching::first_places;
+use crate::told::first_places;
 use crate::tuples::tuple_at;
 use hippo_eval::unmasked_condition;
 use hippo_join::{Side, blank_row};
@@ -89,7 +89,8 @@ fn first_beside<C: ChoiceView>(
 /// combination of the query's rows has which makes a row of its answer and in which each expression of `seen` is a
 /// shown cell, and that some combination of the audit's rows has of which its condition is true; none exactly where
 /// there is none. Wants the rows of each side's tables, in the order of FROM, the same ones of a table that both have;
-/// and an audit that names no table twice. Takes time in proportion to the tables and to what matches on the way to the
+/// and an audit that names no table twice. Where look-ups on either side tell the only rows of the common tables, or few
+/// of one, takes time in proportion to what they find; else to the tables and to what matches on the way to the
 /// first tuple.
 pub fn first_shared<C: ChoiceView>(
     alloc: Global,

@@ -1,26 +1,11 @@
--- Stages that list their places are stages of a walk, and the first combination that is found is enough.
-use Rattle.std.proofs.Common.{◌≡◌, Bool, false, List, [], refl}
-use Rattle.std.specs.List.{list_any}
+-- Stages that list their places are stages of a walk.
 use Rattle.std.proofs.lemmas.Bool.{false≢true}
-use Rattle.hippo_model.specs.Terms.{Place}
-use Rattle.hippo_join.specs.Existence.{are_shown}
-use Rattle.hippo_join.specs.Places.{chosen}
-use Rattle.hippo_join.proofs.ExistenceLemmas.{one-found}
-use Rattle.hippo_join.proofs.VisitingLemmas.{kept-whole}
 use Rattle.hippo_join.proofs.sides.Side.has.Goals as goal
 
-pub walk-requires-clause-walk : goal.walk-requires-clause-walk
-walk-requires-clause-walk g c = record {
+pub has_along-requires : goal.has_along-requires
+has_along-requires g c = record {
   long = c.requires.long;
   walkable = λ k stage within lists. c.requires.stages k stage within;
   covers = c.requires.covers;
   rises = λ asked. absurd (false≢true asked);
 }
-
-pub returns-clause-one : goal.returns-clause-one
-returns-clause-one g c =
-    let choices = (g.C.ChoiceView.choices c.args.self.now.choices.now) in
-    let sets = c.args.self.now.sets.now in
-    let visited = c.in_ok-_onward.ensures.kept [] [] refl in
-    one-found choices c.args.self.now.query.now c.args.seen.now sets c.args.slots.now false visited.all c.walk.new.state visited.are
-    (kept-whole (λ (some : List (List Place)) (found : Bool). found ≡ list_any (λ places. are_shown choices c.args.seen.now (chosen sets places)) some) false c.in_ok-_onward._onward [] visited.all c.walk.new.state visited.kept)

@@ -1,7 +1,7 @@
 -- The stages so far are those of the first tables.
 use Rattle.std.proofs.Common.{◌≡◌, length, take}
 use Rattle.hippo_join.specs.Walking.{AreWalkable}
-use Rattle.hippo_join.proofs.sides.Side.stages_in.Given as goal
+use Rattle.hippo_join.proofs.sides.Side.stages_behind.Given as goal
 
 abbrev pub invariant-loop-table : goal.invariant-loop-table
 invariant-loop-table g l = record {

@@ -1,7 +1,7 @@
 -- One stage more.
 use Rattle.std.proofs.Common.{length-set}
 use Rattle.hippo_join.proofs.FindingLemmas.{stages-more}
-use Rattle.hippo_join.proofs.sides.Side.stages_in.Goals as goal
+use Rattle.hippo_join.proofs.sides.Side.stages_behind.Goals as goal
 
 pub loop-table-preserved : goal.loop-table-preserved
 loop-table-preserved g c = record {

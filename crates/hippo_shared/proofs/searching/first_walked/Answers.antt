@@ -8,7 +8,7 @@ use Rattle.hippo_shared.specs.declared.commons.CommonStages.{CommonStages}
 use Rattle.hippo_shared.specs.FirstPlaces.{ShareAt, IsFirst}
 use Rattle.hippo_shared.specs.Searching.{HasOneOf, query_tables, audit_tables}
 use Rattle.hippo_shared.proofs.SearchLemmas.{whole-stages, common-are-stages, common-tables-are, four, open-by}
-use Rattle.hippo_shared.proofs.searching.first_places.Goals as goal
+use Rattle.hippo_shared.proofs.searching.first_walked.Goals as goal
 
 pub first-requires : goal.first-requires
 first-requires g c = record {

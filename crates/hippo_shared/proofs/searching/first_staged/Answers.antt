@@ -1,7 +1,7 @@
 -- Each side has stages of all its tables.
 use Rattle.std.proofs.Common.{length, refl}
 use Rattle.hippo_shared.proofs.SearchLemmas.{whole-stages}
-use Rattle.hippo_shared.proofs.searching.first_candidate.Goals as goal
+use Rattle.hippo_shared.proofs.searching.first_staged.Goals as goal
 
 pub first_of-requires-clause-query : goal.first_of-requires-clause-query
 first_of-requires-clause-query g c =

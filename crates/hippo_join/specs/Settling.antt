@@ -1,0 +1,13 @@
+-- Rows that each combination which counts has.
+use Rattle.std.specs.Prelude.{◌≡◌, true, List, length, Option}
+use Rattle.hippo_model.specs.declared.query.Masked.{Masked}
+use Rattle.hippo_model.specs.Terms.{Place}
+use Rattle.hippo_model.specs.RowSets.{KeyedRows}
+use Rattle.hippo_model.specs.Masking.{Choices}
+use Rattle.hippo_join.specs.Places.{Fits, stands}
+
+-- a combination that counts and has the rows that are chosen before has those that are chosen after, too
+pub record Settles
+    (choices : Choices) (query : Masked) (sets : List KeyedRows) (before after : List (Option Place)) : Type 0 where
+  pub long : length after ≡ length before
+  pub fits : (places : List Place) → Fits before places → stands choices query sets places ≡ true → Fits after places

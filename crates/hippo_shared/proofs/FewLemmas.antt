@@ -1,0 +1,115 @@
+-- A few places of the one common table.
+use Rattle.std.proofs.Common.{◌≡◌, ℕ, suc, ◌+◌, ◌<◌, ◌≤◌, List, [], ◌∷◌, ◌++◌, map, length, take, get_or, sym, ap, subst, ◌∙◌, Option, Some, None, inl, inr, arith, Vec, Global}
+use Rattle.std.specs.Prelude.{slice_get, IfSome}
+use Rattle.std.specs.List.{All, Contains}
+use Rattle.std.specs.List.Sorted.{IsNonDecreasing, IsPermutation}
+use Rattle.std.proofs.lemmas.List.{take_more, take_all}
+use Rattle.std.proofs.lemmas.List.Sorted.{Contains-permutation}
+use Rattle.hippo_model.specs.Terms.{Place}
+use Rattle.hippo_join.specs.declared.sides.Side.{Side}
+use Rattle.hippo_join.specs.Stages.{Reaches}
+use Rattle.hippo_join.proofs.FindingLemmas.{first_or_later}
+use Rattle.hippo_model.specs.Masking.{Choices}
+use Rattle.hippo_shared.specs.FirstPlaces.{AgreeAt, AreFirst, IsFirst, IsFirstAmong}
+use Rattle.hippo_shared.specs.Searching.{AreCommon, AreFewOf, AreFewShared, HasOneOf}
+use Rattle.hippo_shared.proofs.LoopLemmas.{map-push}
+use Rattle.hippo_shared.proofs.SideLemmas.{share-both, one-agrees}
+
+abbrev pub alone : Place → List Place
+alone place = place ∷ []
+
+-- ---- each place alone
+pub singles-more : (xs : List Place) (i : ℕ) (one : List Place) (so_far more : List (List Place)) → i < length xs → one ≡ alone (get_or xs i 0) → more ≡ so_far ++ one ∷ [] → so_far ≡ map alone (take i xs) → more ≡ map alone (take (i + 1) xs)
+singles-more xs i one so_far more within is pushed before =
+    pushed ∙ (λ j. before j ++ is j ∷ []) ∙ sym (ap (map alone) (take_more xs i 0 within) ∙ map-push alone (take i xs) (get_or xs i 0))
+
+pub singles-all : (xs : List Place) (i : ℕ) (so_far : List (List Place)) → length xs ≤ i → so_far ≡ map alone (take i xs) → so_far ≡ map alone xs
+singles-all xs i so_far past before = before ∙ ap (map alone) (take_all i xs past)
+
+-- ---- a side's few places
+pub table-below : (tables : List Place) (table n : ℕ) → (length tables ≡ 1) × (table ≡ get_or tables 0 0) → All (λ (other : Place). other < n) tables → table < n
+table-below tables table n only below = subst (λ (t : ℕ). t < n) (sym only.1) (below 0 0 (omega (arith, only.0)))
+
+pub few-of : {C : Type 0} (choices : C → Choices) (side : Side C) (tables : List Place) (table : ℕ) (some here sorted : List Place) → (length tables ≡ 1) × (table ≡ get_or tables 0 0)
+    → Reaches (choices side.choices.now) side.query.now side.sets.now table some → here ≡ some → IsPermutation here sorted → IsNonDecreasing sorted → AreFewOf choices side tables sorted
+few-of choices side tables table some here sorted only reaches same moved rises = record {
+  one = only.0;
+  rises = rises;
+  reaches = λ places counts place at.
+      let reach : Reaches (choices side.choices.now) side.query.now side.sets.now (get_or tables 0 0) some =
+      subst (λ (t : ℕ). Reaches (choices side.choices.now) side.query.now side.sets.now t some) only.1 reaches in
+      Contains-permutation here sorted place moved (subst (λ (l : List Place). Contains l place) (sym same) (reach places counts place at));
+}
+
+agreed_one : (tables given places : List Place) → length tables ≡ 1 → AgreeAt tables given places → (place : Place) × (given ≡ place ∷ []) × (slice_get places (get_or tables 0 0) ≡ Some place)
+agreed_one [] given places one agree = absurd (omega (arith, one))
+agreed_one (table ∷ other ∷ tables) given places one agree = absurd (omega (arith, one))
+agreed_one (table ∷ []) [] places one agree = absurd agree
+agreed_one (table ∷ []) (place ∷ []) places one agree = (place, (λ i. place ∷ []), agree.0)
+agreed_one (table ∷ []) (place ∷ other ∷ given) places one agree = absurd agree.1
+
+module _ {C : Type 0} (choices : C → Choices) (query audit : Side C) (tables others : List Place) (common : AreCommon (length query.sets.now) (length audit.sets.now) tables others) where
+  pub few-by-query : (few : List Place) → AreFewOf choices query tables few → AreFewShared choices query audit tables others few
+  few-by-query few are = record {
+    rises = are.rises;
+    all = λ seen given share.
+        let both = share-both (HasOneOf choices query seen) (HasOneOf choices audit []) tables others _ _ given share in
+        let one = one-agrees (choices query.choices.now) query.query.now seen query.sets.now tables given _ common.query_open both.0 both.1 in
+        let here = agreed_one tables given one.0.places are.one one.1 in
+        (here.0, here.1, are.reaches one.0.places one.0.counts here.0 here.2);
+  }
+
+  few-by-audit : (few : List Place) → AreFewOf choices audit others few → AreFewShared choices query audit tables others few
+  few-by-audit few are = record {
+    rises = are.rises;
+    all = λ seen given share.
+        let both = share-both (HasOneOf choices query seen) (HasOneOf choices audit []) tables others _ _ given share in
+        let one = one-agrees (choices audit.choices.now) audit.query.now [] audit.sets.now others given _ common.audit_open (both.0 ∙ common.same) both.2 in
+        let here = agreed_one others given one.0.places are.one one.1 in
+        (here.0, here.1, are.reaches one.0.places one.0.counts here.0 here.2);
+  }
+
+  pub few-by-either : (items : Vec ℕ Global → List Place) (found : Option (Vec ℕ Global)) → IfSome found (λ few. AreFewOf choices audit others (items few)) → IfSome found (λ few. AreFewShared choices query audit tables others (items few))
+  few-by-either items None few = tt
+  few-by-either items (Some places) few = few-by-audit (items places) few
+
+-- ---- the first of them
+module _ (holds : List Place → Type 0) where
+  abbrev AllAmong : List Place → Type 0
+  AllAmong few = (given : List Place) → holds given → (place : Place) × (given ≡ place ∷ []) × Contains few place
+
+  abbrev first_of : List Place → Place
+  first_of [] = 0
+  first_of (x ∷ xs) = x
+
+  later_rises : (x : Place) (few : List Place) → IsNonDecreasing (x ∷ few) → IsNonDecreasing few
+  later_rises x few rises = λ i j d up within. rises (suc i) (suc j) d (omega (arith, up)) (omega (arith, within))
+
+  -- where it does not hold with the first, it is left to the others
+  left_among : (x : Place) (few : List Place) → AllAmong (x ∷ few) → ¬ holds (alone x) → AllAmong few
+  left_among x few all wrong given held =
+      let found = all given held in (
+        found.0,
+        found.1,
+        elim (first_or_later x few found.0 found.2) as (λ _. Contains few found.0) [
+          | inl here ↦ absurd (wrong (subst holds (found.1 ∙ sym (ap alone here)) held))
+          | inr later ↦ later
+        ],
+      )
+
+  least_first : (x : Place) (few : List Place) → IsNonDecreasing (x ∷ few) → AllAmong (x ∷ few) → holds (alone x) → AreFirst holds (alone x)
+  least_first x few rises all held = (
+    held,
+    λ lower less others h.
+        let found = all (lower ∷ others) h in
+        let same : lower ≡ found.0 = ap first_of found.1 in
+        let up : x ≤ get_or (x ∷ few) found.2.0 found.0 = rises 0 found.2.0 found.0 (omega arith) found.2.1 in
+        absurd (omega (arith, less, same, up, found.2.2)),
+  )
+
+  pub few-first : (few : List Place) → IsNonDecreasing few → AllAmong few → (found : Option (List Place)) → IsFirstAmong holds (map alone few) found → IsFirst holds found
+  few-first [] rises all None first = λ given held. let found = all given held in omega (arith, found.2.1)
+  few-first [] rises all (Some places) first = absurd first
+  few-first (x ∷ few) rises all None first = few-first few (later_rises x few rises) (left_among x few all first.0) None first.1
+  few-first (x ∷ few) rises all (Some places) (inl is) = subst (AreFirst holds) is.0 (least_first x few rises all is.1)
+  few-first (x ∷ few) rises all (Some places) (inr other) = few-first few (later_rises x few rises) (left_among x few all other.0) (Some places) other.1
