@@ -191,6 +191,15 @@ impl Engine {
 
     /// Carries out a line, as `answer` does, and writes its reply, if it was carried out. Answers `Write` only where the
     /// sink's count of faults rose: a front of the reply is then written.
+    ///
+    /// Where session 1 is ann's, for `treatment` as a `nurse`, who may see of a patient `pid` and `name` alone:
+    ///
+    /// ```text
+    /// line     1 SELECT name, phone FROM patient
+    /// kept     the question, as the next entry
+    /// written  1 row 'Ada', DENIED(0)
+    ///          1 end 1
+    /// ```
     pub fn line<K: Sink, P: Keeper, L: Ledger>(
         &mut self,
         alloc: Global,

@@ -134,6 +134,19 @@ fn check<K: Sink, P: Keeper, L: Ledger>(
 /// - 7: memory was short before the first byte was read, or in a drill; nothing was read or written.
 /// - 8: more than 2^40 bytes were read; just the lines that end among the first 2^40 have their
 ///   replies, and in a load that which sets the clock.
+///
+/// Over a store in which nothing is kept:
+///
+/// ```text
+/// words    run --store clinic.db
+/// input    at 2024-01-02T08:00:00Z
+///          0 CREATE PURPOSE treatment
+///          0 CREATE PURPOSE treatment
+/// output   - ok
+///          0 ok 1
+///          0 no 36 AlreadyThere treatment
+/// answer   0
+/// ```
 pub fn hippo_top<S: Source, K: Sink, P: Keeper, L: Ledger>(
     alloc: Global,
     words: &[Txt],

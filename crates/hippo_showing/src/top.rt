@@ -96,7 +96,7 @@ fn show_view<K: Sink, P: Keeper, L: Ledger>(
     }
 }
 
-// The same, and the state falls.
+// Shows what is asked for of the history that a state stands for, and lets the state fall.
 fn show_loaded<K: Sink, P: Keeper, L: Ledger>(
     alloc: Global,
     view: &View,
