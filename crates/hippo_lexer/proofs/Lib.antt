@@ -14,5 +14,6 @@ pub mod OutcomeLemmas
 pub mod SpanLemmas
 pub mod CutLemmas
 pub mod RunLemmas
+pub mod FewLemmas
 pub mod FirstLemmas
 pub mod EdgeLemmas

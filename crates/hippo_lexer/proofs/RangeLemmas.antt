@@ -10,7 +10,7 @@ true_or_left : (a b : Bool) → a ≡ true → (a || b) ≡ true
 true_or_left true b h = refl
 true_or_left false b h = cc
 
-false_or : (a b : Bool) → a ≡ false → b ≡ false → (a || b) ≡ false
+pub false_or : (a b : Bool) → a ≡ false → b ≡ false → (a || b) ≡ false
 false_or true b h k = cc
 false_or false b h k = k
 

@@ -3,11 +3,11 @@ ghost use Rattle.std.specs.Prelude.{◌≡◌, true, ◌+◌, ◌<◌, ◌≤◌
 ghost use Rattle.std.specs.Char.{is_ascii_alphabetic};
 ghost use Rattle.hippo_values.specs.Names.{is_word_byte, is_word};
 ghost use Rattle.hippo_lexer.specs.Spelling.{is_blank, begins_with};
-ghost use Rattle.hippo_lexer.specs.Cutting.{Gives, kind_of, word_kind, word_len, digits_len, blanks_len, sign_len, number_len, number_of, word_first, number_first, closing, quoted_first, sign_first, IsNumeral, day_of, day_first, is_date, date_first, quoted_token, sign_token, token_first};
+ghost use Rattle.hippo_lexer.specs.Cutting.{Gives, kind_of, word_kind, word_len, digits_len, blanks_len, sign_len, number_len, number_of, word_first, number_first, closing, quoted_first, IsNumeral, day_of, day_first, is_date, date_first, quoted_token, sign_token, token_first};
 
 use crate::faults::LexFault;
-use crate::kinds::{Symbol, TokenKind};
-use crate::signs::sign_of;
+use crate::kinds::TokenKind;
+use crate::signs::sign_first;
 use hippo_values::{DayNumber, Keyword, Memory, Txt, Word, read_day, read_word};
 use std::alloc::Global;
 
@@ -63,22 +63,6 @@ fn word_kind(alloc: Global, word: &str) -> Result<Option<TokenKind>, Memory>
     match read_word(alloc, word)? {
         Some(word) => Ok(Some(kind_of(word))),
         None => Ok(None),
-    }
-}
-
-// The sign at the front, the longest one, and its length.
-#[tactic(auto, unfolding(crate::specs::Cutting::sign_first))]
-fn sign_first(bytes: &[u8]) -> Option<(Symbol, usize)>
-    ensures { result ≡ sign_first bytes.now }
-{
-    let two = &bytes[..bytes.len().min(2)];
-    if let Some(sign) = sign_of(two) {
-        return Some((sign, two.len()));
-    }
-    let one = &bytes[..bytes.len().min(1)];
-    match sign_of(one) {
-        Some(sign) => Some((sign, one.len())),
-        None => None,
     }
 }
 

@@ -2,7 +2,7 @@
 ghost use Rattle.std.specs.Prelude.{◌≡◌, ◌+◌, length, take, nat_lt, position};
 ghost use Rattle.std.specs.List.{list_any, range_with_len};
 ghost use Rattle.hippo_values.specs.Limits.{depth_limit};
-ghost use Rattle.hippo_lexer.specs.Words.{opens, closes, negates, is_unsupported, count_of, is_steep, words_check};
+ghost use Rattle.hippo_lexer.specs.Words.{opens, closes, negates, is_unsupported, count_of, is_steep, is_too_deep, words_check};
 
 use crate::faults::SyntaxFault;
 use crate::kinds::{Symbol, Token, TokenKind, Tokens};
@@ -59,6 +59,19 @@ fn first_unsupported(tokens: &[Token]) -> Option<usize>
     tokens.iter().position(|token| is_unsupported(&token.kind))
 }
 
+fn goes_too_deep(tokens: &[Token]) -> bool
+    ensures { result ≡ is_too_deep tokens.now }
+{
+    nests_too_deep(tokens) || negates_too_often(tokens)
+}
+
+// Tokens of which there are few need no count.
+fn is_too_deep(tokens: &[Token]) -> bool
+    ensures { result ≡ is_too_deep tokens.now }
+{
+    tokens.len() > DEPTH_LIMIT && goes_too_deep(tokens)
+}
+
 /// Whether the words of a statement are fit to be read: `TooDeep` where in some prefix of the tokens `(` outnumbers `)`
 /// by more than 64, or where more than 64 tokens are NOT; else `Unsupported` with the place of the first word of SQL
 /// that is refused. It takes no memory.
@@ -67,7 +80,7 @@ pub fn check_words(tokens: &Tokens) -> Result<(), SyntaxFault>
     ensures { result ≡ words_check tokens.now }
 {
     let tokens = tokens.as_slice();
-    if nests_too_deep(tokens) || negates_too_often(tokens) {
+    if is_too_deep(tokens) {
         return Err(SyntaxFault::TooDeep);
     }
     match first_unsupported(tokens) {
