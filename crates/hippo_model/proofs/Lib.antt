@@ -19,3 +19,4 @@ pub mod RowsByKey
 pub mod EntryLemmas
 pub mod RangeLemmas
 pub mod PlacesWithinLemmas
+pub mod FreePlaces

@@ -1,10 +1,13 @@
 -- A table's rows as they are kept: in the order of their keys, each with the moment at which it was born.
-use Rattle.std.specs.Prelude.{◌≡◌, List, [], ◌∷◌, Option, if◌then◌else◌, find, position, slice_get, unwrap_or}
+use Rattle.std.specs.Prelude.{◌≡◌, ◌≤◌, List, [], ◌∷◌, length, Option, None, Some, if◌then◌else◌, find, position, slice_get, unwrap_or}
+use Rattle.std.specs.Option.{IsSome}
+use Rattle.std.specs.List.{insert}
 use Rattle.std.specs.Ordering.{match_ordering}
 use Rattle.std.specs.declared.cmp.Ordering.TheVariants.{Less}
 use Rattle.hippo_model.specs.declared.born_row.BornRow.{BornRow}
 use Rattle.hippo_model.specs.declared.schema.Schema.{Schema}
-use Rattle.hippo_model.specs.Terms.{History, Key, Place}
+use Rattle.hippo_model.specs.Terms.{History, Key, Place, Row}
+use Rattle.hippo_values.specs.declared.moments.Moment.{Moment}
 use Rattle.hippo_values.specs.Moments.{first_moment}
 use Rattle.hippo_values.specs.Order.{cells_cmp, same_cells}
 use Rattle.hippo_values.specs.declared.values.Value.{Value}
@@ -72,3 +75,20 @@ row_at rows place = unwrap_or (slice_get rows place) blank
 -- the value in a column of the row at a place; null where there is none
 abbrev pub value_at : KeyedRows → Place → Place → Value
 value_at set column place = cell_at (row_at set.rows place).row column
+
+-- no row of a set has a row's key, and once it is put in, the row stands at a place
+pub record IsFree (set : KeyedRows) (row : Row) (place : Place) : Type 0 where
+  pub missing : find_row set.key (key_of set.key row) set.rows ≡ None
+  pub within : place ≤ length set.rows
+  pub put : (born : Moment) → put_row set.key (record { row = row; born = born }) set.rows
+      ≡ insert set.rows place (record { row = row; born = born })
+  pub found : (born : Moment)
+      → find_row set.key (key_of set.key row) (put_row set.key (record { row = row; born = born }) set.rows)
+      ≡ Some place
+
+-- what an insert comes to: nothing where a row has the key, else the row stands at a place
+abbrev pub Inserts : BornRow → KeyedRows → KeyedRows → Option Place → Type 0
+Inserts kept old new None = IsSome (find_row old.key (key_in old.key kept) old.rows) × (new ≡ old)
+Inserts kept old new (Some place) =
+    (find_row old.key (key_in old.key kept) old.rows ≡ None) × (new ≡ with_row kept old)
+    × (find_row old.key (key_in old.key kept) new.rows ≡ Some place)

@@ -1,12 +1,12 @@
 //! A table's rows in the order of their keys.
-ghost use Rattle.std.specs.Prelude.{◌≡◌, ◌<◌, ◌≤◌, ◌↔◌, [], true, length, map, option_map, slice_get, Some, IsTrue, OnOk, OnErr, IsOk, IsSome, IfSome};
+ghost use Rattle.std.specs.Prelude.{◌≡◌, ◌<◌, ◌≤◌, ◌↔◌, [], true, length, map, option_map, slice_get, Some, IsTrue, OnOk, OnErr, IsOk, IsSome, IfSome, MatchOption};
 ghost use Rattle.std.specs.List.Sorted.{IsSearchInRange, IsBinarySearchResult};
 ghost use Rattle.hippo_values.specs.Order.{value_cmp, cells_cmp};
 ghost use Rattle.hippo_model.specs.declared.born_row.BornRow.{BornRow};
 ghost use Rattle.hippo_model.specs.Rows.{cell_at, key_of};
 ghost use Rattle.hippo_model.specs.Pieces.{begins_low, PartsLow};
 ghost use Rattle.hippo_model.specs.Searches.{sought_order};
-ghost use Rattle.hippo_model.specs.RowSets.{IsAscending, key_in, with_row, without_row, find_row};
+ghost use Rattle.hippo_model.specs.RowSets.{IsAscending, IsFree, key_in, with_row, without_row, find_row};
 
 use crate::born_row::BornRow;
 use crate::cells::Cells;
@@ -166,6 +166,38 @@ impl KeyedSet {
             }
             Err(place) => Ok(self.rows.insert(place, BornRow { row, born })?),
         }
+    }
+
+    // Where a row comes to stand once it is put in, none where a row has its key.
+    pub(crate) fn place_for(&self, row: &Cells) -> Option<usize>
+        ensures { MatchOption result
+            (IsSome (find_row self.now.key (key_of self.now.key row.now) self.now.rows))
+            (λ place. IsFree self.now row.now place) }
+    {
+        let sought = Sought::Row(row.as_slice());
+        match search(&self.rows, self.key.as_slice(), &sought) {
+            Ok(_) => None,
+            Err(place) => Some(place),
+        }
+    }
+
+    // Puts a row where it comes to stand.
+    pub(crate) fn insert_at(&mut self, place: usize, row: Cells, born: Moment) -> Result<(), Memory>
+        requires { IsFree self.old row place }
+        ensures ok { OnOk result (self.new ≡ with_row (record { row = row; born = born }) self.old) }
+        ensures err { OnErr result (self.new ≡ self.old) }
+    {
+        self.rows.insert(place, BornRow { row, born })?;
+        Ok(())
+    }
+
+    // Puts a row in the place of the one that has its key, which is handed out.
+    pub(crate) fn replace(&mut self, place: usize, row: Cells, born: Moment) -> BornRow
+        requires { find_row self.old.key (key_of self.old.key row) self.old.rows ≡ Some place }
+        ensures set { self.new ≡ with_row (record { row = row; born = born }) self.old }
+        ensures old { slice_get self.old.rows place ≡ Some result }
+    {
+        self.rows.replace(place, BornRow { row, born })
     }
 
     // Takes away the row with a key, if there is one.

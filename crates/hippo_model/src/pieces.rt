@@ -7,6 +7,7 @@ use hippo_values::Memory;
 use std::alloc::Global;
 use std::fmt::{self, Debug, Formatter, Write};
 use std::marker::Model;
+use std::mem;
 
 // How many members a piece has at most, where memory allows.
 const PIECE_LIMIT: usize = 1024;
@@ -155,6 +156,16 @@ fn take_out<T: Drop>(pieces: &mut Vec<Piece<T>>, index: usize, place: usize)
     }
 }
 
+// Puts a member in the place of one of a piece, which is handed out.
+fn exchange<T>(piece: &mut Piece<T>, place: usize, member: T) -> T
+    requires { place < length piece.old.members.items }
+    ensures end { piece.new.end ≡ piece.old.end }
+    ensures members { piece.new.members.items ≡ slice_set piece.old.members.items place member }
+    ensures old { slice_get piece.old.members.items place ≡ Some result }
+{
+    mem::replace(&mut piece.members[place], member)
+}
+
 impl<T> Pieces<T> {
     /// The empty list; takes no memory.
     pub fn new(alloc: Global) -> Pieces<T>
@@ -197,6 +208,16 @@ impl<T: Drop> Pieces<T> {
     {
         let (index, start) = reaching(&self.pieces, place);
         self.pieces[index].members[place - start] = member;
+    }
+
+    /// Puts a member in the place of the one at a place, which is handed out.
+    pub fn replace(&mut self, place: usize, member: T) -> T
+        requires { place < length self.old }
+        ensures set { self.new ≡ slice_set self.old place member }
+        ensures old { slice_get self.old place ≡ Some result }
+    {
+        let (index, start) = reaching(&self.pieces, place);
+        exchange(&mut self.pieces[index], place - start, member)
     }
 
     /// Adds a member before the one at a place, or at the end.

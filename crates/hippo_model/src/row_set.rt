@@ -4,8 +4,9 @@ ghost use Rattle.std.specs.List.{All, Contains};
 ghost use Rattle.hippo_model.specs.Terms.{Place};
 ghost use Rattle.hippo_model.specs.Rows.{key_of};
 ghost use Rattle.hippo_model.specs.Ranges.{stands_low, KeepsBound};
-ghost use Rattle.hippo_model.specs.RowSets.{IsAscending, key_in, with_row, without_row, find_row, value_at};
+ghost use Rattle.hippo_model.specs.RowSets.{IsAscending, key_in, Inserts, with_row, without_row, find_row, value_at};
 
+use crate::born_row::BornRow;
 use crate::cells::Cells;
 use crate::column_order::{
     ColumnOrder, add_order, count_among, entries_by, entries_of, forget_in_orders, free_place,
@@ -63,6 +64,33 @@ impl RowSet {
         let alloc = *self.orders.allocator();
         prepare_orders(alloc, &self.set, &row, born, self.orders.as_mut_slice());
         self.set.put(row, born)
+    }
+
+    /// Puts a row at its place in the order of keys, where no row has its key, and answers the place; none where a row
+    /// has the key, and then nothing is done. The set is unchanged where memory is short. One search is made.
+    pub fn insert(&mut self, row: Cells, born: Moment) -> Result<Option<usize>, Memory>
+        ensures ok { IfOk result (Inserts (record { row = row; born = born }) self.old self.new) }
+        ensures err { OnErr result (self.new ≡ self.old) }
+    {
+        let Some(place) = self.set.place_for(&row) else {
+            return Ok(None);
+        };
+        let alloc = *self.orders.allocator();
+        prepare_orders(alloc, &self.set, &row, born, self.orders.as_mut_slice());
+        self.set.insert_at(place, row, born)?;
+        Ok(Some(place))
+    }
+
+    /// Puts a row in the place of the one that has its key, which is handed out; takes no memory. No search is made but
+    /// for orders by other columns.
+    pub fn replace(&mut self, place: usize, row: Cells, born: Moment) -> BornRow
+        requires { find_row self.old.key (key_of self.old.key row) self.old.rows ≡ Some place }
+        ensures set { self.new ≡ with_row (record { row = row; born = born }) self.old }
+        ensures old { slice_get self.old.rows place ≡ Some result }
+    {
+        let alloc = *self.orders.allocator();
+        prepare_orders(alloc, &self.set, &row, born, self.orders.as_mut_slice());
+        self.set.replace(place, row, born)
     }
 
     /// Takes away the row with a key, if there is one.
