@@ -18,6 +18,7 @@ fn echo<K: Sink>(words: &[Txt], sink: &mut K) -> Result<u8, Failed> {
     Ok(count)
 }
 
+#[derive(Drop)]
 struct Echo;
 
 impl Program for Echo {
