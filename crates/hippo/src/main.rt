@@ -2,39 +2,24 @@
 //! in a SQLite file, or in memory.
 #![tactic(auto)]
 
-ghost use Rattle.std.specs.Prelude.{◌≡◌, ◌<◌, false};
+ghost use Rattle.std.specs.Prelude.{◌≡◌, ◌≢◌, ◌⊎◌, ◌<◌, None, false};
+ghost use Rattle.hippo_io.specs.Faults.{HasRisen};
 ghost use Rattle.hippo_keeper.specs.Keeping.{IsReady};
+ghost use Rattle.hippo_words.specs.CommandLine.{call_of};
 
-use hippo_io::{Sink, Source, StdSink, StdSource};
+use hippo_io::{Sink, Source};
 use hippo_keeper::{Keeper, Steps};
-use hippo_serve::{Ending, hippo_top};
+use hippo_serve::hippo_top;
 use hippo_sqlite::{FileOpener, SqliteKeeper};
-use hippo_values::{Memory, Sequence, Txt};
+use hippo_start::{Ended, Program, start};
+use hippo_values::Txt;
 use std::alloc::Global;
 use std::marker::Brand;
-use std::process::ExitCode;
 use std::sync::ledger::{Blank, Ledger};
-use std::{env, io};
 
-type Words = Sequence<Txt>;
-
-// The words behind the program's name; none where one of them is no text.
-fn words(rt: &HostRuntime) -> Result<Words, Memory> {
-    let mut words = Words::new(rt.alloc());
-    match env::args(rt) {
-        Ok(args) => {
-            for word in args.skip(1) {
-                words.push(Txt::from_string(word))?;
-            }
-            Ok(words)
-        }
-        Err(error) if error.kind() == io::ErrorKind::OutOfMemory => Err(Memory),
-        Err(_) => Ok(words),
-    }
-}
-
-// Runs the program on a ledger that nobody uses.
-fn call<S: Source, K: Sink, P: Keeper, L: Ledger>(
+// Runs the program on a ledger that nobody uses. The status is that of `hippo_top`: 2 for words that ask for nothing, and
+// for no others; 3, 4 and 5 just where keeper, source or sink failed.
+fn serve<S: Source, K: Sink, P: Keeper, L: Ledger>(
     alloc: Global,
     words: &[Txt],
     source: &mut S,
@@ -46,25 +31,45 @@ fn call<S: Source, K: Sink, P: Keeper, L: Ledger>(
     requires name { blank.name ≡ L.name }
     requires parts { blank.parts ≡ L.parts }
     requires some { 0 < blank.parts }
+    ensures refused { call_of words.now ≡ None → (result ≡ 2) ⊎ (result ≡ 5) ⊎ (result ≡ 7) }
+    ensures accepted { call_of words.now ≢ None → result ≢ 2 }
+    ensures keeper_fault { result ≡ 3 → HasRisen (P.state keeper.old).faults (P.state keeper.new).faults }
+    ensures unfailed_keeper { result ≢ 3 → (P.state keeper.new).faults ≡ (P.state keeper.old).faults }
+    ensures read_fault { result ≡ 4 → HasRisen (S.faults source.old) (S.faults source.new) }
+    ensures unfailed_read { result ≢ 4 → S.faults source.new ≡ S.faults source.old }
+    ensures write_fault { result ≡ 5 → HasRisen (K.faults sink.old) (K.faults sink.new) }
+    ensures unfailed_write { result ≢ 5 → K.faults sink.new ≡ K.faults sink.old }
 {
     let mut steps = Steps::<L>::new(blank);
     hippo_top(alloc, words, source, sink, keeper, &mut steps)
 }
 
-fn main(rt: HostRuntime) -> ExitCode {
-    let Ok(words) = words(&rt) else {
-        return ExitCode::from(Ending::NoMemory.status());
-    };
-    let mut source = StdSource::new(rt.stdin());
-    let mut sink = StdSink::new(rt.stdout());
-    let mut keeper = SqliteKeeper::new(FileOpener::new(rt));
-    let status = call::<_, _, _, Brand>(
-        rt.alloc(),
-        words.as_slice(),
-        &mut source,
-        &mut sink,
-        &mut keeper,
-        Blank::new(1),
-    );
-    ExitCode::from(status)
+// The program over stores in files.
+#[derive(Drop)]
+struct Hippo {
+    runtime: HostRuntime,
+}
+
+impl Program for Hippo {
+    fn call<S: Source, K: Sink>(
+        self,
+        alloc: Global,
+        words: &[Txt],
+        source: &mut S,
+        sink: &mut K,
+    ) -> u8
+        ensures refused { call_of words.now ≡ None → (result ≡ 2) ⊎ (result ≡ 5) ⊎ (result ≡ 7) }
+        ensures accepted { call_of words.now ≢ None → result ≢ 2 }
+        ensures read_fault { result ≡ 4 → HasRisen (S.faults source.old) (S.faults source.new) }
+        ensures unfailed_read { result ≢ 4 → S.faults source.new ≡ S.faults source.old }
+        ensures write_fault { result ≡ 5 → HasRisen (K.faults sink.old) (K.faults sink.new) }
+        ensures unfailed_write { result ≢ 5 → K.faults sink.new ≡ K.faults sink.old }
+    {
+        let mut keeper = SqliteKeeper::new(FileOpener::new(self.runtime));
+        serve::<_, _, _, Brand>(alloc, words, source, sink, &mut keeper, Blank::new(1))
+    }
+}
+
+fn main(rt: HostRuntime) -> Ended {
+    start(rt, Hippo { runtime: rt })
 }

@@ -17,7 +17,7 @@ use Rattle.hippo_replay.specs.declared.state.State.{State}
 use Rattle.hippo_replay.specs.Standing.{StandsFor}
 use Rattle.hippo_report.specs.declared.format.Format.{Format}
 use Rattle.hippo_report.specs.declared.refusal.Refusal.TheVariants as refusals
-use Rattle.hippo_report.specs.Flags.{flag_line}
+use Rattle.hippo_flags.specs.Flags.{flag_line}
 use Rattle.hippo_report.specs.Refusals.{refusal_line}
 use Rattle.hippo_engine.specs.declared.faults.EngineFault.{EngineFault}
 use Rattle.hippo_engine.specs.declared.faults.EngineFault.TheVariants as engine

@@ -6,7 +6,7 @@ use Rattle.hippo_backlog.specs.declared.faults.ReadFault.{ReadFault}
 use Rattle.hippo_backlog.specs.declared.faults.ReadFault.TheVariants as faults
 use Rattle.hippo_report.specs.declared.format.Format.{Format}
 use Rattle.hippo_report.specs.declared.refusal.Refusal.TheVariants.{Memory}
-use Rattle.hippo_report.specs.Flags.{flag_line}
+use Rattle.hippo_flags.specs.Flags.{flag_line}
 use Rattle.hippo_report.specs.Notices.{number_line}
 use Rattle.hippo_report.specs.Refusals.{refusal_line}
 use Rattle.hippo_world.specs.Auditing.{HeldJob, HasBegun}

@@ -2,39 +2,25 @@
 //! by one, or the rules in force.
 #![tactic(auto)]
 
-ghost use Rattle.std.specs.Prelude.{◌≡◌, ◌<◌, false};
+ghost use Rattle.std.specs.Prelude.{◌≡◌, ◌≢◌, ◌⊎◌, ◌<◌, Some, None, false};
+ghost use Rattle.hippo_io.specs.Faults.{HasRisen};
 ghost use Rattle.hippo_keeper.specs.Keeping.{IsReady};
+ghost use Rattle.hippo_showing.specs.CommandLine.{asked_of};
+ghost use Rattle.hippo_showing.specs.declared.asking.Call.{Call as AskedCall};
 
-use hippo_io::{Sink, StdSink};
+use hippo_io::{Sink, Source};
 use hippo_keeper::{Keeper, Steps};
-use hippo_showing::{Ending, history_top};
+use hippo_showing::history_top;
 use hippo_sqlite::{FileOpener, SqliteKeeper};
-use hippo_values::{Memory, Sequence, Txt};
+use hippo_start::{Ended, Program, start};
+use hippo_values::Txt;
 use std::alloc::Global;
 use std::marker::Brand;
-use std::process::ExitCode;
 use std::sync::ledger::{Blank, Ledger};
-use std::{env, io};
 
-type Words = Sequence<Txt>;
-
-// The words behind the program's name; none where one of them is no text.
-fn words(rt: &HostRuntime) -> Result<Words, Memory> {
-    let mut words = Words::new(rt.alloc());
-    match env::args(rt) {
-        Ok(args) => {
-            for word in args.skip(1) {
-                words.push(Txt::from_string(word))?;
-            }
-            Ok(words)
-        }
-        Err(error) if error.kind() == io::ErrorKind::OutOfMemory => Err(Memory),
-        Err(_) => Ok(words),
-    }
-}
-
-// Runs the program on a ledger that nobody uses.
-fn call<K: Sink, P: Keeper, L: Ledger>(
+// Runs the program on a ledger that nobody uses. The status is that of `history_top`: 2 for words that ask for nothing, and
+// for no others; 3 and 5 just where keeper or sink failed.
+fn show<K: Sink, P: Keeper, L: Ledger>(
     alloc: Global,
     words: &[Txt],
     sink: &mut K,
@@ -45,23 +31,41 @@ fn call<K: Sink, P: Keeper, L: Ledger>(
     requires name { blank.name ≡ L.name }
     requires parts { blank.parts ≡ L.parts }
     requires some { 0 < blank.parts }
+    ensures refused { asked_of words.now ≡ None → (result ≡ 2) ⊎ (result ≡ 5) ⊎ (result ≡ 7) }
+    ensures accepted { (call : AskedCall) → asked_of words.now ≡ Some call → result ≢ 2 }
+    ensures keeper_fault { result ≡ 3 → HasRisen (P.state keeper.old).faults (P.state keeper.new).faults }
+    ensures unfailed_keeper { result ≢ 3 → (P.state keeper.new).faults ≡ (P.state keeper.old).faults }
+    ensures write_fault { result ≡ 5 → HasRisen (K.faults sink.old) (K.faults sink.new) }
+    ensures unfailed_write { result ≢ 5 → K.faults sink.new ≡ K.faults sink.old }
 {
     let mut steps = Steps::<L>::new(blank);
     history_top(alloc, words, sink, keeper, &mut steps)
 }
 
-fn main(rt: HostRuntime) -> ExitCode {
-    let Ok(words) = words(&rt) else {
-        return ExitCode::from(Ending::NoMemory.status());
-    };
-    let mut sink = StdSink::new(rt.stdout());
-    let mut keeper = SqliteKeeper::new(FileOpener::new(rt));
-    let status = call::<_, _, Brand>(
-        rt.alloc(),
-        words.as_slice(),
-        &mut sink,
-        &mut keeper,
-        Blank::new(1),
-    );
-    ExitCode::from(status)
+// The program over stores in files.
+#[derive(Drop)]
+struct History {
+    runtime: HostRuntime,
+}
+
+impl Program for History {
+    fn call<S: Source, K: Sink>(
+        self,
+        alloc: Global,
+        words: &[Txt],
+        _source: &mut S,
+        sink: &mut K,
+    ) -> u8
+        ensures refused { asked_of words.now ≡ None → (result ≡ 2) ⊎ (result ≡ 5) ⊎ (result ≡ 7) }
+        ensures accepted { (call : AskedCall) → asked_of words.now ≡ Some call → result ≢ 2 }
+        ensures write_fault { result ≡ 5 → HasRisen (K.faults sink.old) (K.faults sink.new) }
+        ensures unfailed_write { result ≢ 5 → K.faults sink.new ≡ K.faults sink.old }
+    {
+        let mut keeper = SqliteKeeper::new(FileOpener::new(self.runtime));
+        show::<_, _, Brand>(alloc, words, sink, &mut keeper, Blank::new(1))
+    }
+}
+
+fn main(rt: HostRuntime) -> Ended {
+    start(rt, History { runtime: rt })
 }

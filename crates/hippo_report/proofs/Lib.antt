@@ -1,2 +1,1 @@
-mod JsonLemmas
-mod PieceLemmas
+pub mod PieceLemmas

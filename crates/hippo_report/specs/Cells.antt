@@ -4,6 +4,7 @@ use Rattle.std.specs.List.{concat}
 use Rattle.hippo_values.specs.Texts.{Txt}
 use Rattle.hippo_values.specs.declared.names.Name.{Name}
 use Rattle.hippo_values.specs.Printing.{value_text}
+use Rattle.hippo_model.specs.declared.audit.SharedRow.{SharedRow}
 use Rattle.hippo_model.specs.declared.cells.Cell.{Cell}
 use Rattle.hippo_model.specs.declared.cells.Cell.TheVariants.{Shown, Denied}
 use Rattle.hippo_model.specs.Terms.{ShownRow, Key}
@@ -24,6 +25,14 @@ comma = codes ", "
 -- a row of a table by its key: the table's name, and the key's values between parentheses
 abbrev pub keyed_text : Name → Key → Txt
 keyed_text table key = table ++ (codes "(" ++ (joined value_text comma key ++ codes ")"))
+
+-- a row that an audit and a query share
+abbrev pub shared_text : SharedRow → Txt
+shared_text shared = keyed_text shared.table shared.key
+
+-- the rows of a shared tuple, each behind a space
+abbrev pub tuple_text : List SharedRow → Txt
+tuple_text tuple = flat_map (λ shared. codes " " ++ shared_text shared) tuple
 
 -- one row of an answer
 abbrev pub answer_line : ℕ → ShownRow → Txt

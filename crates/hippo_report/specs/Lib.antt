@@ -1,4 +1,3 @@
 pub mod Cells
-pub mod Flags
 pub mod Refusals
 pub mod Notices

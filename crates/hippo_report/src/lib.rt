@@ -1,10 +1,7 @@
-//! The text of every reply: rows, denied cells, flags in three formats, what was done, and refusals.
+//! The text of replies: rows, denied cells, what was done, and refusals; and the parts that other lines are made of.
 #![tactic(auto)]
 
-mod csv_flags;
-mod flags;
 mod format;
-mod json_flags;
 mod notices;
 mod pieces;
 mod printed;
@@ -12,9 +9,10 @@ mod refusal;
 mod refusal_lines;
 mod rows;
 
-pub use flags::flag_line;
 pub use format::Format;
 pub use notices::{done_line, number_line};
+pub use pieces::append_pieces;
+pub use printed::{Printed, append_joined, append_later, append_whole};
 pub use refusal::Refusal;
 pub use refusal_lines::refusal_line;
 pub use rows::{answer_line, answer_lines, denied_line};

@@ -1,8 +1,7 @@
 //! What a reply prints of values, cells and shared rows.
 ghost use Rattle.std.specs.Prelude.{◌≡◌, ◌++◌, ◌∷◌, [], flat_map, decimal, codes, OnOk, OnErr};
 ghost use Rattle.hippo_values.specs.Printing.{value_text, KeepsFront};
-ghost use Rattle.hippo_report.specs.Cells.{joined, cell_text, keyed_text};
-ghost use Rattle.hippo_report.specs.Flags.{shared_text};
+ghost use Rattle.hippo_report.specs.Cells.{joined, cell_text, keyed_text, shared_text};
 
 use hippo_model::{Cell, Cells, SharedRow};
 use hippo_values::{Memory, Name, RoomyTxt, Value, print_value};

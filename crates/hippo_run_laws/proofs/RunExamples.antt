@@ -10,7 +10,8 @@ use Rattle.hippo_model.specs.declared.query.CondOf.TheVariants.{All}
 use Rattle.hippo_model.specs.Terms.{History}
 use Rattle.hippo_report.specs.declared.format.Format.TheVariants as formats
 use Rattle.hippo_report.specs.declared.refusal.Refusal.TheVariants.{BadLine, LineTooLong, Memory}
-use Rattle.hippo_report.specs.Flags.{flag_line, tuple_text}
+use Rattle.hippo_flags.specs.Flags.{flag_line}
+use Rattle.hippo_report.specs.Cells.{tuple_text}
 use Rattle.hippo_report.specs.Notices.{number_line}
 use Rattle.hippo_report.specs.Refusals.{refusal_line}
 use Rattle.hippo_audit_job.specs.Jobs.{OpenAudit}

@@ -2,7 +2,7 @@
 use Rattle.std.specs.Prelude.{ℕ, List, ◌++◌, codes, decimal}
 use Rattle.hippo_values.specs.Texts.{Txt}
 use Rattle.hippo_model.specs.declared.audit.SharedRow.{SharedRow}
-use Rattle.hippo_report.specs.Flags.{tuple_text}
+use Rattle.hippo_report.specs.Cells.{tuple_text}
 
 -- the watch's number, that of the question, and what they share
 abbrev pub alarm_text : ℕ → ℕ → List SharedRow → Txt

@@ -1,8 +1,7 @@
 //! The line by which a watch says what it flags.
 ghost use Rattle.std.specs.Prelude.{◌≡◌, ◌++◌, flat_map, codes, decimal, OnOk};
 ghost use Rattle.hippo_values.specs.Printing.{value_text};
-ghost use Rattle.hippo_report.specs.Cells.{comma, joined};
-ghost use Rattle.hippo_report.specs.Flags.{shared_text, tuple_text};
+ghost use Rattle.hippo_report.specs.Cells.{comma, joined, shared_text, tuple_text};
 ghost use Rattle.hippo_watch.specs.AlarmLines.{alarm_text};
 
 use hippo_model::{SharedRow, SharedTuple};

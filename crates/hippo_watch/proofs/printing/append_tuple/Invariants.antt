@@ -1,6 +1,6 @@
 -- What is printed so far, and what is left.
 use Rattle.std.proofs.Common.{◌≡◌, ◌++◌, drop}
-use Rattle.hippo_report.specs.Flags.{tuple_text}
+use Rattle.hippo_report.specs.Cells.{tuple_text}
 use Rattle.hippo_watch.proofs.printing.append_tuple.Given as goal
 
 abbrev pub invariant-loop-shared : goal.invariant-loop-shared

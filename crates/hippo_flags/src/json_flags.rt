@@ -4,7 +4,7 @@ ghost use Rattle.serde_json.specs.Data.{string, array};
 ghost use Rattle.serde_json.specs.View.{view, items_of};
 ghost use Rattle.serde_json.specs.Written.{compact_text};
 ghost use Rattle.hippo_values.specs.Dates.{day_text, moment_text};
-ghost use Rattle.hippo_report.specs.Flags.{shared_data, flag_data};
+ghost use Rattle.hippo_flags.specs.Flags.{shared_data, flag_data};
 
 use hippo_model::{Flag, SharedRow};
 use hippo_values::{DayNumber, Value, day_text, moment_text};
@@ -33,7 +33,7 @@ trait JsonForm {
 }
 
 impl JsonForm for Value {
-    ghost use Rattle.hippo_report.specs.Flags.{value_data};
+    ghost use Rattle.hippo_flags.specs.Flags.{value_data};
 
     ghost form = { value_data };
 
@@ -61,7 +61,7 @@ fn items_data<T: JsonForm>(
 }
 
 impl JsonForm for SharedRow {
-    ghost use Rattle.hippo_report.specs.Flags.{shared_data};
+    ghost use Rattle.hippo_flags.specs.Flags.{shared_data};
 
     ghost form = { shared_data };
 

@@ -8,7 +8,7 @@ use Rattle.hippo_values.specs.declared.values.Value.TheVariants.{Null, Int, Text
 use Rattle.std.proofs.Common.{pos, negsuc}
 use Rattle.hippo_model.specs.declared.audit.Flag.{Flag}
 use Rattle.hippo_model.specs.declared.audit.SharedRow.{SharedRow}
-use Rattle.hippo_report.specs.Flags.{value_data, shared_data, flag_data}
+use Rattle.hippo_flags.specs.Flags.{value_data, shared_data, flag_data}
 
 has_float-value : (value : Value) → has_float (value_data value) ≡ false
 has_float-value Null = refl

@@ -3,12 +3,12 @@ ghost use Rattle.std.specs.Prelude.{◌≡◌, IfOk, codes};
 ghost use Rattle.csv.specs.Records.{fields_of};
 ghost use Rattle.csv.specs.Writing.{default_writer, row_text};
 ghost use Rattle.hippo_values.specs.Dates.{moment_text};
-ghost use Rattle.hippo_report.specs.Cells.{joined};
-ghost use Rattle.hippo_report.specs.Flags.{shared_text, flag_fields};
+ghost use Rattle.hippo_report.specs.Cells.{joined, shared_text};
+ghost use Rattle.hippo_flags.specs.Flags.{flag_fields};
 
-use crate::printed::append_joined;
 use csv::{Error, StringRecord, WriterBuilder};
 use hippo_model::Flag;
+use hippo_report::append_joined;
 use hippo_values::{Memory, Txt};
 use itoa::Buffer;
 use std::alloc::{AllocError, Global};

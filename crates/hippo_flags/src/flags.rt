@@ -3,14 +3,13 @@ ghost use Rattle.std.specs.Prelude.{◌≡◌, ◌++◌, codes, OnOk, OnErr};
 ghost use Rattle.csv.specs.Writing.{default_writer, row_text};
 ghost use Rattle.serde_json.specs.Written.{compact_text};
 ghost use Rattle.hippo_values.specs.Printing.{KeepsFront};
-ghost use Rattle.hippo_report.specs.Flags.{question_text, tuple_text, flag_text, flag_data, flag_fields, flag_by, flag_line};
+ghost use Rattle.hippo_report.specs.Cells.{tuple_text};
+ghost use Rattle.hippo_flags.specs.Flags.{question_text, flag_text, flag_data, flag_fields, flag_by, flag_line};
 
 use crate::csv_flags::flag_bytes;
-use crate::format::Format;
 use crate::json_flags::flag_json;
-use crate::pieces::append_pieces;
-use crate::printed::{Printed, append_later, append_whole};
 use hippo_model::Flag;
+use hippo_report::{Format, Printed, append_later, append_pieces, append_whole};
 use hippo_values::{Memory, RoomyTxt, moment_text};
 use itoa::Buffer;
 use std::alloc::Global;
@@ -99,7 +98,7 @@ fn append_csv<const ROOM: usize>(
     }
 }
 
-#[tactic(auto, using(crate::proofs::PieceLemmas::keeps_front_behind))]
+#[tactic(auto, using(hippo_report::proofs::PieceLemmas::keeps_front_behind))]
 fn append_dated<const ROOM: usize>(
     alloc: Global,
     format: Format,
@@ -140,7 +139,7 @@ fn append_flag<const ROOM: usize>(
 }
 
 impl<'a, const ROOM: usize> Printed<ROOM> for FlagLine<'a> {
-    ghost use Rattle.hippo_report.specs.Flags.{flag_line};
+    ghost use Rattle.hippo_flags.specs.Flags.{flag_line};
 
     ghost text = { λ line. flag_line line.format line.flag.now };
 

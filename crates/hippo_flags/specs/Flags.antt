@@ -1,5 +1,5 @@
 -- Flags in each of the three formats: text, JSON (RFC 8259) and CSV (RFC 4180).
-use Rattle.std.specs.Prelude.{List, [], ◌∷◌, ◌++◌, map, flat_map, codes, decimal}
+use Rattle.std.specs.Prelude.{List, [], ◌∷◌, ◌++◌, map, codes, decimal}
 use Rattle.std.specs.List.{concat}
 use Rattle.csv.specs.Writing.{default_writer, row_text}
 use Rattle.serde_json.specs.Data.{Data, null, number, unsigned, string, array, object, no_items, item, no_members, member}
@@ -14,20 +14,13 @@ use Rattle.hippo_model.specs.declared.audit.Flag.{Flag}
 use Rattle.hippo_model.specs.declared.audit.SharedRow.{SharedRow}
 use Rattle.hippo_report.specs.declared.format.Format.{Format}
 use Rattle.hippo_report.specs.declared.format.Format.TheVariants as formats
-use Rattle.hippo_report.specs.Cells.{joined, keyed_text}
-
-abbrev pub shared_text : SharedRow → Txt
-shared_text shared = keyed_text shared.table shared.key
+use Rattle.hippo_report.specs.Cells.{joined, shared_text, tuple_text}
 
 -- the number, moment, user, purpose and recipient of a flagged question, with spaces between them
 abbrev pub question_text : Flag → Txt
 question_text flag =
     concat (decimal flag.seq ∷ codes " " ∷ moment_text flag.moment ∷ codes " " ∷ flag.user ∷ codes " "
     ∷ flag.pair.purpose ∷ codes " " ∷ flag.pair.recipient ∷ [])
-
--- the rows of a shared tuple, each behind a space
-abbrev pub tuple_text : List SharedRow → Txt
-tuple_text tuple = flat_map (λ shared. codes " " ++ shared_text shared) tuple
 
 abbrev pub flag_text : Flag → Txt
 flag_text flag = question_text flag ++ (tuple_text flag.shared ++ codes "\n")

@@ -1,0 +1,38 @@
+//! A program that begins and ends as the others do: it writes each word that it is called with on a line, and ends with
+//! the number of the words as its status, or with 255 where a write fails.
+#![tactic(auto)]
+
+use hippo_io::{Failed, Sink, Source, write_whole};
+use hippo_start::{Ended, Program, start};
+use hippo_values::Txt;
+use std::alloc::Global;
+
+// Writes each word on a line, and answers how many there are.
+fn say_words<K: Sink>(words: &[Txt], sink: &mut K) -> Result<u8, Failed> {
+    let mut count: u8 = 0;
+    for word in words {
+        write_whole(sink, word.as_str().as_bytes())?;
+        write_whole(sink, b"\n")?;
+        count = count.saturating_add(1);
+    }
+    Ok(count)
+}
+
+#[derive(Drop)]
+struct Echo;
+
+impl Program for Echo {
+    fn call<S: Source, K: Sink>(
+        self,
+        _alloc: Global,
+        words: &[Txt],
+        _source: &mut S,
+        sink: &mut K,
+    ) -> u8 {
+        say_words(words, sink).unwrap_or(u8::MAX)
+    }
+}
+
+fn main(rt: HostRuntime) -> Ended {
+    start(rt, Echo)
+}

@@ -1,0 +1,71 @@
+//! How a program of this house begins and ends: the words behind its name, its standard streams, and its exit status.
+#![tactic(auto)]
+
+ghost use Rattle.std.specs.Prelude.{◌≡◌};
+ghost use Rattle.std.specs.Process.{exit_status};
+
+use hippo_io::{Sink, Source, StdSink, StdSource};
+use hippo_values::{Memory, Sequence, Txt};
+use std::alloc::Global;
+use std::process::{ExitCode, Termination};
+use std::rt::HostRuntime;
+use std::{env, io};
+
+type Words = Sequence<Txt>;
+
+/// The exit status where memory is short for the words.
+pub const NO_MEMORY: u8 = 7;
+
+/// What a program does with its words and its streams.
+pub trait Program {
+    /// Does what the words ask for, and answers the exit status.
+    fn call<S: Source, K: Sink>(
+        self,
+        alloc: Global,
+        words: &[Txt],
+        source: &mut S,
+        sink: &mut K,
+    ) -> u8;
+}
+
+/// How a program ended. Only [`start`] makes one, so a `main` that answers one cannot end with a status of its own.
+#[derive(Debug, Drop)]
+pub struct Ended {
+    status: u8,
+}
+
+impl Termination for Ended {
+    fn report<R: Eprint>(self, _rt: &R) -> ExitCode
+        ensures { exit_status result ≡ self.status }
+    {
+        ExitCode::from(self.status)
+    }
+}
+
+// The words behind the program's name; none where one of them is no text.
+fn words(rt: &HostRuntime) -> Result<Words, Memory> {
+    let mut words = Words::new(rt.alloc());
+    match env::args(rt) {
+        Ok(args) => {
+            for word in args.skip(1) {
+                words.push(Txt::from_string(word))?;
+            }
+            Ok(words)
+        }
+        Err(error) if error.kind() == io::ErrorKind::OutOfMemory => Err(Memory),
+        Err(_) => Ok(words),
+    }
+}
+
+/// Has a program do what the words behind its name ask for, over standard input and standard output. It ends with the
+/// status that the program answers, or with [`NO_MEMORY`], and nothing is read or written, where memory is short for
+/// the words.
+pub fn start<P: Program + Drop>(rt: HostRuntime, program: P) -> Ended {
+    let Ok(words) = words(&rt) else {
+        return Ended { status: NO_MEMORY };
+    };
+    let mut source = StdSource::new(rt.stdin());
+    let mut sink = StdSink::new(rt.stdout());
+    let status = program.call(rt.alloc(), words.as_slice(), &mut source, &mut sink);
+    Ended { status }
+}
