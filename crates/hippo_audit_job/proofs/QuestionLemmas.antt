@@ -11,11 +11,11 @@ use Rattle.hippo_model.specs.declared.entry.Act.TheVariants.{Asked}
 use Rattle.hippo_model.specs.declared.entry.Entry.{Entry}
 use Rattle.hippo_model.specs.declared.query.Query.{Query}
 use Rattle.hippo_model.specs.Terms.{History}
-use Rattle.hippo_model.specs.HandedOver.{is_asked}
+use Rattle.hippo_model.specs.HandedOver.{is_question}
 use Rattle.hippo_model.specs.Histories.{before_entry}
 use Rattle.hippo_model.specs.Verdicts.{Context}
 use Rattle.hippo_model.specs.Columns.{names_all}
-use Rattle.hippo_model.specs.Audits.{in_period, is_exempt, shared_by, shared_in, shared}
+use Rattle.hippo_model.specs.Audits.{in_period, is_exempt, shared_by, shared_in, shared, first_serving}
 use Rattle.hippo_keeper.specs.Keeping.{KeeperState, IsReady}
 use Rattle.hippo_typing.specs.Meanings.{meaning_in, meaning}
 use Rattle.hippo_backlog.specs.declared.faults.ReadFault.{ReadFault}
@@ -24,7 +24,7 @@ use Rattle.hippo_backlog.specs.Calls.{as_call}
 use Rattle.hippo_backlog.proofs.CallLemmas.{as_call-unfailed}
 use Rattle.hippo_keeper.proofs.CallLemmas.{KeepsSame-here, IsAfterCall-none}
 use Rattle.hippo_audit_job.specs.declared.past.Past.{Past}
-use Rattle.hippo_audit_job.specs.Examining.{IsPastOf, Examination, first_serving, Examines}
+use Rattle.hippo_audit_job.specs.Examining.{IsPastOf, Examination, Examines}
 use Rattle.hippo_audit_job.specs.Looking.{question_in, IsMeant, IsAskedFor, IsQuestionOf, LooksAt}
 use Rattle.hippo_audit_job.proofs.CountLemmas.{RisesWith-none, FallsWith-none}
 use Rattle.hippo_audit_job.proofs.StretchLemmas.{question_means}
@@ -45,17 +45,17 @@ asking (Asked user purpose recipient text) found is =
     subst (λ (f : Name × Name × Txt). IsAsking (Asked user purpose recipient text) f) (some_is (purpose, recipient, text) found is) (record { user = user; is = refl })
 asking act found is = absurd cc
 
-not_asked : (act : Act) → question_in act ≡ None → is_asked act ≡ false
+not_asked : (act : Act) → question_in act ≡ None → is_question act ≡ false
 not_asked (Asked user purpose recipient text) is = absurd cc
 not_asked act is = refl
 
 module _ (history : History) (audit : Audit) (entry : Entry) (question : IsQuestionOf history audit entry) where
   -- each question is one
-  pub is_question : question_in entry.act ≡ None → ⊥
-  is_question none = false≢true (sym (not_asked entry.act none) ∙ (and_parts (is_asked entry.act) (in_period audit entry.moment) question.asked).0)
+  pub must_be_question : question_in entry.act ≡ None → ⊥
+  must_be_question none = false≢true (sym (not_asked entry.act none) ∙ (and_parts (is_question entry.act) (in_period audit entry.moment) question.asked).0)
 
   pub is_inside : in_period audit entry.moment ≡ false → ⊥
-  is_inside outside = false≢true (sym outside ∙ (and_parts (is_asked entry.act) (in_period audit entry.moment) question.asked).1)
+  is_inside outside = false≢true (sym outside ∙ (and_parts (is_question entry.act) (in_period audit entry.moment) question.asked).1)
 
   module _ (past : Past) (stands : IsPastOf past history) (found : Name × Name × Txt) (is : question_in entry.act ≡ Some found) where
     asked_so : IsAsking entry.act found
@@ -113,7 +113,7 @@ module _ (history : History) (audit : Audit) (entry : Entry) (question : IsQuest
     pub shares_first : (query : Query) → meaning_in past.catalog.now.names found.2 ≡ Some query → is_exempt audit found.0 found.1 ≡ false → names_all query audit ≡ true → shared meaning history audit entry ≡ first_serving (before_entry entry history) asked_context query audit
     shares_first query same exempt names =
         let before = before_entry entry history in
-        let inside = (and_parts (is_asked entry.act) (in_period audit entry.moment) question.asked).1 in
+        let inside = (and_parts (is_question entry.act) (in_period audit entry.moment) question.asked).1 in
         shared_then query same ∙ (λ i. if inside i && not (exempt i) && names i then first_serving before asked_context query audit else None)
 
 if_ok : (result : Shares) (one other : Option (List SharedRow)) → one ≡ other → IfOk result (λ found. found ≡ one) → IfOk result (λ found. found ≡ other)
@@ -178,7 +178,7 @@ module _ {X : Type 0} (terms : Examination X) (past : Past) (audit : Audit) (ent
     -- an entry that is no question of the period
     pub LooksAt-other : (place : ℕ) → question_in entry.act ≡ None → LooksAt terms past audit entry (Err (Damaged place)) examiner examiner keeper keeper steps steps
     LooksAt-other place none =
-        LooksAt-unasked examiner keeper steps ready sound order (Err (Damaged place)) (λ e. absurd cc) (λ history stands question number e. absurd (is_question history audit entry question none)) (λ history stands question. tt)
+        LooksAt-unasked examiner keeper steps ready sound order (Err (Damaged place)) (λ e. absurd cc) (λ history stands question number e. absurd (must_be_question history audit entry question none)) (λ history stands question. tt)
 
     pub LooksAt-outside : (place : ℕ) → in_period audit entry.moment ≡ false → LooksAt terms past audit entry (Err (Damaged place)) examiner examiner keeper keeper steps steps
     LooksAt-outside place outside =

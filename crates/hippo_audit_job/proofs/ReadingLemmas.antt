@@ -5,7 +5,7 @@ use Rattle.hippo_model.specs.declared.audit.Audit.{Audit}
 use Rattle.hippo_model.specs.declared.entry.Act.{Act}
 use Rattle.hippo_model.specs.declared.entry.Act.TheVariants.{Asked, Create, Insert, Update, Delete, Purpose, Recipient, Item, Authorize, Deauthorize, Allow, Revoke, Choice}
 use Rattle.hippo_model.specs.declared.entry.Entry.{Entry}
-use Rattle.hippo_model.specs.HandedOver.{is_asked}
+use Rattle.hippo_model.specs.HandedOver.{is_question}
 use Rattle.hippo_model.specs.StoredForms.{act_kind, stored}
 use Rattle.hippo_keeper.specs.declared.faults.KeeperFault.{KeeperFault}
 use Rattle.hippo_keeper.specs.Keeping.{Store, KeeperState}
@@ -24,7 +24,7 @@ and_assoc : (a b c : Bool) → (a && b && c) ≡ (a && (b && c))
 and_assoc true b c = refl
 and_assoc false b c = refl
 
-kind_of_questions : (act : Act) → (act_kind act == 13) ≡ is_asked act
+kind_of_questions : (act : Act) → (act_kind act == 13) ≡ is_question act
 kind_of_questions (Create schema) = refl
 kind_of_questions (Insert table row) = refl
 kind_of_questions (Update table row) = refl
@@ -43,7 +43,7 @@ kind_of_questions (Asked user purpose recipient text) = refl
 pub same_test : (audit : Audit) (entry : Entry) → was_asked_in audit.from audit.to (stored entry) ≡ was_asked audit entry
 same_test audit entry =
     ap (λ (kind : Bool). kind && int_le audit.from entry.moment && int_le entry.moment audit.to) (kind_of_questions entry.act)
-    ∙ and_assoc (is_asked entry.act) (int_le audit.from entry.moment) (int_le entry.moment audit.to)
+    ∙ and_assoc (is_question entry.act) (int_le audit.from entry.moment) (int_le entry.moment audit.to)
 
 abbrev reads_ok : Store → Result Store KeeperFault
 reads_ok piece = Ok piece

@@ -16,7 +16,7 @@ use Rattle.hippo_model.specs.declared.entry.Entry.{Entry}
 use Rattle.hippo_model.specs.declared.query.Query.{Query}
 use Rattle.hippo_model.specs.Terms.{History, Meaning}
 use Rattle.hippo_model.specs.Histories.{before_entry}
-use Rattle.hippo_model.specs.HandedOver.{is_asked}
+use Rattle.hippo_model.specs.HandedOver.{is_question}
 use Rattle.hippo_model.specs.Validity.{is_valid, is_acceptable, is_authorized}
 use Rattle.hippo_model.specs.Rules.{authorized_at}
 use Rattle.hippo_model.specs.Verdicts.{Context}
@@ -152,7 +152,7 @@ outside : (period exempt named : Bool) (found : Option (List SharedRow)) → per
 outside true exempt named found is = absurd (false≢true (sym is))
 outside false exempt named found is = refl
 
-none_shared : (meaning : Meaning) (history : History) (audit : Audit) (moment : Moment) (act : Act) → (is_asked act && in_period audit moment) ≡ false → shared_in meaning history audit moment act ≡ None
+none_shared : (meaning : Meaning) (history : History) (audit : Audit) (moment : Moment) (act : Act) → (is_question act && in_period audit moment) ≡ false → shared_in meaning history audit moment act ≡ None
 none_shared meaning history audit moment (Asked user purpose recipient text) is =
     let context : Context = record { purpose = purpose; recipient = recipient; moment = moment } in
     unshared (meaning history text) (λ query. shared_by history context query audit) (λ query. outside (in_period audit moment) (is_exempt audit purpose recipient) (names_all query audit) _ is)

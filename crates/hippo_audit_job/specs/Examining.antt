@@ -1,5 +1,5 @@
 -- What examines a logged question: what it holds, and what it answers of one.
-use Rattle.std.specs.Prelude.{◌≡◌, ◌≢◌, ◌≤◌, ◌<◌, ⊤, ℕ, ◌+◌, min, true, false, nat_lt, List, [], ◌∷◌, ◌++◌, map, find, length, slice_index_or, bytes_eq, Option, Some, None, is_some, Result, Err, IfOk}
+use Rattle.std.specs.Prelude.{◌≡◌, ◌≢◌, ◌≤◌, ◌<◌, ⊤, ℕ, ◌+◌, min, true, false, nat_lt, List, [], ◌∷◌, ◌++◌, map, length, slice_index_or, bytes_eq, Option, Some, None, is_some, Result, Err, IfOk}
 use Rattle.std.specs.List.{AllByRecursion, IsDistinct}
 use Rattle.hippo_values.specs.Texts.{Txt}
 use Rattle.hippo_values.specs.declared.names.Name.{Name}
@@ -15,7 +15,7 @@ use Rattle.hippo_model.specs.StoredForms.{stored}
 use Rattle.hippo_model.specs.Validity.{is_valid, table_passes}
 use Rattle.hippo_model.specs.Verdicts.{Context}
 use Rattle.hippo_model.specs.Versions.{versions}
-use Rattle.hippo_model.specs.Audits.{common, virtual_tuples, serves}
+use Rattle.hippo_model.specs.Audits.{first_serving}
 use Rattle.hippo_laws.specs.Audits.{StandsIn}
 use Rattle.hippo_keeper.specs.Keeping.{KeeperState, IsAfterCall, KeepsSame}
 use Rattle.hippo_catalog.specs.Catalogs.{known_at}
@@ -99,11 +99,6 @@ pub record IsNew {X : Type 0} (terms : Examination X) (examiner : X) : Type 0 wh
   pub none_handed : (count : ℕ) → terms.handed examiner ≡ Some count → count ≡ 0
   pub counted : (history : History) → is_valid meaning history ≡ true
       → AreWithin (terms.handed examiner) (terms.unread examiner history) (versions history)
-
--- the first virtual tuple that serves
-abbrev pub first_serving : History → Context → Query → Audit → Option (List SharedRow)
-first_serving history context query audit =
-    find (serves history context query audit) (virtual_tuples history (common query audit))
 
 -- the first virtual tuple that serves is found, at the entry's own time
 abbrev pub FindsServing : History → Audit → Entry → Query → Result (Option (List SharedRow)) ReadFault → Type 0

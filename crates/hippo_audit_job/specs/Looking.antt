@@ -10,7 +10,7 @@ use Rattle.hippo_model.specs.declared.entry.Entry.{Entry}
 use Rattle.hippo_model.specs.declared.query.Query.{Query}
 use Rattle.hippo_model.specs.declared.stored.StoredEntry.{StoredEntry}
 use Rattle.hippo_model.specs.Terms.{History}
-use Rattle.hippo_model.specs.HandedOver.{is_asked}
+use Rattle.hippo_model.specs.HandedOver.{is_question}
 use Rattle.hippo_model.specs.StoredForms.{stored}
 use Rattle.hippo_model.specs.Stores.{IsStoreOf}
 use Rattle.hippo_model.specs.Audits.{in_period, is_exempt, shared}
@@ -55,7 +55,7 @@ pub record IsAskedFor (past : Past) (audit : Audit) (entry : Entry) (query : Que
 
 -- whether an entry is a question of an audit's period
 abbrev pub was_asked : Audit → Entry → Bool
-was_asked audit entry = is_asked entry.act && in_period audit entry.moment
+was_asked audit entry = is_question entry.act && in_period audit entry.moment
 
 -- an entry of a valid history that is a question of the audit's period
 pub record IsQuestionOf (history : History) (audit : Audit) (entry : Entry) : Type 0 where

@@ -41,7 +41,8 @@ use Rattle.hippo_keeper.proofs.CallLemmas.{KeepsSame-here, IsAfterCall-none, IsA
 use Rattle.hippo_keeper.proofs.Results.{err_of}
 use Rattle.hippo_intervals.specs.Living.{HeldLives}
 use Rattle.hippo_audit_job.specs.declared.past.Past.{Past}
-use Rattle.hippo_audit_job.specs.Examining.{IsPastOf, IsAuditOf, first_serving, FindsServing, IsNew, Examines}
+use Rattle.hippo_audit_job.specs.Examining.{IsPastOf, IsAuditOf, FindsServing, IsNew, Examines}
+use Rattle.hippo_model.specs.Audits.{first_serving}
 use Rattle.hippo_examining.specs.Examining.{AreOfHistory}
 use Rattle.hippo_combine.specs.declared.combine.Combine.{Combine}
 use Rattle.hippo_combine.specs.Held.{schema_held, rows_held, have_rows, AreHeldAt, AreUpTo, all_taken, unread, TablesFit}

@@ -17,7 +17,7 @@ use Rattle.hippo_model.specs.declared.query.Form.TheVariants.{Plain, Distinct, G
 use Rattle.hippo_model.specs.declared.query.Query.{Query}
 use Rattle.hippo_model.specs.declared.schema.Schema.{Schema}
 use Rattle.hippo_model.specs.Answers.{product, answer_of, query_answer, audit_answer, seen_combinations, unmasked_combinations}
-use Rattle.hippo_model.specs.Audits.{needs, query_needs, audit_needs, has_tuple, serves}
+use Rattle.hippo_model.specs.Audits.{needs, query_needs, audit_needs, has_tuple, serves, first_serving}
 use Rattle.hippo_model.specs.Forms.{formed}
 use Rattle.hippo_model.specs.Histories.{schema_at}
 use Rattle.hippo_model.specs.RowSets.{KeyedRows, kept_at}
@@ -31,7 +31,6 @@ use Rattle.hippo_shared.specs.HistoryLaws.{sets_at}
 use Rattle.hippo_shared.proofs.CommonLemmas.{place-found, common-in-query, common-in-audit}
 use Rattle.hippo_intervals.specs.Living.{HeldLives, LivesFit}
 use Rattle.hippo_intervals.proofs.LivesLemmas.{AreThoseOf-fits}
-use Rattle.hippo_audit_job.specs.Examining.{first_serving}
 use Rattle.hippo_combine.specs.Held.{lives_of, schema_held, rows_held, place_held, has_some, have_rows, AreHeldAt, TablesFit}
 use Rattle.hippo_combine.proofs.PastLemmas.{front_valid, lasting, no_rows_yet}
 

@@ -7,7 +7,7 @@ ghost use Rattle.hippo_model.specs.declared.entry.Act.TheVariants.{Asked};
 ghost use Rattle.hippo_model.specs.Terms.{History};
 ghost use Rattle.hippo_model.specs.Verdicts.{Context};
 ghost use Rattle.hippo_backlog.specs.declared.faults.ReadFault.TheVariants.{Memory as NoMemory};
-ghost use Rattle.hippo_audit_job.specs.Examining.{first_serving};
+ghost use Rattle.hippo_model.specs.Audits.{first_serving};
 ghost use Rattle.hippo_combine.specs.Held.{have_rows};
 ghost use Rattle.hippo_combine.specs.Sharing.{HoldsBoth};
 

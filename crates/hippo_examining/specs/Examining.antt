@@ -13,7 +13,7 @@ use Rattle.hippo_model.specs.Verdicts.{Context}
 use Rattle.hippo_rewrite.specs.RewritingLaws.{rules_at, HasTables}
 use Rattle.hippo_shared.specs.HistoryLaws.{sets_at}
 use Rattle.hippo_examining.specs.Seen.{AreCommon}
-use Rattle.hippo_examining.specs.SharedLaws.{first_serving}
+use Rattle.hippo_model.specs.Audits.{first_serving}
 
 -- rules, rows and choices are those of a valid history, for a query and an audit whose columns they have in common
 pub record AreOfHistory

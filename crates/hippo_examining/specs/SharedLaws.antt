@@ -1,5 +1,5 @@
 -- Laws that join what a query needs over rows, and what an audit has of them, to the model's definitions.
-use Rattle.std.specs.Prelude.{◌≡◌, true, List, [], find, bytes_eq, Option}
+use Rattle.std.specs.Prelude.{◌≡◌, true, List, [], bytes_eq}
 use Rattle.std.specs.List.{AllByRecursion, list_any}
 use Rattle.hippo_model.specs.declared.audit.Audit.{Audit}
 use Rattle.hippo_model.specs.declared.audit.SharedRow.{SharedRow}
@@ -9,7 +9,7 @@ use Rattle.hippo_model.specs.declared.schema.Schema.{Schema}
 use Rattle.hippo_model.specs.Terms.{History, Meaning}
 use Rattle.hippo_model.specs.Rules.{choice_at}
 use Rattle.hippo_model.specs.Verdicts.{Context}
-use Rattle.hippo_model.specs.Audits.{common, virtual_tuples, query_needs, serves}
+use Rattle.hippo_model.specs.Audits.{query_needs, first_serving}
 use Rattle.hippo_rewrite.specs.Rewriting.{rewritten}
 use Rattle.hippo_rewrite.specs.RewritingLaws.{rules_at, HasTables}
 use Rattle.hippo_shared.specs.Sharing.{query_has, first_shared}
@@ -37,11 +37,6 @@ QueryNeedsWhatItHas =
     → query_needs history context query tuple
     ≡ query_has (choice_at history) (rewritten (rules_at history context schemas) query) []
     (sets_at history query.tables) tuple
-
--- the first virtual tuple that serves
-abbrev pub first_serving : History → Context → Query → Audit → Option (List SharedRow)
-first_serving history context query audit =
-    find (serves history context query audit) (virtual_tuples history (common query audit))
 
 -- what a query of any form needs and an audit has first over the rows of a valid history, the query rewritten by the
 -- rules in force, is the first virtual tuple that serves

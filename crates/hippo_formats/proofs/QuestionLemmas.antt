@@ -6,7 +6,7 @@ use Rattle.hippo_model.specs.declared.entry.Act.TheVariants.{Asked}
 use Rattle.hippo_model.specs.declared.schema.Schema.{Schema}
 use Rattle.hippo_telling.specs.Telling.{told_act}
 use Rattle.hippo_formats.specs.Formats.{statement_data, entry_data, entry_fields}
-use Rattle.hippo_formats.specs.Questions.{is_question}
+use Rattle.hippo_model.specs.HandedOver.{is_question}
 
 pub statement_as_object : (schema : Option Schema) (entry : ℕ) (moment : Txt) (act : Act) → is_question act ≡ false
     → entry_data schema entry moment act ≡ statement_data entry moment (told_act schema act)

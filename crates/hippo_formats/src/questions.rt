@@ -1,7 +1,7 @@
 //! Which acts are questions.
 ghost use Rattle.std.specs.Prelude.{◌≡◌, false, MatchOption};
 ghost use Rattle.hippo_model.specs.declared.entry.Act.TheVariants.{Asked};
-ghost use Rattle.hippo_formats.specs.Questions.{is_question};
+ghost use Rattle.hippo_model.specs.HandedOver.{is_question};
 
 use hippo_model::Act;
 use hippo_values::{Name, Txt};

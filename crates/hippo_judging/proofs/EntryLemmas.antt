@@ -33,7 +33,8 @@ use Rattle.hippo_backlog.proofs.NumberLemmas.{valid-rises}
 use Rattle.hippo_backlog.proofs.CallLemmas.{as_call-fault_of, undamaged_by}
 use Rattle.hippo_keeper.proofs.CallLemmas.{KeepsSame-Stays, IsAfterCall-as}
 use Rattle.hippo_replay.proofs.KeeperLemmas.{handed_over-behind, next_kept-stored}
-use Rattle.hippo_judging.specs.Checks.{is_question, question_at}
+use Rattle.hippo_judging.specs.Checks.{question_at}
+use Rattle.hippo_model.specs.HandedOver.{is_question}
 use Rattle.hippo_judging.specs.Entries.{number_in, IsFormOf, IsRead, HasRead, ReadsEntry}
 
 abbrev pub err_of : (T : Type 0) → {E : Type 0} → E → Result T E

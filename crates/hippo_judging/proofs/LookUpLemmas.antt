@@ -14,7 +14,8 @@ use Rattle.hippo_backlog.specs.declared.faults.ReadFault.{ReadFault}
 use Rattle.hippo_backlog.specs.declared.faults.ReadFault.TheVariants.{Keeper, Damaged, Memory}
 use Rattle.hippo_replay.specs.declared.state.State.{State}
 use Rattle.hippo_replay.specs.Standing.{StandsFor}
-use Rattle.hippo_judging.specs.Checks.{is_question, question_at}
+use Rattle.hippo_judging.specs.Checks.{question_at}
+use Rattle.hippo_model.specs.HandedOver.{is_question}
 use Rattle.hippo_judging.specs.Entries.{number_in, HasRead, ReadsEntry}
 use Rattle.hippo_judging.specs.Findings.{HasFound, LooksUp}
 use Rattle.hippo_judging.proofs.EntryLemmas.{err_of, IsNumber, question_is, no_question}

@@ -4,7 +4,7 @@ use Rattle.std.specs.Ordering.{int_eq}
 use Rattle.hippo_model.specs.declared.audit.Pair.{Pair}
 use Rattle.hippo_values.specs.declared.names.Name.{Name}
 use Rattle.hippo_model.specs.declared.entry.Act.{Act}
-use Rattle.hippo_model.specs.declared.entry.Act.TheVariants.{Asked}
+use Rattle.hippo_model.specs.HandedOver.{is_question}
 use Rattle.hippo_model.specs.declared.entry.Entry.{Entry}
 use Rattle.hippo_model.specs.declared.name_fault.NameFault.{NameFault}
 use Rattle.hippo_model.specs.declared.policy.Authorization.{Authorization}
@@ -96,10 +96,6 @@ act_made (Err fault) = Err (rows_refusal fault)
 -- the history may have one entry more
 abbrev pub has_room : History → World → Checked (Unit {0})
 has_room history world = refused_if (nat_le world.limit (length history)) HistoryFull
-
-abbrev pub is_question : Act → Bool
-is_question (Asked user purpose recipient text) = true
-is_question act = false
 
 -- the question with this number
 abbrev pub question_at : History → ℤ → Option Entry

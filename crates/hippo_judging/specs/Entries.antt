@@ -13,7 +13,7 @@ use Rattle.hippo_backlog.specs.declared.faults.ReadFault.{ReadFault}
 use Rattle.hippo_backlog.specs.declared.faults.ReadFault.TheVariants.{Keeper, Damaged, Memory}
 use Rattle.hippo_replay.specs.declared.state.State.{State}
 use Rattle.hippo_replay.specs.Standing.{StandsFor}
-use Rattle.hippo_judging.specs.Checks.{is_question}
+use Rattle.hippo_model.specs.HandedOver.{is_question}
 
 -- the number of one of so many entries
 abbrev pub number_in : ℤ → ℕ → Option ℕ

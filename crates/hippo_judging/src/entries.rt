@@ -2,7 +2,7 @@
 ghost use Rattle.std.specs.Prelude.{◌≡◌, ◌≤◌, ◌∷◌, [], true};
 ghost use Rattle.std.specs.Bool.{then_some};
 ghost use Rattle.hippo_keeper.specs.Keeping.{IsReady};
-ghost use Rattle.hippo_judging.specs.Checks.{is_question};
+ghost use Rattle.hippo_model.specs.HandedOver.{is_question};
 ghost use Rattle.hippo_judging.specs.Entries.{number_in, IsRead, ReadsEntry};
 ghost use Rattle.hippo_judging.specs.Findings.{LooksUp};
 

@@ -100,11 +100,15 @@ abbrev pub is_candidate : Context → Query → Audit → Bool
 is_candidate context query audit =
     in_period audit context.moment && not (is_exempt audit context.purpose context.recipient) && names_all query audit
 
+-- the first virtual tuple that serves
+abbrev pub first_serving : History → Context → Query → Audit → Option (List SharedRow)
+first_serving history context query audit =
+    find (serves history context query audit) (virtual_tuples history (common query audit))
+
 -- the shared tuple of a query and an audit: the first virtual tuple that serves, where the query is a candidate
 abbrev pub shared_by : History → Context → Query → Audit → Option (List SharedRow)
 shared_by history context query audit =
-    if is_candidate context query audit
-    then find (serves history context query audit) (virtual_tuples history (common query audit)) else None
+    if is_candidate context query audit then first_serving history context query audit else None
 
 abbrev pub shared_in : Meaning → History → Audit → Moment → Act → Option (List SharedRow)
 shared_in meaning history audit moment (Asked user purpose recipient text) =

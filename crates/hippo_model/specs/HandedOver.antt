@@ -12,13 +12,13 @@ use Rattle.hippo_model.specs.Keepable.{is_keepable}
 use Rattle.hippo_model.specs.Versions.{version_fits}
 use Rattle.hippo_model.specs.Validity.{is_acceptable}
 
-abbrev pub is_asked : Act → Bool
-is_asked (Asked user purpose recipient text) = true
-is_asked act = false
+abbrev pub is_question : Act → Bool
+is_question (Asked user purpose recipient text) = true
+is_question act = false
 
 -- whether an act is a question that may follow the entries so far
 abbrev pub question_fits : Meaning → History → Act → Bool
-question_fits meaning history act = is_asked act && is_acceptable meaning history act
+question_fits meaning history act = is_question act && is_acceptable meaning history act
 
 -- whether an entry may be handed over where a table's versions above a number are asked for, after these versions
 abbrev pub version_was_asked : Schema → ℕ → History → Entry → Bool

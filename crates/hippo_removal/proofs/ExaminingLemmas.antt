@@ -25,7 +25,8 @@ use Rattle.hippo_backlog.proofs.CallLemmas.{same_Err, as_call-fault}
 use Rattle.hippo_keeper.proofs.CallLemmas.{KeepsSame-here, IsAfterCall-none, IsAfterCall-as}
 use Rattle.hippo_keeper.proofs.Results.{err_of}
 use Rattle.hippo_audit_job.specs.declared.past.Past.{Past}
-use Rattle.hippo_audit_job.specs.Examining.{IsPastOf, IsAuditOf, first_serving, FindsServing, IsNew, Examines}
+use Rattle.hippo_audit_job.specs.Examining.{IsPastOf, IsAuditOf, FindsServing, IsNew, Examines}
+use Rattle.hippo_model.specs.Audits.{first_serving}
 use Rattle.hippo_combine.proofs.PastLemmas.{front_valid, created_by_meaning}
 use Rattle.hippo_removal.specs.declared.removal.Removal.{Removal}
 use Rattle.hippo_removal.specs.declared.snapshots.BothRows.{BothRows}

@@ -13,7 +13,7 @@ use Rattle.hippo_model.specs.declared.policy.TableRules.{TableRules}
 use Rattle.hippo_model.specs.declared.query.Query.{Query}
 use Rattle.hippo_model.specs.declared.schema.Schema.{Schema}
 use Rattle.hippo_model.specs.Answers.{product, audit_answer, unmasked_combinations}
-use Rattle.hippo_model.specs.Audits.{needs, query_needs, audit_needs, has_tuple, serves}
+use Rattle.hippo_model.specs.Audits.{needs, query_needs, audit_needs, has_tuple, serves, first_serving}
 use Rattle.hippo_model.specs.Histories.{schema_at}
 use Rattle.hippo_model.specs.Masking.{Choices}
 use Rattle.hippo_model.specs.Rules.{choice_at}
@@ -29,7 +29,6 @@ use Rattle.hippo_rewrite.specs.RewritingLaws.{rules_at}
 use Rattle.hippo_rewrite.proofs.FittingRows.{schema_named}
 use Rattle.hippo_shared.specs.HistoryLaws.{sets_at}
 use Rattle.hippo_audit_job.specs.declared.past.Past.{Past}
-use Rattle.hippo_audit_job.specs.Examining.{first_serving}
 use Rattle.hippo_examining.specs.Examining.{AreOfHistory}
 use Rattle.hippo_combine.proofs.PastLemmas.{front_valid, lasting, no_rows_yet, are_common}
 use Rattle.hippo_removal.specs.Removals.{have_rows, rows_then, AreThen}

@@ -29,7 +29,7 @@ use Rattle.hippo_lines.specs.Words.{is_filled, words_of}
 use Rattle.hippo_lines.specs.Forms.{short_word_of}
 use Rattle.hippo_world.specs.Worlds.{World, opening}
 use Rattle.hippo_commands.specs.Commands.{command_of}
-use Rattle.hippo_judging.specs.Checks.{is_question}
+use Rattle.hippo_model.specs.HandedOver.{is_question}
 use Rattle.hippo_judging.specs.Deeds.{next_entry}
 use Rattle.hippo_engine.specs.Effects.{Effect, carried_out, effect_of, only_reply}
 use Rattle.hippo_following.proofs.HistoryLemmas.{acceptable, followed, keepable}

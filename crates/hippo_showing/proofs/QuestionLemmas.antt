@@ -4,7 +4,7 @@ use Rattle.hippo_model.specs.declared.entry.Act.{Act}
 use Rattle.hippo_model.specs.declared.entry.Act.TheVariants.{Asked}
 use Rattle.hippo_model.specs.declared.schema.Schema.{Schema}
 use Rattle.hippo_telling.specs.Telling.{told_act}
-use Rattle.hippo_formats.specs.Questions.{is_question}
+use Rattle.hippo_model.specs.HandedOver.{is_question}
 use Rattle.hippo_showing.specs.Showing.{console_lines, act_lines}
 
 pub statement_as_lines : (schema : Option Schema) (act : Act) → is_question act ≡ false → act_lines schema act ≡ console_lines (told_act schema act)

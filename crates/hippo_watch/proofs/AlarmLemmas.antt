@@ -13,7 +13,7 @@ use Rattle.hippo_model.specs.declared.entry.Entry.{Entry}
 use Rattle.hippo_model.specs.declared.policy.TableRules.{TableRules}
 use Rattle.hippo_model.specs.declared.query.Query.{Query}
 use Rattle.hippo_model.specs.declared.schema.Schema.{Schema}
-use Rattle.hippo_model.specs.Audits.{is_candidate, shared_by, shared}
+use Rattle.hippo_model.specs.Audits.{is_candidate, shared_by, shared, first_serving}
 use Rattle.hippo_model.specs.Columns.{names_all}
 use Rattle.hippo_model.specs.Histories.{schema_at}
 use Rattle.hippo_model.specs.Masking.{Choices}
@@ -33,7 +33,7 @@ use Rattle.hippo_examining.specs.Examining.{AreOfHistory}
 use Rattle.hippo_examining.specs.Seen.{AreCommon}
 use Rattle.hippo_examining.proofs.RowLemmas.{same_rows}
 use Rattle.hippo_audit_job.specs.declared.past.Past.{Past}
-use Rattle.hippo_audit_job.specs.Examining.{IsAuditOf, first_serving}
+use Rattle.hippo_audit_job.specs.Examining.{IsAuditOf}
 use Rattle.hippo_combine.proofs.PastLemmas.{created_by_meaning, are_common}
 use Rattle.hippo_watch.specs.declared.alarms.AskedNow.{AskedNow}
 use Rattle.hippo_watch.specs.Alarms.{AreOfSome, IsPresentOf, asked_next, IsAskedNext, ServesNow, SharesNext}
