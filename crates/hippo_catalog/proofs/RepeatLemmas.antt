@@ -18,6 +18,12 @@ module _ (names : List Name) (i : ℕ) (name : Name) (within : i < length names)
       ap (repeated_after (take i names)) (drop_at_get_or names i name within read)
       ∙ ap (λ front. refused (list_any (bytes_eq name) (take i names)) (RepeatedName name) ++ repeated_after front (drop (i + 1) names)) more
 
+  pub repeated_here : list_any (bytes_eq name) (take i names) ≡ true → (fault : NameFault) → IsFirstOf (RepeatedName name ∷ []) fault → IsFirstOf (repeated_after (take i names) (drop i names)) fault
+  repeated_here there fault first = rw (at_name, there) (first_with_more (RepeatedName name ∷ []) (repeated_after (take (i + 1) names) (drop (i + 1) names)) fault first)
+
+  pub not_repeated_here : list_any (bytes_eq name) (take i names) ≡ false → repeated_after (take i names) (drop i names) ≡ repeated_after (take (i + 1) names) (drop (i + 1) names)
+  not_repeated_here absent = rw (at_name, absent) refl
+
   module _ (before : List (Bor Name)) (kept : map (λ (key : Bor Name). key.now) before ≡ take i names) where
     stands_before : list_any (bytes_eq name) (take i names) ≡ list_any (λ (key : Bor Name). bytes_eq name key.now) before
     stands_before = ap (list_any (bytes_eq name)) (sym kept) ∙ list_any-lent (bytes_eq name) before
@@ -33,9 +39,3 @@ module _ (names : List Name) (i : ℕ) (name : Name) (within : i < length names)
     kept_more after loan absent lent put =
         let pushed : after ≡ before ++ loan ∷ [] = put ∙ ap (λ t. if t then before else before ++ loan ∷ []) absent in
         ap (map (λ (key : Bor Name). key.now)) pushed ∙ lent-push before loan ∙ ap (λ front. front ++ loan.now ∷ []) kept ∙ ap (λ x. take i names ++ x ∷ []) (lent ∙ read) ∙ sym (take_more names i name within)
-
--- one name repeats none
-pub few_alone : (names : List Name) → length names < 2 → repeated_names names ≡ []
-few_alone [] few = refl
-few_alone (name ∷ []) few = refl
-few_alone (name ∷ next ∷ rest) few = absurd (omega arith)

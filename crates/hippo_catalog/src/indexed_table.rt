@@ -1,5 +1,5 @@
 //! A table's schema with an index of its columns.
-ghost use Rattle.std.specs.Prelude.{◌≡◌, IfOk, OnOk, bytes_eq};
+ghost use Rattle.std.specs.Prelude.{◌≡◌, IfOk, OnOk, bytes_eq, position};
 ghost use Rattle.std.specs.Bool.{then_some};
 ghost use Rattle.std.specs.Option.{option_or};
 ghost use Rattle.indexmap.specs.IndexMap.{get};
@@ -13,7 +13,10 @@ use indexmap::IndexMap;
 use std::alloc::Global;
 use std::marker::Model;
 
-/// A table's schema, whose columns are found by their names without a walk over them.
+// Up to how many columns a walk over them takes less time than their index.
+const FEW_COLUMNS: usize = 8;
+
+/// A table's schema, whose columns are found by their names without a long walk over them.
 #[derive(Drop)]
 pub struct IndexedTable {
     schema: Schema,
@@ -62,6 +65,13 @@ fn places_of(alloc: Global, columns: &[Column]) -> Result<IndexMap<Name, usize>,
     Ok(places)
 }
 
+// The place of the column with this name, by a walk.
+fn place_among(columns: &[Column], name: &Name) -> Option<usize>
+    ensures { result ≡ position (λ known. bytes_eq name.now known.name) columns.now }
+{
+    columns.iter().position(|column| *name == column.name)
+}
+
 impl IndexedTable {
     /// A copy of a schema, with the index of its columns.
     pub fn new(alloc: Global, schema: &Schema) -> Result<IndexedTable, Memory>
@@ -82,6 +92,10 @@ impl IndexedTable {
     pub fn place(&self, name: &Name) -> Option<usize>
         ensures { result ≡ place_of self.now name.now }
     {
+        let columns = self.schema.columns.as_slice();
+        if columns.len() <= FEW_COLUMNS {
+            return place_among(columns, name);
+        }
         self.places.get(name).copied()
     }
 }

@@ -118,22 +118,6 @@ impl Table {
         self.rows.order_by(alloc, column);
     }
 
-    // Adds a row whose key no row has.
-    fn grow(&mut self, row: Cells, key: &Cells, born: Moment, number: u64) -> Result<(), Memory>
-        requires new { find_row self.old.rows.key key.now self.old.rows.rows ≡ None }
-        requires key { key.now ≡ key_of self.old.rows.key row }
-        ensures ok { OnOk result (self.new ≡ grown (record { row = row; born = born }) number self.old) }
-        ensures err { OnErr result (self.new ≡ self.old) }
-    {
-        self.rows.put(row, born)?;
-        let place = self.rows.find(key).unwrap_or(0);
-        if let Err(Memory) = self.numbers.insert(place, number) {
-            self.rows.take(key);
-            return Err(Memory);
-        }
-        Ok(())
-    }
-
     /// Adds a row, with its key beside it, where no row has the key.
     pub fn insert(
         &mut self,
@@ -146,10 +130,15 @@ impl Table {
         ensures ok { OnOk result (self.new ≡ inserted (record { row = row; born = born }) number self.old) }
         ensures err { OnErr result (self.new ≡ self.old) }
     {
-        match self.rows.find(key) {
-            Some(_) => Ok(()),
-            None => self.grow(row, key, born, number),
+        let found = self.rows.insert(row, born)?;
+        let Some(place) = found else {
+            return Ok(());
+        };
+        if let Err(Memory) = self.numbers.insert(place, number) {
+            self.rows.take(key);
+            return Err(Memory);
         }
+        Ok(())
     }
 
     /// Puts a row in the place of the one that has its key, if there is one; takes no memory.
@@ -192,19 +181,21 @@ impl Table {
         Ok(key)
     }
 
-    // The row that has the same key as this one, with its number, copied.
-    fn before(&self, alloc: Global, row: &Cells) -> Result<Option<Before>, Memory>
-        ensures { IfOk result (λ before. before ≡ before_of (key_of self.now.rows.key row.now) self.now) }
+    // Puts a row in the place of the one that has its key, with that one's birth; that one is handed out.
+    fn renew(&mut self, place: usize, row: Cells, number: u64) -> Before
+        requires { find_row self.old.rows.key (key_of self.old.rows.key row) self.old.rows.rows ≡ Some place }
+        ensures renewed { self.new ≡ renewed_table row number self.old }
+        ensures before { before_of (key_of self.old.rows.key row) self.old ≡ Some result }
     {
-        let Some(place) = self.rows.find_like(row) else {
-            return Ok(None);
-        };
-        let row = self.rows.row(place).copy(alloc)?;
-        Ok(Some(Before {
-            row,
-            born: self.rows.born(place),
-            number: *self.numbers.get(place),
-        }))
+        let count = self.rows.len();
+        prove!(place < count);
+        let born = self.rows.born(place);
+        let old = self.rows.replace(place, row, born);
+        Before {
+            row: old.row,
+            born,
+            number: self.numbers.replace(place, number),
+        }
     }
 
     /// Puts a copy of a row in the place of the one that has its key, if there is one, with that one's birth; the old
@@ -219,11 +210,10 @@ impl Table {
         ensures before { IfOk result (λ before. before ≡ before_of (key_of self.old.rows.key row.now) self.old) }
         ensures err { OnErr result (self.new ≡ self.old) }
     {
-        let Some(before) = self.before(alloc, row)? else {
+        let Some(place) = self.rows.find_like(row) else {
             return Ok(None);
         };
-        let row = row.copy(alloc)?;
-        self.update(row, before.born, number);
-        Ok(Some(before))
+        let copied = row.copy(alloc)?;
+        Ok(Some(self.renew(place, copied, number)))
     }
 }
