@@ -77,15 +77,3 @@ or_false false = refl
 
 pub stands-push : (other row : ShownRow) (rows : List ShownRow) → stands_in other (rows ++ row ∷ []) ≡ (stands_in other rows || same_row row other)
 stands-push other row rows = list_any-append (λ one. same_row one other) rows (row ∷ []) ∙ ap (λ (last : Bool). stands_in other rows || last) (or_false (same_row row other))
-
-or_true : (x : Bool) → (x || true) ≡ true
-or_true true = refl
-or_true false = refl
-
--- a row that stands there already adds none
-pub stands-push-known : (other row : ShownRow) (rows : List ShownRow) → stands_in row rows ≡ true → stands_in other rows ≡ stands_in other (rows ++ row ∷ [])
-stands-push-known other row rows known = by (same_row row other) refl ∙ sym (stands-push other row rows)
-  where
-    by : (same : Bool) → same_row row other ≡ same → stands_in other rows ≡ (stands_in other rows || same)
-    by true same = sym (ap (λ (one : ShownRow). stands_in one rows) (same_row-exact row other same)) ∙ known ∙ sym (or_true (stands_in other rows))
-    by false same = sym (or_false (stands_in other rows))

@@ -38,10 +38,10 @@ impl DifferentRows {
             → OnOk result (AreDifferent ⟦<Sequence<CellKey> as Ord>⟧.cmp (found ++ row ∷ []) self.new) }
     {
         let key = row_key(alloc, row.as_slice())?;
-        if self.seen.contains(&key) {
+        let is_new = self.seen.insert(key)?;
+        if !is_new {
             return Ok(());
         }
-        self.seen.insert(key)?;
         self.rows.push(row)?;
         Ok(())
     }

@@ -29,9 +29,9 @@ impl From<Memory> for EvalFault {
     }
 }
 
-// Gathers each row.
+/// Gathers each row.
 #[derive(Drop)]
-struct Every;
+pub struct Every;
 
 impl Gatherer for Every {
     ghost use Rattle.std.specs.Prelude.{◌≡◌};

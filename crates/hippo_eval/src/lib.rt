@@ -9,7 +9,7 @@ mod gathering;
 mod queries;
 mod walks;
 
-pub use answers::{ANSWER_LIMIT, EvalFault, evaluate};
+pub use answers::{ANSWER_LIMIT, EvalFault, Every, evaluate};
 pub use audit_conditions::unmasked_condition;
 pub use cells::{LentCell, cell};
 pub use conditions::test;

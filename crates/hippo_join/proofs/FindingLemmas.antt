@@ -172,8 +172,19 @@ first-lowest first rest rising other has = by_index has.0 has.1 has.2
     by_index (suc k) within at = let above = AllPairs-from_increasing (first ∷ rest) rising 0 (suc k) other (omega arith) within in omega (arith, above, at)
 
 -- a place that was chosen, and is not any more
-pub put-back : (slots now after : List (Option Place)) (table : Place) → is_open slots table ≡ true → now ≡ slots → after ≡ slice_set now table None → after ≡ slots
-put-back slots now after table still same is = is ∙ ap (λ (s : List (Option Place)). slice_set s table None) same ∙ unchosen-same slots table (open-unchosen slots table still)
+pub still-open : (slots : List (Option Place)) (table : Place) → is_open slots table ≡ true → slice_set slots table None ≡ slots
+still-open slots table still = unchosen-same slots table (open-unchosen slots table still)
+
+-- another row of a table chosen, or none
+pub within-set : (slots now : List (Option Place)) (table : Place) → table < length slots → slice_set now table None ≡ slots → table < length now
+within-set slots now table within same = omega (arith, within, ap length same, length-set now table None)
+
+chosen-again : (now : List (Option Place)) (table other : Place) → is_chosen (slice_set now table None) other ≡ true → is_chosen now other ≡ true
+chosen-again [] table other is = is
+chosen-again (slot ∷ now) zero zero is = absurd (false≢true is)
+chosen-again (slot ∷ now) zero (suc other) is = is
+chosen-again (slot ∷ now) (suc table) zero is = is
+chosen-again (slot ∷ now) (suc table) (suc other) is = chosen-again now table other is
 
 -- the first of some stages, and the others
 pub all-first : {X : Type 0} (P : X → Type 0) (xs : List X) (x : X) (rest : List X) → All P xs → xs ≡ x ∷ rest → P x
@@ -226,6 +237,20 @@ module _ (choices : Choices) (query : Masked) (sets : List KeyedRows) where
     pub walk-first : (stages : List Stage) (stage : Stage) (rest : List Stage) (slots now : List (Option Place)) → CanWalk choices query sets in_order stages slots → stages ≡ stage ∷ rest → now ≡ slots → CanWalk choices query sets in_order (stage ∷ rest) now
     walk-first stages stage rest slots now can first same =
         subst (λ (s : List (Option Place)). CanWalk choices query sets in_order (stage ∷ rest) s) (sym same) (subst (λ (l : List Stage). CanWalk choices query sets in_order l slots) first can)
+
+    -- where another row of the first stage's table is chosen, or none
+    pub walk-again : (stage : Stage) (rest : List Stage) (slots now : List (Option Place)) → CanWalk choices query sets in_order (stage ∷ rest) slots → slice_set now stage.table None ≡ slots → CanWalk choices query sets in_order (stage ∷ rest) now
+    walk-again stage rest slots now can same =
+        let as_long : length now ≡ length slots = sym (length-set now stage.table None) ∙ ap length same in
+        record {
+          long = as_long ∙ can.long;
+          walkable = can.walkable;
+          covers = λ table within. elim (can.covers table (omega (arith, within, as_long))) as (λ _. (is_chosen now table ≡ true) ⊎ Contains (map (λ (s : Stage). s.table) (stage ∷ rest)) table) [
+            | inl chosen ↦ inl (chosen-again now stage.table table (subst (λ (s : List (Option Place)). is_chosen s table ≡ true) (sym same) chosen))
+            | inr left ↦ inr left
+          ];
+          rises = can.rises;
+        }
 
     pub walk-closed : (stages : List Stage) (stage : Stage) (rest : List Stage) (slots : List (Option Place)) → CanWalk choices query sets in_order stages slots → stages ≡ stage ∷ rest → is_open slots stage.table ≡ false → CanWalk choices query sets in_order rest slots
     walk-closed stages stage rest slots can first closed =

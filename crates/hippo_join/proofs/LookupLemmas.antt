@@ -1,6 +1,6 @@
 -- What a search by halves finds among values in order.
-use Rattle.std.proofs.Common.{◌≡◌, ℕ, ◌+◌, ◌-◌, ◌<◌, ◌≤◌, true, false, List, length, take, drop, refl, sym, ap, ◌∙◌, arith, get_or, length-take, length-drop, subst, inl, inr, ◌⊎◌}
-use Rattle.std.proofs.lemmas.List.{get_or-drop, get_or-take}
+use Rattle.std.proofs.Common.{◌≡◌, ℕ, ◌+◌, ◌-◌, ◌<◌, ◌≤◌, true, false, List, length, take, drop, refl, sym, ap, ◌∙◌, arith, get_or, length-take, length-drop, inl, inr, ◌⊎◌}
+use Rattle.std.proofs.lemmas.List.{get_or-drop, get_or-take, get_or-map, length-map}
 use Rattle.std.specs.Prelude.{slice_index_or}
 use Rattle.std.specs.List.{Contains}
 use Rattle.std.specs.List.Sorted.{IsPartitionedBy, IsPartitionPoint, IsNonDecreasingBy}
@@ -14,7 +14,8 @@ use Rattle.hippo_values.specs.Order.{value_cmp}
 use Rattle.hippo_values.specs.OrderLaws.{value_total}
 use Rattle.hippo_model.specs.Terms.{Place}
 use Rattle.hippo_model.specs.RowSets.{KeyedRows}
-use Rattle.hippo_join.specs.Lookups.{value_at, IsByColumn}
+use Rattle.hippo_join.specs.Lookups.{value_at, IsIndex}
+use Rattle.hippo_join.proofs.ExistenceLemmas.{get_or_default}
 
 cases_lt : (a b : ℕ) → (a < b) ⊎ (b ≤ a)
 cases_lt a b = grind arith
@@ -35,46 +36,67 @@ lower_within Greater Less le within = absurd (omega arith)
 lower_within Greater Equal le within = absurd (omega arith)
 lower_within Greater Greater le within = absurd (false≢true within)
 
-module _ (set : KeyedRows) (column : Place) (places : List Place) (value : Value) (sorted : IsByColumn set column places) where
-  abbrev order_of : Place → Ordering
-  order_of place = value_cmp (value_at set column place) value
+-- values in a column that rise, against one of them
+module _ (set : KeyedRows) (column : Place) (values : List Value) (places : List Place) (value : Value) (index : IsIndex set column values places) where
+  abbrev order_of : Value → Ordering
+  order_of own = value_cmp own value
 
-  rising : IsNonDecreasingBy (λ place. ordering_index (order_of place)) places
-  rising = searchable_from_sorted value_total (value_at set column) places value sorted
+  abbrev value_of : Place → Value
+  value_of place = value_at set column place
 
-  pub parted-below : IsPartitionedBy (λ place. is_lt (order_of place)) places
-  parted-below i j d le within less = lower_less (order_of (slice_index_or places i d)) (order_of (slice_index_or places j d)) (rising i j d le within) less
+  long : length values ≡ length places
+  long = ap length index.are ∙ length-map places value_of
 
-  pub parted-within : IsPartitionedBy (λ place. is_le (order_of place)) places
-  parted-within i j d le within less = lower_within (order_of (slice_index_or places i d)) (order_of (slice_index_or places j d)) (rising i j d le within) less
+  at : (k : ℕ) (d : Value) → k < length places → get_or values k d ≡ value_of (get_or places k 0)
+  at k d within = ap (λ (l : List Value). get_or l k d) index.are ∙ get_or-map value_of places k 0 d within
 
-  not_below : (place : Place) → order_of place ≡ Equal → ¬ (is_lt (order_of place) ≡ true)
-  not_below place equal less = false≢true (sym (ap is_lt equal) ∙ less)
+  rising : IsNonDecreasingBy (λ place. ordering_index (order_of (value_of place))) places
+  rising = searchable_from_sorted value_total value_of places value index.rise
 
-  not_above : (place : Place) → order_of place ≡ Equal → ¬ (is_le (order_of place) ≡ false)
-  not_above place equal above = false≢true (sym above ∙ ap is_le equal)
+  rising_values : IsNonDecreasingBy (λ own. ordering_index (order_of own)) values
+  rising_values i j d le within =
+      let inside : j < length places = omega (arith, within, long) in
+      rw (at i d (omega (arith, le, inside)), at j d inside) (rising i j 0 le inside)
 
-  -- a place with the value is not among those below it
-  pub Contains-from : (start : ℕ) → IsPartitionPoint (λ place. is_lt (order_of place) ≡ true) (λ place. is_lt (order_of place) ≡ false) places start → (place : Place) → Contains places place → order_of place ≡ Equal → Contains (take (length places - start) (drop start places)) place
-  Contains-from start point place at equal =
+  pub parted-below : IsPartitionedBy (λ own. is_lt (order_of own)) values
+  parted-below i j d le within less = lower_less (order_of (slice_index_or values i d)) (order_of (slice_index_or values j d)) (rising_values i j d le within) less
+
+  -- a value that is equal is not among those below
+  pub from-start : (start : ℕ) → IsPartitionPoint (λ own. is_lt (order_of own) ≡ true) (λ own. is_lt (order_of own) ≡ false) values start
+      → (k : ℕ) → k < length places → order_of (value_of (get_or places k 0)) ≡ Equal → start ≤ k
+  from-start start point k within equal = elim (cases_lt k start) as (λ _. start ≤ k) [
+    | inl below ↦
+        let less : is_lt (order_of (get_or values k value)) ≡ true = point.0 k value (omega arith) below in
+        absurd (false≢true (sym (ap is_lt (ap order_of (at k value within) ∙ equal)) ∙ less))
+    | inr above ↦ above
+  ]
+
+  -- nor behind one that is above
+  pub before-end : (end : ℕ) (d : Value) → end < length values → is_le (order_of (get_or values end d)) ≡ false
+      → (k : ℕ) → k < length places → order_of (value_of (get_or places k 0)) ≡ Equal → k < end
+  before-end end d within above k inside equal = elim (cases_lt k end) as (λ _. k < end) [
+    | inl below ↦ below
+    | inr after ↦
+        let same : order_of (get_or values k d) ≡ Equal = ap order_of (at k d inside) ∙ equal in
+        let later = rising_values end k d after (omega (arith, inside, long)) in
+        absurd (false≢true (sym above ∙ lower_within (order_of (get_or values end d)) (order_of (get_or values k d)) later (ap is_le same)))
+  ]
+
+  pub before-all : (k : ℕ) → k < length places → k < length values
+  before-all k inside = omega (arith, inside, long)
+
+  -- so its place is among those between both
+  pub among : (start end : ℕ) → end ≤ length places
+      → ((k : ℕ) → k < length places → order_of (value_of (get_or places k 0)) ≡ Equal → start ≤ k)
+      → ((k : ℕ) → k < length places → order_of (value_of (get_or places k 0)) ≡ Equal → k < end)
+      → (place : Place) → Contains places place → order_of (value_of place) ≡ Equal → Contains (take (end - start) (drop start places)) place
+  among start end within from upto place at equal =
       let k : ℕ = at.0 in
-      let after : start ≤ k = elim (cases_lt k start) as (λ _. start ≤ k) [
-        | inl below ↦ absurd (not_below place equal (subst (λ (p : Place). is_lt (order_of p) ≡ true) at.2 (point.0 k place (omega arith) below)))
-        | inr above ↦ above
-      ] in
-      let below : k - start < length places - start = omega (arith, at.1) in
-      let there : start + (k - start) ≡ k = omega arith in (
+      let same : order_of (value_of (get_or places k 0)) ≡ Equal = ap (λ (p : Place). order_of (value_of p)) (get_or_default places k place 0 at.1 ∙ at.2) ∙ equal in
+      let after = from k at.1 same in
+      let before = upto k at.1 same in
+      let there : start + (k - start) ≡ k = omega (arith, after) in (
         k - start,
-        simp (length-take, length-drop) (omega (arith, at.1)),
-        get_or-take (length places - start) (drop start places) (k - start) place below ∙ get_or-drop start places (k - start) place ∙ ap (λ j. get_or places j place) there ∙ at.2,
+        simp (length-take, length-drop) (omega (arith, at.1, after, before, within)),
+        get_or-take (end - start) (drop start places) (k - start) place (omega (arith, after, before)) ∙ get_or-drop start places (k - start) place ∙ ap (λ j. get_or places j place) there ∙ at.2,
       )
-
-  -- nor among those above it
-  pub Contains-up_to : (end : ℕ) → end ≤ length places → IsPartitionPoint (λ place. is_le (order_of place) ≡ true) (λ place. is_le (order_of place) ≡ false) places end → (place : Place) → Contains places place → order_of place ≡ Equal → Contains (take end places) place
-  Contains-up_to end within point place at equal =
-      let k : ℕ = at.0 in
-      let before : k < end = elim (cases_lt k end) as (λ _. k < end) [
-        | inl below ↦ below
-        | inr above ↦ absurd (not_above place equal (subst (λ (p : Place). is_le (order_of p) ≡ false) at.2 (point.1 k place above at.1)))
-      ] in
-      (k, simp length-take (omega arith), get_or-take end places k place before ∙ at.2)

@@ -1,6 +1,6 @@
 -- Lists of places that have each place that counts.
 use Rattle.std.proofs.Common.{◌≡◌, ℕ, zero, suc, ◌+◌, ◌<◌, ◌≤◌, Bool, true, false, List, [], ◌∷◌, ◌++◌, length, get_or, refl, sym, ap, subst, ◌∙◌, Option, Some, None, inl, inr, arith}
-use Rattle.std.specs.Prelude.{slice_get, slice_set, replicate, if◌then◌else◌}
+use Rattle.std.specs.Prelude.{nat_lt, slice_get, slice_set, replicate, if◌then◌else◌}
 use Rattle.std.specs.List.{Contains, list_all}
 use Rattle.hippo_model.specs.declared.query.CondOf.{CondOf}
 use Rattle.hippo_model.specs.declared.query.Expr.{Expr}
@@ -9,7 +9,7 @@ use Rattle.std.specs.Option.{IfSome}
 use Rattle.std.specs.Prelude.{Result, Ok, Err, IfOk}
 use Rattle.std.specs.Cmp.{tied_itself}
 use Rattle.std.specs.declared.cmp.Ordering.TheVariants.{Equal}
-use Rattle.std.proofs.lemmas.Bool.{false≢true}
+use Rattle.std.proofs.lemmas.Bool.{and_parts, false≢true}
 use Rattle.hippo_values.specs.declared.values.Value.{Value}
 use Rattle.hippo_values.specs.Order.{value_cmp}
 use Rattle.hippo_values.specs.OrderLaws.{value_total}
@@ -22,7 +22,7 @@ use Rattle.hippo_model.specs.RowSets.{KeyedRows}
 use Rattle.hippo_model.specs.Conditions.{outer_parts}
 use Rattle.hippo_model.specs.Masking.{Choices}
 use Rattle.hippo_join.specs.declared.ties.Tie.{Tie}
-use Rattle.hippo_join.specs.Places.{chosen, Fits, slot_at, stands}
+use Rattle.hippo_join.specs.Places.{chosen, Fits, in_range, slot_at, stands}
 use Rattle.hippo_join.specs.Ties.{holds, AreEqual, IsTieOf}
 use Rattle.hippo_join.specs.Stages.{IsStage}
 use Rattle.hippo_join.proofs.ExistenceLemmas.{below_or_at, get_or_default}
@@ -71,6 +71,14 @@ fits-alone slots n table places none long place at = Fits-set slots places table
 
 pub of-some : {X : Type 0} (P : X → Type 0) (o : Option X) (x : X) → IfSome o P → o ≡ Some x → P x
 of-some {X} P o x p is = let at : IfSome (Some x) P = subst (λ (q : Option X). IfSome q P) is p in at
+
+-- the rows of a table in which a place is one of a combination's
+pub set-at : (sets : List KeyedRows) (places : List Place) (table place : Place) → in_range sets places ≡ true → slice_get places table ≡ Some place → (set : KeyedRows) × (slice_get sets table ≡ Some set)
+set-at [] [] table place inside at = absurd cc
+set-at [] (first ∷ places) table place inside at = absurd (false≢true inside)
+set-at (set ∷ sets) [] table place inside at = absurd (false≢true inside)
+set-at (set ∷ sets) (first ∷ places) zero place inside at = (set, refl)
+set-at (set ∷ sets) (first ∷ places) (suc table) place inside at = set-at sets places table place (and_parts (nat_lt first (length set.rows)) (in_range sets places) inside).1 at
 
 -- a place whose row has the value that a tie asks for
 module _ (choices : Choices) (query : Masked) (sets : List KeyedRows) (slots : List (Option Place)) (places : List Place) (fits : Fits slots places) (counts : stands choices query sets places ≡ true) where

@@ -8,7 +8,7 @@ use Rattle.std.specs.Cmp.Lexicographic.{slice_cmp}
 use Rattle.std.specs.declared.cmp.Ordering.TheVariants.{Less}
 use Rattle.std.proofs.lemmas.Bool.{and_parts, false≢true}
 use Rattle.std.proofs.lemmas.Bool.Decides.{nat_tests}
-use Rattle.std.proofs.lemmas.List.{append-nil, map-append}
+use Rattle.std.proofs.lemmas.List.{append-nil, map-append, set-set}
 use Rattle.std.proofs.lemmas.List.FromFn.{get_or-range_with_len, length-range_with_len}
 use Rattle.std.proofs.lemmas.List.Kept.{AllPairs-from_increasing, IsStrictlySortedBy-filter}
 use Rattle.std.proofs.lemmas.Option.{slice_get-get_or}
@@ -303,13 +303,14 @@ module _ {S : Type 0} (keeps : List (List Place) → S → Type 0) (in_order : B
       pub visited-all : length some ≤ i → Visited (Completes choices query sets slots) in_order keeps More before old
       visited-all past = record { all = so_far.all; are = all_tried choices query sets in_order slots table some next i so_far.all past so_far.are; kept = so_far.kept }
 
-      module _ (within : i < length some) (slots_now : List (Option Place)) (place : Place) (same : slots_now ≡ slots) (is_place : place ≡ get_or some i 0) (onward : Onward) (now : S)
+      module _ (within : i < length some) (slots_now : List (Option Place)) (place : Place) (same : slice_set slots_now table None ≡ slots) (is_place : place ≡ get_or some i 0) (onward : Onward) (now : S)
           (here : Visited (Completes choices query sets (slice_set slots_now table (Some place))) in_order keeps onward (before ++ so_far.all) now) where
         both : AreAll (Tried choices query sets slots table some (i + 1)) in_order (so_far.all ++ here.all)
         both =
             tried_more choices query sets in_order slots table some next i so_far.all here.all within so_far.are
             (subst (λ (s : List (Option Place)). AreAll (Completes choices query sets (slice_set s table (Some (get_or some i 0)))) in_order here.all) same
-            (subst (λ (at : Place). AreAll (Completes choices query sets (slice_set slots_now table (Some at))) in_order here.all) is_place here.are))
+            (subst (λ (s : List (Option Place)). AreAll (Completes choices query sets s) in_order here.all) (sym (set-set slots_now table None (Some (get_or some i 0))))
+            (subst (λ (at : Place). AreAll (Completes choices query sets (slice_set slots_now table (Some at))) in_order here.all) is_place here.are)))
 
         -- one place more, and a place at which the visitor has enough
         pub visited-more : Visited (Tried choices query sets slots table some (i + 1)) in_order keeps More before now
@@ -342,12 +343,15 @@ below-all n order is = subst (λ (l : List Place). All (λ table. table < n) l) 
 pub whole-all : (n : ℕ) (order : List Place) → order ≡ range_with_len 0 n → (table : Place) → table < n → Contains order table
 whole-all n order is table within = subst (λ (l : List Place). Contains l table) (sym is) (table, omega (arith, within, length-range_with_len 0 n), get_or-range_with_len 0 n table table within ∙ zero-add table)
 
+pub rises-range : (start n : ℕ) → IsStrictlyIncreasing (range_with_len start n)
+rises-range start n k within =
+    let short : k + 1 < n = omega (arith, within, length-range_with_len start n) in
+    let here = get_or-range_with_len start n k 0 (omega (arith, short)) in
+    let next = get_or-range_with_len start n (k + 1) 0 short in
+    omega (arith, here, next)
+
 pub rises-all : (n : ℕ) (order : List Place) → order ≡ range_with_len 0 n → IsStrictlyIncreasing order
-rises-all n order is = subst IsStrictlyIncreasing (sym is) (λ k within.
-    let short : k + 1 < n = omega (arith, within, length-range_with_len 0 n) in
-    let here = get_or-range_with_len 0 n k 0 (omega (arith, short)) in
-    let next = get_or-range_with_len 0 n (k + 1) 0 short in
-    omega (arith, here, next))
+rises-all n order is = subst IsStrictlyIncreasing (sym is) (rises-range 0 n)
 
 -- ---- rows of places that are visited
 module _ {S : Type 0} (keeps : List Combination → S → Type 0) (sets : List KeyedRows) (front : List Combination) (before : List (List Place)) (places : List Place) (rows : Combination) (state : S) (are : rows ≡ chosen sets places) where

@@ -1,5 +1,6 @@
 //! The places of a stage that may follow the rows that are chosen.
-ghost use Rattle.std.specs.Prelude.{◌≡◌, ◌<◌, ◌+◌, ◌-◌, IfOk, length, get_or, slice_get, unwrap_or};
+ghost use Rattle.std.specs.Prelude.{◌≡◌, ◌<◌, ◌+◌, ◌-◌, true, IfOk, length, get_or, slice_get, unwrap_or};
+ghost use Rattle.std.specs.List.Sorted.{IsStrictlyIncreasing};
 ghost use Rattle.hippo_join.specs.Stages.{ReachesFrom};
 ghost use Rattle.hippo_join.specs.Walking.{followed, IsWalkable};
 
@@ -36,7 +37,30 @@ fn place_in(start: usize, end: usize, index: usize) -> usize
     start + index
 }
 
+// Whether places ascend, each there once.
+fn ascends(places: &[usize]) -> bool
+    ensures { result ≡ true → IsStrictlyIncreasing places.now }
+{
+    for index in 1..places.len() {
+        if places[index - 1] >= places[index] {
+            return false;
+        }
+    }
+    true
+}
+
 impl<'s> Following<'s> {
+    // Whether they ascend, each there once.
+    pub(crate) fn rises(&self) -> bool
+        ensures { result ≡ true → IsStrictlyIncreasing (followed self.now) }
+    {
+        match self {
+            Following::Listed(places) => ascends(places),
+            Following::Sought(_) => true,
+            Following::Found(places) => ascends(places),
+        }
+    }
+
     pub(crate) fn len(&self) -> usize
         ensures { result ≡ length (followed self.now) }
     {

@@ -11,8 +11,9 @@ ghost use Rattle.hippo_join.specs.Finding.{AreFound};
 ghost use Rattle.hippo_join.specs.Plans.{IsPlanOf};
 
 use crate::finding::PlaceFinder;
+use crate::gathering::gather_joined;
 use crate::sides::Side;
-use hippo_eval::{ANSWER_LIMIT, EvalFault, project};
+use hippo_eval::{ANSWER_LIMIT, EvalFault, Every, project};
 use hippo_model::{Answer, BornRow, CellRow, ChoiceView, Masked, Places, Plan, Sets};
 use hippo_values::{Memory, Moment, Sequence};
 use std::alloc::Global;
@@ -109,14 +110,8 @@ impl<'a, C: ChoiceView> Side<'a, C> {
     }
 }
 
-/// The answer of a query with the policy written into it, by joins of its tables in a plan's order: the same as that of
-/// `evaluate`, whatever the plan. Wants a plan of the query, and the rows of each of its tables. TooManyRows exactly
-/// where the answer has more than 100,000 rows. Where the query's outermost AND says the key of a table's row, or the
-/// value of a column by which the table has an order, by literals or by columns of tables before it, such rows are
-/// looked up; where it has another equality of columns of two tables, only rows whose values are equal are looked at. So
-/// the time is in proportion to the tables whose rows are not looked up and to what matches; memory is in proportion to
-/// these tables and the answer.
-pub fn run<C: ChoiceView>(
+// The same by the places of all combinations that count, whatever the order.
+fn run_by_places<C: ChoiceView>(
     alloc: Global,
     plan: &Plan,
     query: &Masked,
@@ -142,4 +137,39 @@ pub fn run<C: ChoiceView>(
         blank: _,
     } = side;
     answer
+}
+
+// Whether tables stand in the order of FROM.
+fn are_in_order(tables: &[usize]) -> bool {
+    for (place, table) in tables.iter().enumerate() {
+        if *table != place {
+            return false;
+        }
+    }
+    true
+}
+
+/// The answer of a query with the policy written into it, by joins of its tables in a plan's order: the same as that of
+/// `evaluate`, whatever the plan. Wants a plan of the query, and the rows of each of its tables. TooManyRows exactly
+/// where the answer has more than 100,000 rows. Where the query's outermost AND says the key of a table's row, or the
+/// value of a column by which the table has an order, by literals or by columns of tables before it, such rows are
+/// looked up; where it has another equality of columns of two tables, only rows whose values are equal are looked at. So
+/// the time is in proportion to the tables whose rows are not looked up and to what matches; memory is in proportion to
+/// these tables and the answer.
+pub fn run<C: ChoiceView>(
+    alloc: Global,
+    plan: &Plan,
+    query: &Masked,
+    sets: &Sets<'_>,
+    choices: &C,
+) -> Result<Answer, EvalFault>
+    requires sets { length sets.now ≡ length query.now.tables }
+    requires plan { IsPlanOf query.now plan.now }
+    ensures { IsAnswered ANSWER_LIMIT (masked_answer (C.choices choices.now) query.now (rows_of sets.now)) result }
+{
+    if are_in_order(plan.order.as_slice()) {
+        gather_joined(alloc, query, sets, choices, &Every, ANSWER_LIMIT)
+    } else {
+        run_by_places(alloc, plan, query, sets, choices)
+    }
 }

@@ -1,5 +1,5 @@
 //! Rows of a table in the order of one of its columns.
-ghost use Rattle.std.specs.Prelude.{◌≡◌, true, MatchOption, option_copied, unwrap_or};
+ghost use Rattle.std.specs.Prelude.{◌≡◌, ◌<◌, ◌≤◌, ℕ, List, true, IfOk, MatchOption, get_or, length, map, option_copied, unwrap_or};
 ghost use Rattle.std.specs.List.{Contains};
 ghost use Rattle.std.specs.List.Sorted.{IsPermutation};
 ghost use Rattle.std.specs.Ordering.{is_lt, is_le};
@@ -8,10 +8,12 @@ ghost use Rattle.hippo_values.specs.declared.values.Value.TheVariants.{Null};
 ghost use Rattle.hippo_values.specs.Order.{value_cmp};
 ghost use Rattle.hippo_model.specs.Conditions.{is_null};
 ghost use Rattle.hippo_model.specs.Terms.{Place};
-ghost use Rattle.hippo_join.specs.Lookups.{value_at, IsByColumn};
+ghost use Rattle.hippo_model.specs.RowSets.{KeyedRows};
+ghost use Rattle.hippo_join.specs.Lookups.{value_at, IsByColumn, IsIndex};
 
 use hippo_model::RowSet;
-use hippo_values::Value;
+use hippo_values::{Duplicate, Memory, Value};
+use std::alloc::Global;
 use std::cmp::Ordering;
 
 /// The value in a column of the row at a place, if one stands there.
@@ -60,16 +62,16 @@ fn row_order(set: &RowSet, column: usize, place: usize, other: usize) -> Orderin
     )
 }
 
-fn is_below(set: &RowSet, column: usize, place: usize, value: &Value) -> bool
-    ensures { result ≡ is_lt (value_cmp (value_at set.now column place) value.now) }
+fn is_below(own: &Value, value: &Value) -> bool
+    ensures { result ≡ is_lt (value_cmp own.now value.now) }
 {
-    value_order(set, column, place, value).is_lt()
+    own.cmp(value).is_lt()
 }
 
-fn is_within(set: &RowSet, column: usize, place: usize, value: &Value) -> bool
-    ensures { result ≡ is_le (value_cmp (value_at set.now column place) value.now) }
+fn is_within(own: &Value, value: &Value) -> bool
+    ensures { result ≡ is_le (value_cmp own.now value.now) }
 {
-    value_order(set, column, place, value).is_le()
+    own.cmp(value).is_le()
 }
 
 // Puts places in the order of the values in a column.
@@ -80,37 +82,66 @@ pub(crate) fn sort_by_column(set: &RowSet, column: usize, places: &mut [usize])
     places.sort_unstable_by(|a, b| row_order(set, column, *a, *b));
 }
 
-// The places from the first whose row's value is not below this one.
-fn from_value<'a>(set: &RowSet, column: usize, places: &'a [usize], value: &Value) -> &'a [usize]
-    requires { IsByColumn set.now column places.now }
-    ensures order { IsByColumn set.now column result.now }
-    ensures all { (place : Place) → Contains places.now place
-        → value_cmp (value_at set.now column place) value.now ≡ Equal → Contains result.now place }
+// A value with memory of its own; null where none is there.
+fn copied_value(alloc: Global, value: Option<&Value>) -> Result<Value, Memory>
+    ensures { IfOk result (λ made. made ≡ unwrap_or (option_copied value.entry) Null) }
 {
-    let start = places.partition_point(|place| is_below(set, column, *place, value));
-    &places[start..]
+    match value {
+        None => Ok(Value::Null),
+        Some(value) => Ok(value.copy(alloc)?),
+    }
 }
 
-// The places to the last whose row's value is not above this one.
-fn up_to_value<'a>(set: &RowSet, column: usize, places: &'a [usize], value: &Value) -> &'a [usize]
-    requires { IsByColumn set.now column places.now }
-    ensures { (place : Place) → Contains places.now place → value_cmp (value_at set.now column place) value.now ≡ Equal
-        → Contains result.now place }
-{
-    let end = places.partition_point(|place| is_within(set, column, *place, value));
-    &places[..end]
-}
-
-// The places whose row has a value, of places that stand by the values in a column.
-pub(crate) fn with_value<'a>(
+// The values in a column of the rows at some places.
+pub(crate) fn values_at(
+    alloc: Global,
     set: &RowSet,
     column: usize,
-    places: &'a [usize],
-    value: &Value,
-) -> &'a [usize]
-    requires { IsByColumn set.now column places.now }
-    ensures { (place : Place) → Contains places.now place → value_cmp (value_at set.now column place) value.now ≡ Equal
+    places: &[usize],
+) -> Result<Vec<Value>, Memory>
+    ensures { IfOk result (λ values. values.items ≡ map (value_at set.now column) places.now) }
+{
+    let mut values = Vec::with_capacity(alloc, places.len())?;
+    for place in places {
+        values.push(copied_value(alloc, value_at(set, column, *place))?)?;
+    }
+    Ok(values)
+}
+
+// Where those of some values begin, by their order, that are not below one; it is found by halves.
+fn start_with(values: &[Value], value: &Value) -> usize
+    ensures { (set : KeyedRows) (column : Place) (places : List Place) → IsIndex set column values.now places
+        → (k : ℕ) → k < length places → value_cmp (value_at set column (get_or places k 0)) value.now ≡ Equal
+        → result ≤ k }
+{
+    values.partition_point(|own| is_below(own, value))
+}
+
+// Where those from a place on end that are not above it.
+fn end_with(values: &[Value], start: usize, value: &Value) -> usize
+    ensures { (set : KeyedRows) (column : Place) (places : List Place) → IsIndex set column values.now places
+        → (k : ℕ) → k < length places → value_cmp (value_at set column (get_or places k 0)) value.now ≡ Equal
+        → k < result }
+{
+    for end in start..values.len() {
+        if !is_within(&values[end], value) {
+            return end;
+        }
+    }
+    values.len()
+}
+
+// The places whose row has a value, of places that stand by the values in a column, and these values.
+pub(crate) fn with_value<'a>(places: &'a [usize], values: &[Value], value: &Value) -> &'a [usize]
+    ensures { (set : KeyedRows) (column : Place) → IsIndex set column values.now places.now
+        → (place : Place) → Contains places.now place → value_cmp (value_at set column place) value.now ≡ Equal
         → Contains result.now place }
 {
-    up_to_value(set, column, from_value(set, column, places, value), value)
+    let start = start_with(values, value);
+    let end = end_with(values, start, value);
+    if start <= end && end <= places.len() {
+        &places[start..end]
+    } else {
+        places
+    }
 }

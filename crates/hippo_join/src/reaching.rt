@@ -11,7 +11,7 @@ ghost use Rattle.hippo_join.specs.Stages.{Reaches, ReachesFrom, IsStage, AreStag
 
 use crate::following::{Following, listed};
 use crate::known::{knows, knows_expr, slot_at};
-use crate::lookups::{known_value, sort_by_column, with_value};
+use crate::lookups::{known_value, sort_by_column, values_at, with_value};
 use crate::sides::Side;
 use crate::stages::Stage;
 use crate::ties::{Tie, find_tie, outer_parts};
@@ -181,15 +181,19 @@ impl<'a, C: ChoiceView> Side<'a, C> {
                 tie: None,
                 is_sought: false,
                 places,
+                values: Vec::new(alloc),
                 tests,
             });
         };
-        let places = sorted_by_column(self.sets.get(table), tie.column, places);
+        let set = self.sets.get(table);
+        let places = sorted_by_column(set, tie.column, places);
+        let values = values_at(alloc, set, tie.column, &places)?;
         Ok(Stage {
             table,
             tie: Some(tie),
             is_sought: false,
             places,
+            values,
             tests,
         })
     }
@@ -219,6 +223,7 @@ impl<'a, C: ChoiceView> Side<'a, C> {
                 tie: None,
                 is_sought,
                 places: Vec::new(alloc),
+                values: Vec::new(alloc),
                 tests,
             })
         } else {
@@ -234,17 +239,17 @@ impl<'a, C: ChoiceView> Side<'a, C> {
             slots.now stage.now.table result.now }
     {
         let places = stage.places.as_slice();
+        let values = stage.values.as_slice();
         let Some(place) = slot_at(slots, tie.other.table) else {
             return places;
         };
-        if tie.other.table >= self.sets.len() || stage.table >= self.sets.len() {
+        if tie.other.table >= self.sets.len() {
             return places;
         }
-        let set = self.sets.get(stage.table);
         let others = self.sets.get(tie.other.table);
         match known_value(others, tie.other.column, place) {
             None => &places[..0],
-            Some(value) => with_value(set, tie.column, places, value),
+            Some(value) => with_value(places, values, value),
         }
     }
 

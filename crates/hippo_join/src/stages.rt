@@ -1,5 +1,6 @@
 //! The stages of a join, a table at a time.
 use crate::ties::Tie;
+use hippo_values::Value;
 
 /// A table, by its place in FROM, the tie of its rows to a row that is chosen before, and its rows that can count.
 #[derive(Drop)]
@@ -11,6 +12,8 @@ pub struct Stage {
     pub is_sought: bool,
     /// Places in the table, in the order of the tie's column.
     pub places: Vec<usize>,
+    /// The values of the tie's column at these places; none where there is no tie.
+    pub values: Vec<Value>,
     /// The parts of the condition that are tested here.
     pub tests: Vec<usize>,
 }

@@ -4,6 +4,7 @@ ghost use Rattle.std.specs.List.{All, Contains};
 ghost use Rattle.std.specs.List.Sorted.{IsStrictlyIncreasing};
 ghost use Rattle.hippo_model.specs.Terms.{Combination, Place};
 ghost use Rattle.hippo_eval.specs.declared.walks.Onward.TheVariants.{More as MoreOn};
+ghost use Rattle.hippo_join.specs.Known.{is_open};
 ghost use Rattle.hippo_join.specs.Places.{in_range, rows_at, stands};
 ghost use Rattle.hippo_join.specs.Finding.{Covers};
 ghost use Rattle.hippo_join.specs.Stages.{ReachesFrom};
@@ -75,10 +76,10 @@ impl<'a, C: ChoiceView> Side<'a, C> {
         ensures order { IfOk result (λ following. in_order ≡ true → IsStrictlyIncreasing (followed following)) }
     {
         let following = self.following(alloc, stage, slots)?;
-        if in_order {
-            Ok(Following::Found(ascending(alloc, &following)?))
-        } else {
+        if !in_order || following.rises() {
             Ok(following)
+        } else {
+            Ok(Following::Found(ascending(alloc, &following)?))
         }
     }
 
@@ -130,7 +131,24 @@ impl<'a, C: ChoiceView> Side<'a, C> {
         }
     }
 
-    // Visits what counts and has the rows that are chosen, where the row at a place of a stage's table is chosen too.
+    // Lets the row of a table go that is chosen.
+    fn leave(
+        &self,
+        rows: &mut Combo<'a>,
+        slots: &mut [Option<usize>],
+        table: usize,
+    ) -> Result<(), Memory>
+        requires table { table < length slots.old }
+        requires rows { rows.old ≡ rows_at self.now.sets.now slots.old }
+        ensures slots { OnOk result (slots.new ≡ slice_set slots.old table None) }
+        ensures rows { OnOk result (rows.new ≡ rows_at self.now.sets.now slots.new) }
+    {
+        slots[table] = None;
+        self.renew(rows, slots, table)
+    }
+
+    // Visits what counts and has the rows that are chosen, where the row at a place of a stage's table is chosen too, in
+    // the place of the one before.
     #[cycle(walk)]
     fn walk_with<V: PlaceVisitor>(
         &self,
@@ -148,7 +166,7 @@ impl<'a, C: ChoiceView> Side<'a, C> {
         requires walk { CanWalk (C.choices self.now.choices.now) self.now.query.now self.now.sets.now in_order
             (stage.now ∷ rest.now) slots.old }
         requires rows { rows.old ≡ rows_at self.now.sets.now slots.old }
-        ensures slots { OnOk result (slots.new ≡ slice_set slots.old stage.now.table None) }
+        ensures slots { OnOk result (slots.new ≡ slice_set slots.old stage.now.table (Some place)) }
         ensures rows { OnOk result (rows.new ≡ rows_at self.now.sets.now slots.new) }
         ensures kept { Visits
             (Completes (C.choices self.now.choices.now) self.now.query.now self.now.sets.now
@@ -167,9 +185,47 @@ impl<'a, C: ChoiceView> Side<'a, C> {
             visitor,
             state,
         )?;
-        slots[stage.table] = None;
-        self.renew(rows, slots, stage.table)?;
         Ok(onward)
+    }
+
+    // Visits what counts and has the rows that are chosen, for each of the places of a stage that may follow them. The
+    // last of these rows stays chosen.
+    #[cycle(walk)]
+    fn walk_each<V: PlaceVisitor>(
+        &self,
+        alloc: Global,
+        stage: &Stage,
+        rest: &[Stage],
+        following: &Following<'_>,
+        in_order: bool,
+        slots: &mut [Option<usize>],
+        rows: &mut Combo<'a>,
+        visitor: &V,
+        state: &mut V::State,
+    ) -> Result<Onward, Memory>
+        requires still { is_open slots.old stage.now.table ≡ true }
+        requires walk { CanWalk (C.choices self.now.choices.now) self.now.query.now self.now.sets.now in_order
+            (stage.now ∷ rest.now) slots.old }
+        requires rows { rows.old ≡ rows_at self.now.sets.now slots.old }
+        requires reaches { ReachesFrom (C.choices self.now.choices.now) self.now.query.now self.now.sets.now
+            slots.old stage.now.table (followed following.now) }
+        requires order { in_order ≡ true → IsStrictlyIncreasing (followed following.now) }
+        ensures slots { OnOk result (slice_set slots.new stage.now.table None ≡ slots.old) }
+        ensures rows { OnOk result (rows.new ≡ rows_at self.now.sets.now slots.new) }
+        ensures kept { Visits
+            (Completes (C.choices self.now.choices.now) self.now.query.now self.now.sets.now slots.old)
+            in_order (V.Keeps visitor.now self.now.sets.now) result state.old state.new }
+    {
+        for index in 0..following.len() {
+            let place = following.place(index);
+            let onward = self.walk_with(
+                alloc, stage, rest, place, in_order, slots, rows, visitor, state,
+            )?;
+            if let Onward::Enough = onward {
+                return Ok(Onward::Enough);
+            }
+        }
+        Ok(Onward::More)
     }
 
     // Visits what counts and has the rows that are chosen, if some parts of the condition allow it.
@@ -230,17 +286,11 @@ impl<'a, C: ChoiceView> Side<'a, C> {
             return self.walk(alloc, rest, in_order, slots, rows, visitor, state);
         }
         let places = self.following_in(alloc, stage, in_order, slots)?;
-        let following = &places;
-        for index in 0..following.len() {
-            let place = following.place(index);
-            let onward = self.walk_with(
-                alloc, stage, rest, place, in_order, slots, rows, visitor, state,
-            )?;
-            if let Onward::Enough = onward {
-                return Ok(Onward::Enough);
-            }
-        }
-        Ok(Onward::More)
+        let onward = self.walk_each(
+            alloc, stage, rest, &places, in_order, slots, rows, visitor, state,
+        )?;
+        self.leave(rows, slots, stage.table)?;
+        Ok(onward)
     }
 
     // Visits all combinations that count, by joins of the tables in an order.
