@@ -9,7 +9,7 @@ use crate::laws::needed_serves_first;
 use hippo_distinct::first_alone;
 use hippo_groups::first_changing;
 use hippo_model::{
-    Audit, ChoiceView, Exprs, Form, Masked, Query, Ref, Refs, RulesInForce, SharedTuple,
+    Audit, ChoiceView, Exprs, Form, Masked, Query, Ref, Refs, RulesInForce, Sets, SharedTuple,
 };
 use hippo_rewrite::{mask_columns, rewrite};
 use hippo_shared::{Audited, first_shared, place_in};
@@ -85,17 +85,27 @@ fn first_needed<C: ChoiceView>(
 pub fn shared_of<C: ChoiceView>(
     alloc: Global,
     query: &Query,
+    audit: &Audit,
     rules: &RulesInForce,
-    audited: &Audited<'_, C>,
+    query_sets: &Sets<'_>,
+    audit_sets: &Sets<'_>,
+    choices: &C,
 ) -> Result<Option<SharedTuple>, Memory>
-    requires { HasRowsFor query.now.tables audited.now }
-    ensures { IfOk result (λ shared. ServesFirst query.now audited.now.audit.now rules.now audited.now.query_sets.now
-        audited.now.audit_sets.now (C.choices audited.now.choices.now) shared) }
+    requires { HasRowsFor query.now.tables
+        (record { audit = audit; query_sets = query_sets; audit_sets = audit_sets; choices = choices }) }
+    ensures { IfOk result (λ shared. let choices = C.choices choices.now in
+        ServesFirst query.now audit.now rules.now query_sets.now audit_sets.now choices shared) }
 {
     needed_serves_first();
+    let audited = Audited {
+        audit: &*audit,
+        query_sets: &*query_sets,
+        audit_sets: &*audit_sets,
+        choices: &*choices,
+    };
     let masked = rewrite(alloc, query, rules)?;
-    let seen = to_be_seen(alloc, query, audited.audit, rules)?;
-    let shared = first_needed(alloc, &query.form, &masked, &seen, audited);
+    let seen = to_be_seen(alloc, query, audit, rules)?;
+    let shared = first_needed(alloc, &query.form, &masked, &seen, &audited);
     drop(seen);
     drop(masked);
     shared
