@@ -7,7 +7,6 @@ ghost use Rattle.hippo_combine.specs.Held.{AreHeldAt, AreUpTo};
 ghost use Rattle.hippo_combine.specs.Bringing.{with_table, IsPlaceOf, AreKnown, Brings};
 
 use crate::held::place_of;
-use crate::ordering::order_for;
 use hippo_audit_job::Past;
 use hippo_backlog::ReadFault;
 use hippo_intervals::Lives;
@@ -103,8 +102,8 @@ fn bring_all<P: Keeper, L: Ledger>(
     Ok(())
 }
 
-// Brings the tables of an audit and of a query forward to a number, of those that are known.
-fn bring_tables<P: Keeper, L: Ledger>(
+/// Brings the tables of an audit and of a query forward to a number, of those that are known.
+pub(crate) fn bring_both<P: Keeper, L: Ledger>(
     tables: &mut Vec<Lives>,
     keeper: &mut P,
     alloc: Global,
@@ -142,30 +141,4 @@ fn bring_tables<P: Keeper, L: Ledger>(
         number,
         steps,
     )
-}
-
-/// Brings the tables of an audit and of a query forward to a number, of those that are known. Orders are kept of the
-/// rows that are held, for the columns by which either ties two tables.
-pub(crate) fn bring_both<P: Keeper, L: Ledger>(
-    tables: &mut Vec<Lives>,
-    keeper: &mut P,
-    alloc: Global,
-    past: &Past<'_>,
-    query: &Query,
-    audit: &Audit,
-    number: u64,
-    steps: &mut Steps<L>,
-) -> Result<(), ReadFault>
-    requires ready { IsReady true (P.state keeper.old) }
-    requires up_to { AreUpTo number tables.old.items }
-    requires end { number ≤ past.now.count }
-    ensures brings { Brings past.now number result tables.old.items tables.new.items
-        (P.state keeper.old) (P.state keeper.new) steps.old steps.new }
-    ensures audit { OnOk result (AreKnown past.now.catalog.now.names audit.now.tables
-        → AreHeldAt number audit.now.tables tables.new.items) }
-    ensures query { OnOk result (AreKnown past.now.catalog.now.names query.now.tables
-        → AreHeldAt number query.now.tables tables.new.items) }
-{
-    order_for(tables, alloc, query, audit);
-    bring_tables(tables, keeper, alloc, past, query, audit, number, steps)
 }

@@ -3,6 +3,7 @@ ghost use Rattle.hippo_combine.specs.Bringing.{IsNumberBefore};
 
 use crate::bringing::bring_both;
 use crate::held::all_taken;
+use crate::ordering::order_for;
 use crate::sharing::shared_with;
 use hippo_audit_job::{Examiner, Past};
 use hippo_backlog::ReadFault;
@@ -36,8 +37,8 @@ impl Combine {
     }
 }
 
-// The number of the entry before this one, where this one is among the first so many.
-fn number_before(seq: u64, count: u64) -> Option<u64>
+/// The number of the entry before this one, where this one is among the first so many.
+pub fn number_before(seq: u64, count: u64) -> Option<u64>
     ensures { IsNumberBefore seq count result }
 {
     if seq == 0 || count < seq {
@@ -66,6 +67,7 @@ impl<P: Keeper> Examiner<P> for Combine {
         let Some(number) = number_before(entry.seq, past.count) else {
             return Ok(None);
         };
+        order_for(&mut self.tables, alloc, query, audit);
         bring_both(
             &mut self.tables,
             keeper,

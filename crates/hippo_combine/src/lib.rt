@@ -7,4 +7,4 @@ mod held;
 mod ordering;
 mod sharing;
 
-pub use combine::Combine;
+pub use combine::{Combine, number_before};

@@ -1,5 +1,5 @@
 //! What a query and an audit share over the rows that are held.
-ghost use Rattle.std.specs.Prelude.{◌≡◌, ◌&&◌, true, bytes_eq, take, IfOk, IfErr};
+ghost use Rattle.std.specs.Prelude.{◌≡◌, ◌&&◌, bytes_eq, take, IfOk, IfErr};
 ghost use Rattle.std.specs.List.{IsDistinct};
 ghost use Rattle.hippo_values.specs.Texts.{Txt as TextValue};
 ghost use Rattle.hippo_values.specs.declared.names.Name.{Name as NameValue};
@@ -27,42 +27,6 @@ fn have_all_rows(tables: &[Lives], query: &Query, audit: &Audit) -> bool
     have_rows(tables, audit.tables.as_slice()) && have_rows(tables, query.tables.as_slice())
 }
 
-// The first virtual tuple that serves, where there are rows of each table.
-fn shared_by_rows(
-    alloc: Global,
-    tables: &[Lives],
-    book: &PolicyBook,
-    number: u64,
-    moment: Moment,
-    purpose: &Name,
-    recipient: &Name,
-    query: &Query,
-    audit: &Audit,
-) -> Result<Option<SharedTuple>, Memory>
-    requires differ { IsDistinct bytes_eq audit.now.tables }
-    requires rows { (have_rows tables.now audit.now.tables && have_rows tables.now query.now.tables) ≡ true }
-    ensures { IfOk result (λ shared. (history : History)
-        → HoldsBoth book.now tables.now number history query.now audit.now
-        → let context : Context = record { purpose = purpose.now; recipient = recipient.now; moment = moment } in
-        shared ≡ first_serving (take number history) context query.now audit.now) }
-{
-    let names = query.tables.as_slice();
-    let schemas = schemas_of(alloc, tables, names)?;
-    let rules = book.rules_in_force(alloc, number, moment, purpose, recipient, &schemas)?;
-    let query_sets = sets_of(alloc, tables, names)?;
-    let audit_sets = sets_of(alloc, tables, audit.tables.as_slice())?;
-    let choices = book.choices_at(number);
-    shared_of(
-        alloc,
-        query,
-        audit,
-        &rules,
-        &query_sets,
-        &audit_sets,
-        &choices,
-    )
-}
-
 // The first virtual tuple that serves; none where there are no rows of a table.
 fn shared_at(
     alloc: Global,
@@ -81,13 +45,24 @@ fn shared_at(
         → let context : Context = record { purpose = purpose.now; recipient = recipient.now; moment = moment } in
         shared ≡ first_serving (take number history) context query.now audit.now) }
 {
-    if have_all_rows(tables, query, audit) {
-        shared_by_rows(
-            alloc, tables, book, number, moment, purpose, recipient, query, audit,
-        )
-    } else {
-        Ok(None)
+    if !have_all_rows(tables, query, audit) {
+        return Ok(None);
     }
+    let names = query.tables.as_slice();
+    let schemas = schemas_of(alloc, tables, names)?;
+    let rules = book.rules_in_force(alloc, number, moment, purpose, recipient, &schemas)?;
+    let query_sets = sets_of(alloc, tables, names)?;
+    let audit_sets = sets_of(alloc, tables, audit.tables.as_slice())?;
+    let choices = book.choices_at(number);
+    shared_of(
+        alloc,
+        query,
+        audit,
+        &rules,
+        &query_sets,
+        &audit_sets,
+        &choices,
+    )
 }
 
 /// The first virtual tuple that serves, of a question with this meaning and an audit, over rows that are those before

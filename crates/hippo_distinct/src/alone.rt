@@ -1,24 +1,24 @@
 //! The first virtual tuple that a DISTINCT query needs and an audit has, found by marks in one walk.
-ghost use Rattle.std.specs.Prelude.{◌≡◌, [], ◌∷◌, ◌++◌, List, IfOk, OnOk, bytes_eq, cond, length};
+ghost use Rattle.std.specs.Prelude.{◌≡◌, [], ◌∷◌, ◌++◌, List, IfOk, OnOk, cond};
 ghost use Rattle.std.specs.BTreeMap.{IsOrdered};
-ghost use Rattle.std.specs.List.{IsDistinct, list_any};
+ghost use Rattle.std.specs.List.{list_any};
 ghost use Rattle.std.specs.Ordering.{is_eq};
 ghost use Rattle.hippo_model.specs.declared.query.Form.TheVariants.{Distinct};
 ghost use Rattle.hippo_model.specs.Answers.{product};
 ghost use Rattle.hippo_model.specs.Terms.{Place};
 ghost use Rattle.hippo_eval.specs.Walks.{rows_of};
 ghost use Rattle.hippo_join.specs.Finding.{has_places};
+ghost use Rattle.hippo_shared.specs.Audited.{HasRowsFor};
 ghost use Rattle.hippo_shared.specs.Marks.{mark_of, is_one};
 ghost use Rattle.hippo_shared.specs.Needs.{first_needed};
-ghost use Rattle.hippo_shared.specs.Sharing.{HaveSameRows};
 ghost use Rattle.hippo_distinct.specs.declared.keys.CellKey as cell_keys;
 ghost use Rattle.hippo_distinct.specs.AloneRows.{AreMarked, mark_at};
 
 use crate::keys::{CellKey, RowKey, row_key};
 use hippo_eval::{Onward, Visitor, passes, project};
 use hippo_join::walk_joined;
-use hippo_model::{Audit, ChoiceView, Combo, Exprs, Masked, Places, Sets, SharedTuple};
-use hippo_shared::{Mark, audit_has_any, common_places, first_of, know_order, row_places};
+use hippo_model::{ChoiceView, Combo, Exprs, Masked, Places, Sets, SharedTuple};
+use hippo_shared::{Audited, Mark, audit_has_any, common_places, first_of, know_order, row_places};
 use hippo_values::{Memory, Sequence};
 use std::alloc::Global;
 use std::collections::{BTreeMap, BTreeSet};
@@ -114,27 +114,26 @@ fn alone(alloc: Global, marks: BTreeMap<RowKey, Mark>) -> Result<BTreeSet<Places
 pub fn first_alone<C: ChoiceView>(
     alloc: Global,
     query: &Masked,
-    audit: &Audit,
     seen: &Exprs,
-    query_sets: &Sets<'_>,
-    audit_sets: &Sets<'_>,
-    choices: &C,
+    audited: &Audited<'_, C>,
 ) -> Result<Option<SharedTuple>, Memory>
-    requires query_sets { length query_sets.now ≡ length query.now.tables }
-    requires audit_sets { length audit_sets.now ≡ length audit.now.tables }
-    requires tables { IsDistinct bytes_eq audit.now.tables }
-    requires rows { HaveSameRows query.now.tables query_sets.now audit.now.tables audit_sets.now }
-    ensures { IfOk result (λ shared. shared ≡ first_needed (C.choices choices.now) query.now Distinct audit.now seen.now
-        query_sets.now audit_sets.now) }
+    requires { HasRowsFor query.now.tables audited.now }
+    ensures { IfOk result (λ shared. shared ≡ first_needed (C.choices audited.now.choices.now) query.now Distinct
+        audited.now.audit.now seen.now audited.now.query_sets.now audited.now.audit_sets.now) }
 {
-    if !audit_has_any(alloc, audit, audit_sets, choices)? {
+    if !audit_has_any(alloc, audited)? {
         return Ok(None);
     }
-    know_order(audit_sets);
-    let common = common_places(alloc, query.tables.as_slice(), audit.tables.as_slice())?;
-    let marks = row_marks(alloc, query, query_sets, &common.query, choices)?;
+    know_order(audited.audit_sets);
+    let tables = audited.audit.tables.as_slice();
+    let common = common_places(alloc, query.tables.as_slice(), tables)?;
+    let marks = row_marks(
+        alloc,
+        query,
+        audited.query_sets,
+        &common.query,
+        audited.choices,
+    )?;
     let candidates = alone(alloc, marks)?;
-    first_of(
-        alloc, candidates, query, audit, seen, query_sets, audit_sets, choices,
-    )
+    first_of(alloc, candidates, query, seen, audited)
 }

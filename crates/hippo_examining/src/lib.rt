@@ -4,4 +4,4 @@
 pub mod laws;
 mod sharing;
 
-pub use sharing::shared_of;
+pub use sharing::{shared_of, to_be_seen};

@@ -1,7 +1,6 @@
 //! The first virtual tuple that serves, over rows at hand.
-ghost use Rattle.std.specs.Prelude.{◌≡◌, IfOk, bytes_eq, length, map};
-ghost use Rattle.std.specs.List.{IsDistinct};
-ghost use Rattle.hippo_shared.specs.Sharing.{HaveSameRows, place_in};
+ghost use Rattle.std.specs.Prelude.{◌≡◌, IfOk, map};
+ghost use Rattle.hippo_shared.specs.Audited.{HasRowsFor};
 ghost use Rattle.hippo_shared.specs.Needs.{first_needed};
 ghost use Rattle.hippo_examining.specs.Seen.{column_in, to_be_seen};
 ghost use Rattle.hippo_examining.specs.Examining.{ServesFirst};
@@ -13,23 +12,9 @@ use hippo_model::{
     Audit, ChoiceView, Exprs, Form, Masked, Query, Ref, Refs, RulesInForce, Sets, SharedTuple,
 };
 use hippo_rewrite::{mask_columns, rewrite};
-use hippo_shared::first_shared;
+use hippo_shared::{Audited, first_shared, place_in};
 use hippo_values::{Memory, Name, Sequence};
 use std::alloc::Global;
-
-// The place of a table among others, or their number where it is not among them.
-fn place_in(tables: &[Name], table: &Name) -> usize
-    ensures { result ≡ place_in tables.now table.now }
-{
-    let mut place = 0;
-    for other in tables {
-        if table == other {
-            return place;
-        }
-        place += 1;
-    }
-    place
-}
 
 // An audited column, by its table's place in the query.
 fn column_in(query: &[Name], audit: &[Name], column: Ref) -> Ref
@@ -56,8 +41,9 @@ fn columns_in(alloc: Global, query: &[Name], audit: &Audit) -> Result<Refs, Memo
     Ok(columns)
 }
 
-// What is to be seen of the query's rows, where the audit asks for cells that were shown.
-fn to_be_seen(
+/// What is to be seen of the query's rows, where the audit asks for cells that were shown: what stands for each audited
+/// column, by the rules in force.
+pub fn to_be_seen(
     alloc: Global,
     query: &Query,
     audit: &Audit,
@@ -77,25 +63,17 @@ fn first_needed<C: ChoiceView>(
     alloc: Global,
     form: &Form,
     query: &Masked,
-    audit: &Audit,
     seen: &Exprs,
-    query_sets: &Sets<'_>,
-    audit_sets: &Sets<'_>,
-    choices: &C,
+    audited: &Audited<'_, C>,
 ) -> Result<Option<SharedTuple>, Memory>
-    requires query_sets { length query_sets.now ≡ length query.now.tables }
-    requires audit_sets { length audit_sets.now ≡ length audit.now.tables }
-    requires tables { IsDistinct bytes_eq audit.now.tables }
-    requires rows { HaveSameRows query.now.tables query_sets.now audit.now.tables audit_sets.now }
-    ensures { IfOk result (λ shared. shared
-        ≡ first_needed (C.choices choices.now) query.now form.now audit.now seen.now query_sets.now audit_sets.now) }
+    requires { HasRowsFor query.now.tables audited.now }
+    ensures { IfOk result (λ shared. shared ≡ first_needed (C.choices audited.now.choices.now) query.now form.now
+        audited.now.audit.now seen.now audited.now.query_sets.now audited.now.audit_sets.now) }
 {
     match form {
-        Form::Plain => first_shared(alloc, query, audit, seen, query_sets, audit_sets, choices),
-        Form::Distinct => first_alone(alloc, query, audit, seen, query_sets, audit_sets, choices),
-        Form::Grouped(shape) => first_changing(
-            alloc, query, shape, audit, seen, query_sets, audit_sets, choices,
-        ),
+        Form::Plain => first_shared(alloc, query, seen, audited),
+        Form::Distinct => first_alone(alloc, query, seen, audited),
+        Form::Grouped(shape) => first_changing(alloc, query, shape, seen, audited),
     }
 }
 
@@ -113,20 +91,21 @@ pub fn shared_of<C: ChoiceView>(
     audit_sets: &Sets<'_>,
     choices: &C,
 ) -> Result<Option<SharedTuple>, Memory>
-    requires query_sets { length query_sets.now ≡ length query.now.tables }
-    requires audit_sets { length audit_sets.now ≡ length audit.now.tables }
-    requires tables { IsDistinct bytes_eq audit.now.tables }
-    requires rows { HaveSameRows query.now.tables query_sets.now audit.now.tables audit_sets.now }
+    requires { HasRowsFor query.now.tables
+        (record { audit = audit; query_sets = query_sets; audit_sets = audit_sets; choices = choices }) }
     ensures { IfOk result (λ shared. let choices = C.choices choices.now in
         ServesFirst query.now audit.now rules.now query_sets.now audit_sets.now choices shared) }
 {
     needed_serves_first();
+    let audited = Audited {
+        audit: &*audit,
+        query_sets: &*query_sets,
+        audit_sets: &*audit_sets,
+        choices: &*choices,
+    };
     let masked = rewrite(alloc, query, rules)?;
     let seen = to_be_seen(alloc, query, audit, rules)?;
-    let form = &query.form;
-    let shared = first_needed(
-        alloc, form, &masked, audit, &seen, query_sets, audit_sets, choices,
-    );
+    let shared = first_needed(alloc, &query.form, &masked, &seen, &audited);
     drop(seen);
     drop(masked);
     shared

@@ -1,13 +1,12 @@
 //! The first virtual tuple that a grouped query needs and an audit has.
-ghost use Rattle.std.specs.Prelude.{◌≡◌, IfOk, bytes_eq, length};
-ghost use Rattle.std.specs.List.{IsDistinct};
+ghost use Rattle.std.specs.Prelude.{◌≡◌, IfOk};
 ghost use Rattle.hippo_model.specs.declared.query.Form.TheVariants.{Grouped};
+ghost use Rattle.hippo_shared.specs.Audited.{HasRowsFor};
 ghost use Rattle.hippo_shared.specs.Needs.{first_needed};
-ghost use Rattle.hippo_shared.specs.Sharing.{HaveSameRows};
 
 use crate::marking::marked_groups;
-use hippo_model::{Audit, ChoiceView, Exprs, Masked, Sets, Shape, SharedTuple};
-use hippo_shared::{audit_has_any, common_places, first_of, know_order};
+use hippo_model::{ChoiceView, Exprs, Masked, Shape, SharedTuple};
+use hippo_shared::{Audited, audit_has_any, common_places, first_of, know_order};
 use hippo_values::Memory;
 use std::alloc::Global;
 
@@ -21,27 +20,27 @@ pub fn first_changing<C: ChoiceView>(
     alloc: Global,
     query: &Masked,
     shape: &Shape,
-    audit: &Audit,
     seen: &Exprs,
-    query_sets: &Sets<'_>,
-    audit_sets: &Sets<'_>,
-    choices: &C,
+    audited: &Audited<'_, C>,
 ) -> Result<Option<SharedTuple>, Memory>
-    requires query_sets { length query_sets.now ≡ length query.now.tables }
-    requires audit_sets { length audit_sets.now ≡ length audit.now.tables }
-    requires tables { IsDistinct bytes_eq audit.now.tables }
-    requires rows { HaveSameRows query.now.tables query_sets.now audit.now.tables audit_sets.now }
-    ensures { IfOk result (λ shared. shared ≡ first_needed (C.choices choices.now) query.now (Grouped shape.now)
-        audit.now seen.now query_sets.now audit_sets.now) }
+    requires { HasRowsFor query.now.tables audited.now }
+    ensures { IfOk result (λ shared. shared ≡ first_needed (C.choices audited.now.choices.now) query.now
+        (Grouped shape.now) audited.now.audit.now seen.now audited.now.query_sets.now audited.now.audit_sets.now) }
 {
-    if !audit_has_any(alloc, audit, audit_sets, choices)? {
+    if !audit_has_any(alloc, audited)? {
         return Ok(None);
     }
-    know_order(audit_sets);
-    let common = common_places(alloc, query.tables.as_slice(), audit.tables.as_slice())?;
-    let groups = marked_groups(alloc, query, shape, query_sets, &common.query, choices)?;
+    know_order(audited.audit_sets);
+    let tables = audited.audit.tables.as_slice();
+    let common = common_places(alloc, query.tables.as_slice(), tables)?;
+    let groups = marked_groups(
+        alloc,
+        query,
+        shape,
+        audited.query_sets,
+        &common.query,
+        audited.choices,
+    )?;
     let candidates = groups.candidates(alloc)?;
-    first_of(
-        alloc, candidates, query, audit, seen, query_sets, audit_sets, choices,
-    )
+    first_of(alloc, candidates, query, seen, audited)
 }

@@ -10,8 +10,9 @@ use Rattle.hippo_join.specs.declared.sides.Side.{Side}
 use Rattle.hippo_join.specs.Stages.{Reaches}
 use Rattle.hippo_join.proofs.FindingLemmas.{first_or_later}
 use Rattle.hippo_model.specs.Masking.{Choices}
+use Rattle.hippo_shared.specs.declared.sides.Sides.{Sides}
 use Rattle.hippo_shared.specs.FirstPlaces.{AgreeAt, AreFirst, IsFirst, IsFirstAmong}
-use Rattle.hippo_shared.specs.Searching.{AreCommon, AreFewOf, AreFewShared, HasOneOf}
+use Rattle.hippo_shared.specs.Searching.{AreFewOf, AreFewShared, HasOneOf, HaveCommon}
 use Rattle.hippo_shared.proofs.LoopLemmas.{map-push}
 use Rattle.hippo_shared.proofs.SideLemmas.{share-both, one-agrees}
 
@@ -48,28 +49,34 @@ agreed_one (table ∷ []) [] places one agree = absurd agree
 agreed_one (table ∷ []) (place ∷ []) places one agree = (place, (λ i. place ∷ []), agree.0)
 agreed_one (table ∷ []) (place ∷ other ∷ given) places one agree = absurd agree.1
 
-module _ {C : Type 0} (choices : C → Choices) (query audit : Side C) (tables others : List Place) (common : AreCommon (length query.sets.now) (length audit.sets.now) tables others) where
-  pub few-by-query : (few : List Place) → AreFewOf choices query tables few → AreFewShared choices query audit tables others few
+module _ {C : Type 0} (choices : C → Choices) (sides : Sides C) (common : HaveCommon sides) where
+  abbrev query_places : List Place
+  query_places = sides.common.now.query.items
+
+  abbrev audit_places : List Place
+  audit_places = sides.common.now.audit.items
+
+  pub few-by-query : (few : List Place) → AreFewOf choices sides.query query_places few → AreFewShared choices sides few
   few-by-query few are = record {
     rises = are.rises;
-    all = λ seen given share.
-        let both = share-both (HasOneOf choices query seen) (HasOneOf choices audit []) tables others _ _ given share in
-        let one = one-agrees (choices query.choices.now) query.query.now seen query.sets.now tables given _ common.query_open both.0 both.1 in
-        let here = agreed_one tables given one.0.places are.one one.1 in
+    all = λ given share.
+        let both = share-both (HasOneOf choices sides.query sides.seen.now) (HasOneOf choices sides.audit []) query_places audit_places _ _ given share in
+        let one = one-agrees (choices sides.query.choices.now) sides.query.query.now sides.seen.now sides.query.sets.now query_places given _ common.query_open both.0 both.1 in
+        let here = agreed_one query_places given one.0.places are.one one.1 in
         (here.0, here.1, are.reaches one.0.places one.0.counts here.0 here.2);
   }
 
-  few-by-audit : (few : List Place) → AreFewOf choices audit others few → AreFewShared choices query audit tables others few
+  few-by-audit : (few : List Place) → AreFewOf choices sides.audit audit_places few → AreFewShared choices sides few
   few-by-audit few are = record {
     rises = are.rises;
-    all = λ seen given share.
-        let both = share-both (HasOneOf choices query seen) (HasOneOf choices audit []) tables others _ _ given share in
-        let one = one-agrees (choices audit.choices.now) audit.query.now [] audit.sets.now others given _ common.audit_open (both.0 ∙ common.same) both.2 in
-        let here = agreed_one others given one.0.places are.one one.1 in
+    all = λ given share.
+        let both = share-both (HasOneOf choices sides.query sides.seen.now) (HasOneOf choices sides.audit []) query_places audit_places _ _ given share in
+        let one = one-agrees (choices sides.audit.choices.now) sides.audit.query.now [] sides.audit.sets.now audit_places given _ common.audit_open (both.0 ∙ common.same) both.2 in
+        let here = agreed_one audit_places given one.0.places are.one one.1 in
         (here.0, here.1, are.reaches one.0.places one.0.counts here.0 here.2);
   }
 
-  pub few-by-either : (items : Vec ℕ Global → List Place) (found : Option (Vec ℕ Global)) → IfSome found (λ few. AreFewOf choices audit others (items few)) → IfSome found (λ few. AreFewShared choices query audit tables others (items few))
+  pub few-by-either : (items : Vec ℕ Global → List Place) (found : Option (Vec ℕ Global)) → IfSome found (λ few. AreFewOf choices sides.audit audit_places (items few)) → IfSome found (λ few. AreFewShared choices sides (items few))
   few-by-either items None few = tt
   few-by-either items (Some places) few = few-by-audit (items places) few
 

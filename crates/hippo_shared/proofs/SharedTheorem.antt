@@ -19,12 +19,17 @@ use Rattle.hippo_join.specs.Finding.{IsRising}
 use Rattle.hippo_join.specs.Places.{chosen, in_range, places_of}
 use Rattle.hippo_join.specs.Existence.{are_shown, HasOne}
 use Rattle.hippo_join.proofs.SlotLemmas.{Fits-open, length-in_range}
+use Rattle.hippo_shared.specs.declared.audited.Audited.{Audited}
+use Rattle.hippo_shared.specs.declared.sharing.AuditSide.{AuditSide}
+use Rattle.hippo_shared.specs.declared.sides.Sides.{Sides}
+use Rattle.hippo_shared.specs.Audited.{HasRowsFor}
 use Rattle.hippo_shared.specs.Sharing.{common_tables, place_in, rows_named, HaveSameRows, virtual_tuples, has_tuple, query_has, audit_has, first_shared}
 use Rattle.hippo_shared.specs.Tuples.{tuple_at}
-use Rattle.hippo_shared.specs.FirstPlaces.{ShareAt, IsFirst, IsFirstAmong, with_rows}
+use Rattle.hippo_shared.specs.FirstPlaces.{AreCommon, ShareAt, IsFirst, IsFirstAmong, with_rows}
 use Rattle.hippo_shared.specs.Candidates.{AreThoseOf, first_passing}
 use Rattle.hippo_shared.proofs.AmongLemmas.{find-filter, find-same, and_grouped, those-of, found-among, among-holds}
-use Rattle.hippo_shared.specs.Searching.{AreCommon}
+use Rattle.hippo_shared.specs.Searching.{SharedBy}
+use Rattle.hippo_shared.specs.Sides.{common_in, AreSidesOf, StandsFor}
 use Rattle.hippo_shared.proofs.CommonLemmas.{place-found, common-in-query, common-in-audit, common-distinct, common-open}
 use Rattle.hippo_shared.proofs.FirstLemmas.{find-map, find-first, find-none, first-holds}
 use Rattle.hippo_shared.proofs.SideLemmas.{one-of-product, any-of-product, share-both, both-share, one-agrees, agrees-one, counts-parts, parts-counted, unmasked_query, passes-unmasked}
@@ -178,61 +183,9 @@ module _ (choices : Choices) (query : Masked) (audit : Audit) (seen : List Expr)
   found_is (Some given) first = find-first common_sets (λ given. shares (shared_at given)) Holds within so back given first
   found_is None none = find-none common_sets (λ given. shares (shared_at given)) (λ given in_sets. not_so (shares (shared_at given)) (λ passed. none given (back given in_sets passed)))
 
-  pub shared-is : (found : Option (List Place)) → IsFirst Holds found → option_map shared_at found ≡ first_shared choices query audit seen query_sets audit_sets
+  shared-is : (found : Option (List Place)) → IsFirst Holds found → option_map shared_at found ≡ first_shared choices query audit seen query_sets audit_sets
   shared-is found first =
       sym (ap (find shares) (tuples-by-places audit.tables audit_sets common in_audit) ∙ find-map shares shared_at (places_of common_sets) ∙ ap (option_map shared_at) (found_is found first))
-
-  -- the places of the common tables, in what a search wants
-  pub common-served : (items others : List Place) → items ≡ query_places → others ≡ audit_places → AreCommon (length query_sets) (length audit_sets) items others
-  common-served items others is other_is =
-      let here : AreCommon (length query_sets) (length audit_sets) query_places audit_places = record {
-        query_open = common-open query.tables common (length query_sets) apart in_query (sym long_query);
-        audit_open = common-open audit.tables common (length audit_sets) apart in_audit (sym long_audit);
-        query_below = all_places query.tables (length query_sets) (sym long_query) common in_query;
-        audit_below = all_places audit.tables (length audit_sets) (sym long_audit) common in_audit;
-        same = length_map (place_in query.tables) common ∙ sym (length_map (place_in audit.tables) common);
-      } in
-      subst (λ (l : List Place). AreCommon (length query_sets) (length audit_sets) l others) (sym is)
-      (subst (λ (l : List Place). AreCommon (length query_sets) (length audit_sets) query_places l) (sym other_is) here)
-
-  pub below-sets : (items : List Place) → items ≡ audit_places → All (λ place. place < length audit_sets) items
-  below-sets items is = subst (λ (l : List Place). All (λ place. place < length audit_sets) l) (sym is) (common-served query_places audit_places refl refl).audit_below
-
-  pub below-names : (items : List Place) (names : List Name) → items ≡ audit_places → names ≡ audit.tables → All (λ place. place < length names) items
-  below-names items names is same_names =
-      let all : All (λ place. place < length audit.tables) audit_places = all_places audit.tables (length audit.tables) refl common in_audit in
-      let these : All (λ place. place < length audit.tables) items = subst (λ (l : List Place). All (λ place. place < length audit.tables) l) (sym is) all in
-      subst (λ (l : List Name). All (λ place. place < length l) items) (sym same_names) these
-
-  -- what a search answers, over the query that stands for the audit
-  module _ {V : Type 0} (items : V → List Place) (found : Option V) (unmasked : Masked) (these : List Expr) (query_items audit_items : List Place) (is_unmasked : unmasked ≡ unmasked_query audit.cond) (is_seen : these ≡ seen)
-      (is_query : query_items ≡ query_places) (is_audit : audit_items ≡ audit_places)
-      (told : IsFirst (ShareAt (HasOne choices query these query_sets) (HasOne choices unmasked [] audit_sets) query_items audit_items (replicate (length query_sets) None) (replicate (length audit_sets) None)) (option_map items found)) where
-    told_here : IsFirst Holds (option_map items found)
-    told_here =
-        let open_query : List (Option Place) = replicate (length query_sets) None in
-        let open_audit : List (Option Place) = replicate (length audit_sets) None in
-        let a = subst (λ (m : Masked). IsFirst (ShareAt (HasOne choices query these query_sets) (HasOne choices m [] audit_sets) query_items audit_items open_query open_audit) (option_map items found)) is_unmasked told in
-        let b = subst (λ (e : List Expr). IsFirst (ShareAt (HasOne choices query e query_sets) AuditHas query_items audit_items open_query open_audit) (option_map items found)) is_seen a in
-        let d = subst (λ (l : List Place). IsFirst (ShareAt QueryHas AuditHas l audit_items open_query open_audit) (option_map items found)) is_query b in
-        subst (λ (l : List Place). IsFirst (ShareAt QueryHas AuditHas query_places l open_query open_audit) (option_map items found)) is_audit d
-
-    found_some : (value : V) → found ≡ Some value → IsFirst Holds (Some (items value))
-    found_some value at = subst (λ (o : Option V). IsFirst Holds (option_map items o)) at told_here
-
-    pub found-long : (value : V) → found ≡ Some value → length (items value) ≡ length audit_items
-    found-long value at =
-        let both = share-both QueryHas AuditHas query_places audit_places (replicate (length query_sets) None) (replicate (length audit_sets) None) (items value) (first-holds Holds (items value) (found_some value at)) in
-        both.0 ∙ length_map (place_in query.tables) common ∙ sym (length_map (place_in audit.tables) common) ∙ sym (ap length is_audit)
-
-    pub some-shared : (value : V) → found ≡ Some value → (tuple : List SharedRow) → tuple ≡ tuple_at audit.tables audit_sets audit_items (items value) → Some tuple ≡ first_shared choices query audit seen query_sets audit_sets
-    some-shared value at tuple is =
-        ap Some (is ∙ ap (λ (l : List Place). tuple_at audit.tables audit_sets l (items value)) is_audit) ∙ shared-is (Some (items value)) (found_some value at)
-
-    pub none-shared : found ≡ None → None ≡ first_shared choices query audit seen query_sets audit_sets
-    none-shared at =
-        let none : IsFirst Holds None = subst (λ (o : Option V). IsFirst Holds (option_map items o)) at told_here in
-        shared-is None none
 
   -- the first of some places, ascending, that are those of the virtual tuples that pass a test
   candidate-is : (test : List SharedRow → Bool) (candidates : List (List Place)) → IsRising candidates → AreThoseOf test audit.tables audit_sets common candidates → (found : Option (List Place)) → IsFirstAmong Holds candidates found
@@ -249,32 +202,101 @@ module _ (choices : Choices) (query : Masked) (audit : Audit) (seen : List Expr)
       ∙ find-map (λ tuple. test tuple && shares tuple) shared_at (places_of common_sets)
       ∙ ap (option_map shared_at) (find-filter chosen_by passes (places_of common_sets) ∙ ap (find passes) (sym (those-of common_sets chosen_by candidates rising those)) ∙ here))
 
-  -- what a search among them answers, over the query that stands for the audit
-  module _ (listed candidates : List (List Place)) (found : Option (List Place)) (unmasked : Masked) (these : List Expr) (query_items audit_items : List Place) (is_unmasked : unmasked ≡ unmasked_query audit.cond) (is_seen : these ≡ seen)
-      (is_query : query_items ≡ query_places) (is_audit : audit_items ≡ audit_places) (is_listed : listed ≡ candidates) (rising : IsRising candidates)
-      (told : IsFirstAmong (ShareAt (HasOne choices query these query_sets) (HasOne choices unmasked [] audit_sets) query_items audit_items (replicate (length query_sets) None) (replicate (length audit_sets) None)) listed found) where
-    told_among : IsFirstAmong Holds candidates found
-    told_among =
-        let open_query : List (Option Place) = replicate (length query_sets) None in
-        let open_audit : List (Option Place) = replicate (length audit_sets) None in
-        let a = subst (λ (m : Masked). IsFirstAmong (ShareAt (HasOne choices query these query_sets) (HasOne choices m [] audit_sets) query_items audit_items open_query open_audit) listed found) is_unmasked told in
-        let b = subst (λ (e : List Expr). IsFirstAmong (ShareAt (HasOne choices query e query_sets) AuditHas query_items audit_items open_query open_audit) listed found) is_seen a in
-        let d = subst (λ (l : List Place). IsFirstAmong (ShareAt QueryHas AuditHas l audit_items open_query open_audit) listed found) is_query b in
-        let e = subst (λ (l : List Place). IsFirstAmong (ShareAt QueryHas AuditHas query_places l open_query open_audit) listed found) is_audit d in
-        subst (λ (l : List (List Place)). IsFirstAmong Holds l found) is_listed e
+-- the places of the common tables, in what a search wants
+module _ {C : Type 0} (query : Masked) (audited : Audited C) (rows : HasRowsFor query.tables audited) where
+  abbrev both : List Name
+  both = common_tables query.tables audited.audit.now.tables
 
-    among_some : (places : List Place) → found ≡ Some places → IsFirstAmong Holds candidates (Some places)
-    among_some places at = subst (λ (o : Option (List Place)). IsFirstAmong Holds candidates o) at told_among
+  in_either : AllStandIn query.tables both × AllStandIn audited.audit.now.tables both
+  in_either = (common-in-query query.tables audited.audit.now.tables, common-in-audit query.tables audited.audit.now.tables)
 
-    pub candidate-long : (places : List Place) → found ≡ Some places → length places ≡ length audit_items
-    candidate-long places at =
-        let both = share-both QueryHas AuditHas query_places audit_places (replicate (length query_sets) None) (replicate (length audit_sets) None) places (among-holds Holds candidates places (among_some places at)) in
-        both.0 ∙ length_map (place_in query.tables) common ∙ sym (length_map (place_in audit.tables) common) ∙ sym (ap length is_audit)
+  none_twice : IsDistinct bytes_eq both
+  none_twice = common-distinct query.tables audited.audit.now.tables rows.tables
 
-    pub candidate-some : (places : List Place) → found ≡ Some places → (tuple : List SharedRow) → tuple ≡ tuple_at audit.tables audit_sets audit_items places → (test : List SharedRow → Bool) → AreThoseOf test audit.tables audit_sets common candidates
-        → Some tuple ≡ first_passing test choices query audit seen query_sets audit_sets
-    candidate-some places at tuple is test those =
-        ap Some (is ∙ ap (λ (l : List Place). tuple_at audit.tables audit_sets l places) is_audit) ∙ candidate-is test candidates rising those (Some places) (among_some places at)
+  served_here : AreCommon (length audited.query_sets.now) (length audited.audit_sets.now) (common_in query.tables query audited.audit.now) (common_in audited.audit.now.tables query audited.audit.now)
+  served_here = record {
+    query_open = common-open query.tables both (length audited.query_sets.now) none_twice in_either.0 (sym rows.query_sets);
+    audit_open = common-open audited.audit.now.tables both (length audited.audit_sets.now) none_twice in_either.1 (sym rows.audit_sets);
+    query_below = all_places query.tables (length audited.query_sets.now) (sym rows.query_sets) both in_either.0;
+    audit_below = all_places audited.audit.now.tables (length audited.audit_sets.now) (sym rows.audit_sets) both in_either.1;
+    same = length_map (place_in query.tables) both ∙ sym (length_map (place_in audited.audit.now.tables) both);
+  }
 
-    pub candidate-none : found ≡ None → (test : List SharedRow → Bool) → AreThoseOf test audit.tables audit_sets common candidates → None ≡ first_passing test choices query audit seen query_sets audit_sets
-    candidate-none at test those = candidate-is test candidates rising those None (subst (λ (o : Option (List Place)). IsFirstAmong Holds candidates o) at told_among)
+  pub common-served : (side : AuditSide) → StandsFor query audited.audit.now side → AreCommon (length audited.query_sets.now) (length audited.audit_sets.now) side.common.query.items side.common.audit.items
+  common-served side stands =
+      subst (λ (l : List Place). AreCommon (length audited.query_sets.now) (length audited.audit_sets.now) l side.common.audit.items) (sym stands.query_places)
+      (subst (λ (l : List Place). AreCommon (length audited.query_sets.now) (length audited.audit_sets.now) (common_in query.tables query audited.audit.now) l) (sym stands.audit_places) served_here)
+
+  pub below-sets : (items : List Place) → items ≡ common_in audited.audit.now.tables query audited.audit.now → All (λ place. place < length audited.audit_sets.now) items
+  below-sets items is = subst (λ (l : List Place). All (λ place. place < length audited.audit_sets.now) l) (sym is) served_here.audit_below
+
+  pub below-names : (items : List Place) (names : List Name) → items ≡ common_in audited.audit.now.tables query audited.audit.now → names ≡ audited.audit.now.tables → All (λ place. place < length names) items
+  below-names items names is same_names =
+      let all : All (λ place. place < length audited.audit.now.tables) (common_in audited.audit.now.tables query audited.audit.now) = all_places audited.audit.now.tables (length audited.audit.now.tables) refl both in_either.1 in
+      let these : All (λ place. place < length audited.audit.now.tables) items = subst (λ (l : List Place). All (λ place. place < length audited.audit.now.tables) l) (sym is) all in
+      subst (λ (l : List Name). All (λ place. place < length l) items) (sym same_names) these
+
+-- what a search over both sides answers
+module _ {C : Type 0} (choices : C → Choices) (query : Masked) (seen : List Expr) (audited : Audited C) (rows : HasRowsFor query.tables audited)
+    (ascend : All (λ (set : KeyedRows). IsAscending (map (key_in set.key) set.rows)) audited.audit_sets.now) (sides : Sides C) (are : AreSidesOf query seen audited sides) where
+  abbrev now : Choices
+  now = choices audited.choices.now
+
+  abbrev tuple_here : List Place → List SharedRow
+  tuple_here given = tuple_at audited.audit.now.tables audited.audit_sets.now (common_in audited.audit.now.tables query audited.audit.now) given
+
+  abbrev Here : List Place → Type 0
+  Here given =
+      ShareAt (λ slots. HasOne now query seen audited.query_sets.now slots) (λ slots. HasOne now (unmasked_query audited.audit.now.cond) [] audited.audit_sets.now slots)
+      (common_in query.tables query audited.audit.now) (common_in audited.audit.now.tables query audited.audit.now)
+      (replicate (length audited.query_sets.now) None) (replicate (length audited.audit_sets.now) None) given
+
+  shared_here : SharedBy choices sides ≡ Here
+  shared_here = λ i given.
+      ShareAt (λ slots. HasOne (choices (are.query_choices i)) (are.query_is i) (are.seen_is i) (are.query_rows i) slots) (λ slots. HasOne (choices (are.audit_choices i)) (are.audit_is i) [] (are.audit_rows i) slots)
+      (are.query_places i) (are.audit_places i) (replicate (length (are.query_rows i)) None) (replicate (length (are.audit_rows i)) None) given
+
+  long_here : (given : List Place) → Here given → length given ≡ length (common_in audited.audit.now.tables query audited.audit.now)
+  long_here given holds =
+      let both = share-both (λ slots. HasOne now query seen audited.query_sets.now slots) (λ slots. HasOne now (unmasked_query audited.audit.now.cond) [] audited.audit_sets.now slots)
+      (common_in query.tables query audited.audit.now) (common_in audited.audit.now.tables query audited.audit.now)
+      (replicate (length audited.query_sets.now) None) (replicate (length audited.audit_sets.now) None) given holds in
+      both.0 ∙ length_map (place_in query.tables) (common_tables query.tables audited.audit.now.tables) ∙ sym (length_map (place_in audited.audit.now.tables) (common_tables query.tables audited.audit.now.tables))
+
+  -- the first of all
+  module _ {V : Type 0} (items : V → List Place) (found : Option V) (first : IsFirst (SharedBy choices sides) (option_map items found)) where
+    found_some : (value : V) → found ≡ Some value → IsFirst Here (Some (items value))
+    found_some value at = subst (λ (o : Option V). IsFirst Here (option_map items o)) at (subst (λ (holds : List Place → Type 0). IsFirst holds (option_map items found)) shared_here first)
+
+    pub found-long : (value : V) → found ≡ Some value → length (items value) ≡ length (common_in audited.audit.now.tables query audited.audit.now)
+    found-long value at = long_here (items value) (first-holds Here (items value) (found_some value at))
+
+    pub some-shared : (value : V) → found ≡ Some value → (shared : List SharedRow) → shared ≡ tuple_here (items value)
+        → Some shared ≡ first_shared now query audited.audit.now seen audited.query_sets.now audited.audit_sets.now
+    some-shared value at shared is =
+        ap Some is ∙ shared-is now query audited.audit.now seen audited.query_sets.now audited.audit_sets.now rows.query_sets rows.audit_sets rows.tables rows.rows ascend (Some (items value)) (found_some value at)
+
+    pub none-shared : found ≡ None → None ≡ first_shared now query audited.audit.now seen audited.query_sets.now audited.audit_sets.now
+    none-shared at =
+        let none : IsFirst Here None = subst (λ (o : Option V). IsFirst Here (option_map items o)) at (subst (λ (holds : List Place → Type 0). IsFirst holds (option_map items found)) shared_here first) in
+        shared-is now query audited.audit.now seen audited.query_sets.now audited.audit_sets.now rows.query_sets rows.audit_sets rows.tables rows.rows ascend None none
+
+  -- the first of some places, ascending
+  module _ (candidates : List (List Place)) (found : Option (List Place)) (rising : IsRising candidates) (first : IsFirstAmong (SharedBy choices sides) candidates found) where
+    among_here : (other : Option (List Place)) → found ≡ other → IsFirstAmong Here candidates other
+    among_here other at = subst (λ (o : Option (List Place)). IsFirstAmong Here candidates o) at (subst (λ (holds : List Place → Type 0). IsFirstAmong holds candidates found) shared_here first)
+
+    pub candidate-long : (places : List Place) → found ≡ Some places → length places ≡ length (common_in audited.audit.now.tables query audited.audit.now)
+    candidate-long places at = long_here places (among-holds Here candidates places (among_here (Some places) at))
+
+    pub candidate-some : (places : List Place) → found ≡ Some places → (shared : List SharedRow) → shared ≡ tuple_here places → (test : List SharedRow → Bool)
+        → AreThoseOf test audited.audit.now.tables audited.audit_sets.now (common_tables query.tables audited.audit.now.tables) candidates
+        → Some shared ≡ first_passing test now query audited.audit.now seen audited.query_sets.now audited.audit_sets.now
+    candidate-some places at shared is test those =
+        ap Some is ∙ candidate-is now query audited.audit.now seen audited.query_sets.now audited.audit_sets.now rows.query_sets rows.audit_sets rows.tables rows.rows ascend test candidates rising those (Some places) (among_here (Some places) at)
+
+    pub candidate-none : found ≡ None → (test : List SharedRow → Bool)
+        → AreThoseOf test audited.audit.now.tables audited.audit_sets.now (common_tables query.tables audited.audit.now.tables) candidates
+        → None ≡ first_passing test now query audited.audit.now seen audited.query_sets.now audited.audit_sets.now
+    candidate-none at test those =
+        candidate-is now query audited.audit.now seen audited.query_sets.now audited.audit_sets.now rows.query_sets rows.audit_sets rows.tables rows.rows ascend test candidates rising those None (among_here None at)

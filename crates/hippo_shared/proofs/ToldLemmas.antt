@@ -10,8 +10,9 @@ use Rattle.hippo_join.specs.declared.sides.Side.{Side}
 use Rattle.hippo_join.specs.Existence.{HasOne, Decides}
 use Rattle.hippo_join.specs.Places.{Fits, slot_at, stands}
 use Rattle.hippo_join.proofs.SlotLemmas.{Fits-at}
+use Rattle.hippo_shared.specs.declared.sides.Sides.{Sides}
 use Rattle.hippo_shared.specs.FirstPlaces.{AgreeAt, AreChosen, AreFirst, IsFirst}
-use Rattle.hippo_shared.specs.Searching.{AreCommon, AreTold, HasOneOf, IsOnlyShared}
+use Rattle.hippo_shared.specs.Searching.{AreTold, HasOneOf, HaveCommon, IsOnlyShared, SharedBy}
 use Rattle.hippo_shared.proofs.SideLemmas.{share-both, one-agrees}
 
 -- ---- places that are chosen in some tables
@@ -54,22 +55,26 @@ agree_once (table ∷ tables) (g ∷ given) (t ∷ told) places a b =
     some_is : {x y : Place} → Some x ≡ Some y → x ≡ y
     some_is e = cc
 
-module _ {C : Type 0} (choices : C → Choices) (query audit : Side C) (tables others : List Place) (common : AreCommon (length query.sets.now) (length audit.sets.now) tables others) where
-  pub told-by-query : (told : List Place) → AreTold choices query tables told → IsOnlyShared choices query audit tables others told
-  told-by-query told are seen given share =
-      let both =
-      share-both (HasOneOf choices query seen) (HasOneOf choices audit []) tables others (replicate (length query.sets.now) None) (replicate (length audit.sets.now) None) given share in
-      let one = one-agrees (choices query.choices.now) query.query.now seen query.sets.now tables given (replicate (length query.sets.now) None) common.query_open both.0 both.1 in
-      agree_once tables given told one.0.places one.1 (are one.0.places one.0.counts)
+module _ {C : Type 0} (choices : C → Choices) (sides : Sides C) (common : HaveCommon sides) where
+  abbrev query_places : List Place
+  query_places = sides.common.now.query.items
 
-  pub told-by-audit : (told : List Place) → AreTold choices audit others told → IsOnlyShared choices query audit tables others told
-  told-by-audit told are seen given share =
-      let both =
-      share-both (HasOneOf choices query seen) (HasOneOf choices audit []) tables others (replicate (length query.sets.now) None) (replicate (length audit.sets.now) None) given share in
-      let one = one-agrees (choices audit.choices.now) audit.query.now [] audit.sets.now others given (replicate (length audit.sets.now) None) common.audit_open (both.0 ∙ common.same) both.2 in
-      agree_once others given told one.0.places one.1 (are one.0.places one.0.counts)
+  abbrev audit_places : List Place
+  audit_places = sides.common.now.audit.items
 
-  pub either-told : (items : Vec ℕ Global → List Place) (found : Option (Vec ℕ Global)) → IfSome found (λ told. AreTold choices audit others (items told)) → IfSome found (λ told. IsOnlyShared choices query audit tables others (items told))
+  pub told-by-query : (told : List Place) → AreTold choices sides.query query_places told → IsOnlyShared choices sides told
+  told-by-query told are given share =
+      let both = share-both (HasOneOf choices sides.query sides.seen.now) (HasOneOf choices sides.audit []) query_places audit_places (replicate (length sides.query.sets.now) None) (replicate (length sides.audit.sets.now) None) given share in
+      let one = one-agrees (choices sides.query.choices.now) sides.query.query.now sides.seen.now sides.query.sets.now query_places given (replicate (length sides.query.sets.now) None) common.query_open both.0 both.1 in
+      agree_once query_places given told one.0.places one.1 (are one.0.places one.0.counts)
+
+  pub told-by-audit : (told : List Place) → AreTold choices sides.audit audit_places told → IsOnlyShared choices sides told
+  told-by-audit told are given share =
+      let both = share-both (HasOneOf choices sides.query sides.seen.now) (HasOneOf choices sides.audit []) query_places audit_places (replicate (length sides.query.sets.now) None) (replicate (length sides.audit.sets.now) None) given share in
+      let one = one-agrees (choices sides.audit.choices.now) sides.audit.query.now [] sides.audit.sets.now audit_places given (replicate (length sides.audit.sets.now) None) common.audit_open (both.0 ∙ common.same) both.2 in
+      agree_once audit_places given told one.0.places one.1 (are one.0.places one.0.counts)
+
+  pub either-told : (items : Vec ℕ Global → List Place) (found : Option (Vec ℕ Global)) → IfSome found (λ told. AreTold choices sides.audit audit_places (items told)) → IfSome found (λ told. IsOnlyShared choices sides (items told))
   either-told items None told = tt
   either-told items (Some places) told = told-by-audit (items places) told
 

@@ -1,5 +1,5 @@
 -- The first places of the tables that two sides have in common.
-use Rattle.std.specs.Prelude.{◌≡◌, ◌<◌, List, [], ◌∷◌, length, map, Option, Some, None, slice_get, slice_set, ◌⊎◌}
+use Rattle.std.specs.Prelude.{◌≡◌, ℕ, ◌<◌, List, [], ◌∷◌, length, map, Option, Some, None, replicate, slice_get, slice_set, ◌⊎◌}
 use Rattle.std.specs.List.{All, Contains}
 use Rattle.hippo_model.specs.declared.query.Masked.{Masked}
 use Rattle.hippo_model.specs.Masking.{Choices}
@@ -14,6 +14,14 @@ abbrev pub AreOpen : List Place → List (Option Place) → Type 0
 AreOpen [] slots = Unit {0}
 AreOpen (table ∷ tables) slots =
     (slice_get slots table ≡ Some None) × ((place : Place) → AreOpen tables (slice_set slots table (Some place)))
+
+-- the places of the common tables among those of each side: open, and as many on both sides
+pub record AreCommon (query_count audit_count : ℕ) (query audit : List Place) : Type 0 where
+  pub query_open : AreOpen query (replicate query_count None)
+  pub audit_open : AreOpen audit (replicate audit_count None)
+  pub query_below : All (λ table. table < query_count) query
+  pub audit_below : All (λ table. table < audit_count) audit
+  pub same : length query ≡ length audit
 
 -- what holds of the rows that are chosen on each side holds with these places of the common tables, too
 abbrev pub ShareAt :

@@ -1,7 +1,9 @@
 pub mod Sharing
+pub mod Audited
 pub mod Needs
 pub mod FirstPlaces
 pub mod Searching
+pub mod Sides
 pub mod Tuples
 pub mod HistoryLaws
 pub mod Marks

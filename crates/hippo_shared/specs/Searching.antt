@@ -14,7 +14,8 @@ use Rattle.hippo_join.specs.Places.{stands}
 use Rattle.hippo_join.specs.Stages.{IsStage, Reaches, ReachesFrom}
 use Rattle.hippo_shared.specs.declared.commons.CommonStages.{CommonStages}
 use Rattle.hippo_shared.specs.declared.searching.Search.{Search}
-use Rattle.hippo_shared.specs.FirstPlaces.{AgreeAt, AreOpen, AreWhole, ShareAt, IsFirst}
+use Rattle.hippo_shared.specs.declared.sides.Sides.{Sides}
+use Rattle.hippo_shared.specs.FirstPlaces.{AgreeAt, AreCommon, AreOpen, AreWhole, ShareAt, IsFirst}
 
 -- the row that is chosen of each of a side's tables
 abbrev pub Slots : Type 0
@@ -75,13 +76,16 @@ SharedPlaces choices query audit seen tables others =
     ShareAt (HasOneOf choices query seen) (HasOneOf choices audit []) tables others
     (replicate (length query.sets.now) None) (replicate (length audit.sets.now) None)
 
--- the places of the common tables among those of each side: open, and as many on both sides
-pub record AreCommon (query_count audit_count : ℕ) (query audit : List Place) : Type 0 where
-  pub query_open : AreOpen query (replicate query_count None)
-  pub audit_open : AreOpen audit (replicate audit_count None)
-  pub query_below : All (λ table. table < query_count) query
-  pub audit_below : All (λ table. table < audit_count) audit
-  pub same : length query ≡ length audit
+-- the places of the common tables are among those of both sides
+abbrev pub HaveCommon : {C : Type 0} → Sides C → Type 0
+HaveCommon sides =
+    AreCommon (length sides.query.sets.now) (length sides.audit.sets.now) sides.common.now.query.items
+    sides.common.now.audit.items
+
+-- with these places of the common tables, both sides have a combination
+abbrev pub SharedBy : {C : Type 0} → (C → Choices) → Sides C → List Place → Type 0
+SharedBy choices sides =
+    SharedPlaces choices sides.query sides.audit sides.seen.now sides.common.now.query.items sides.common.now.audit.items
 
 -- each combination that counts for a side has these places of some tables
 abbrev pub AreTold : {C : Type 0} → (C → Choices) → Side C → List Place → List Place → Type 0
@@ -89,10 +93,9 @@ AreTold choices side tables told =
     (places : List Place) → stands (choices side.choices.now) side.query.now side.sets.now places ≡ true
     → AgreeAt tables told places
 
--- no other places of the common tables are shared, whatever is to be seen
-abbrev pub IsOnlyShared : {C : Type 0} → (C → Choices) → Side C → Side C → List Place → List Place → List Place → Type 0
-IsOnlyShared choices query audit tables others told =
-    (seen : List Expr) (given : List Place) → SharedPlaces choices query audit seen tables others given → given ≡ told
+-- no other places of the common tables are shared
+abbrev pub IsOnlyShared : {C : Type 0} → (C → Choices) → Sides C → List Place → Type 0
+IsOnlyShared choices sides told = (given : List Place) → SharedBy choices sides given → given ≡ told
 
 -- of one table, each combination that counts for a side has a row at one of these places, which ascend
 pub record AreFewOf {C : Type 0} (choices : C → Choices) (side : Side C) (tables few : List Place) : Type 0 where
@@ -101,8 +104,7 @@ pub record AreFewOf {C : Type 0} (choices : C → Choices) (side : Side C) (tabl
   pub reaches : Reaches (choices side.choices.now) side.query.now side.sets.now (get_or tables 0 0) few
 
 -- what is shared is one of these places, which ascend
-pub record AreFewShared {C : Type 0} (choices : C → Choices) (query audit : Side C) (tables others few : List Place)
-    : Type 0 where
+pub record AreFewShared {C : Type 0} (choices : C → Choices) (sides : Sides C) (few : List Place) : Type 0 where
   pub rises : IsNonDecreasing few
-  pub all : (seen : List Expr) (given : List Place) → SharedPlaces choices query audit seen tables others given
+  pub all : (given : List Place) → SharedBy choices sides given
       → (place : Place) × (given ≡ place ∷ []) × Contains few place

@@ -23,8 +23,8 @@ pub(crate) struct CommonStages<'s> {
     pub audit: &'s Stage,
 }
 
-// The place of a table among others, or their number where it is not among them.
-fn place_in(tables: &[Name], table: &Name) -> usize
+/// The place of a table among others, or their number where it is not among them.
+pub fn place_in(tables: &[Name], table: &Name) -> usize
     ensures { result ≡ place_in tables.now table.now }
 {
     let mut place = 0;

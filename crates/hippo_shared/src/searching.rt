@@ -3,10 +3,11 @@ ghost use Rattle.std.specs.Prelude.{◌≡◌, ◌<◌, [], ◌∷◌, None, Som
 ghost use Rattle.std.specs.List.{All};
 ghost use Rattle.std.specs.List.Sorted.{IsNonDecreasing, IsPermutation};
 ghost use Rattle.hippo_join.specs.Existence.{Decides};
-ghost use Rattle.hippo_shared.specs.FirstPlaces.{IsFirst, IsFirstAmong, with_rows};
-ghost use Rattle.hippo_shared.specs.Searching.{AreCommon, AreWholeOf, FindsFirst, HasOneOf, IsReady, IsStageOf, ReachesOf, Shared, SharedPlaces};
+ghost use Rattle.hippo_shared.specs.FirstPlaces.{AreCommon, IsFirst, IsFirstAmong, with_rows};
+ghost use Rattle.hippo_shared.specs.Searching.{AreWholeOf, FindsFirst, HasOneOf, HaveCommon, IsReady, IsStageOf, ReachesOf, Shared, SharedBy, SharedPlaces};
 
 use crate::commons::{CommonPlaces, CommonStages, common_stages, order_from};
+use crate::sides::Sides;
 use hippo_join::{Side, Stage, open_slots};
 use hippo_model::{ChoiceView, Expr, Places};
 use hippo_values::Memory;
@@ -226,57 +227,50 @@ impl<'a, C: ChoiceView> Search<'a, C> {
 // The first of some places of the common tables' rows with which both sides have a combination.
 pub(crate) fn first_staged<'p, C: ChoiceView>(
     alloc: Global,
-    query: &Side<'_, C>,
-    audit: &Side<'_, C>,
-    seen: &[Expr],
-    common: &CommonPlaces,
+    sides: &Sides<'_, C>,
     candidates: &'p [Places],
 ) -> Result<Option<&'p Places>, Memory>
-    requires { AreCommon (length query.now.sets.now) (length audit.now.sets.now)
-        common.now.query.items common.now.audit.items }
-    ensures { IfOk result (λ found. IsFirstAmong (SharedPlaces C.choices query.now audit.now seen.now
-        common.now.query.items common.now.audit.items) candidates.now (option_copied found)) }
+    requires { HaveCommon sides.now }
+    ensures { IfOk result (λ found.
+        IsFirstAmong (SharedBy C.choices sides.now) candidates.now (option_copied found)) }
 {
-    let query_order = order_from(alloc, query, &common.query)?;
-    let audit_order = order_from(alloc, audit, &common.audit)?;
-    let query_stages = query.stages(alloc, &query_order)?;
-    let audit_stages = audit.stages(alloc, &audit_order)?;
+    let query_order = order_from(alloc, &sides.query, &sides.common.query)?;
+    let audit_order = order_from(alloc, &sides.audit, &sides.common.audit)?;
+    let query_stages = sides.query.stages(alloc, &query_order)?;
+    let audit_stages = sides.audit.stages(alloc, &audit_order)?;
     let search = Search {
-        query,
-        audit,
+        query: &sides.query,
+        audit: &sides.audit,
         query_stages: &query_stages,
         audit_stages: &audit_stages,
-        seen,
+        seen: sides.seen,
     };
-    search.first_of(alloc, common, candidates)
+    search.first_of(alloc, sides.common, candidates)
 }
 
 // The first places of the common tables' rows with which both sides have a combination.
 pub(crate) fn first_walked<C: ChoiceView>(
     alloc: Global,
-    query: &Side<'_, C>,
-    audit: &Side<'_, C>,
-    seen: &[Expr],
-    common: &CommonPlaces,
+    sides: &Sides<'_, C>,
 ) -> Result<Option<Vec<usize>>, Memory>
-    requires { AreCommon (length query.now.sets.now) (length audit.now.sets.now)
-        common.now.query.items common.now.audit.items }
-    ensures { IfOk result (λ found. IsFirst (SharedPlaces C.choices query.now audit.now seen.now
-        common.now.query.items common.now.audit.items) (option_map (λ places. places.items) found)) }
+    requires { HaveCommon sides.now }
+    ensures { IfOk result (λ found.
+        IsFirst (SharedBy C.choices sides.now) (option_map (λ places. places.items) found)) }
 {
-    let query_order = order_from(alloc, query, &common.query)?;
-    let audit_order = order_from(alloc, audit, &common.audit)?;
-    let query_stages = query.stages(alloc, &query_order)?;
-    let audit_stages = audit.stages(alloc, &audit_order)?;
+    let common = sides.common;
+    let query_order = order_from(alloc, &sides.query, &common.query)?;
+    let audit_order = order_from(alloc, &sides.audit, &common.audit)?;
+    let query_stages = sides.query.stages(alloc, &query_order)?;
+    let audit_stages = sides.audit.stages(alloc, &audit_order)?;
     let stages = common_stages(alloc, common.query.len(), &query_stages, &audit_stages)?;
-    let mut query_slots = open_slots(alloc, query.sets.len())?;
-    let mut audit_slots = open_slots(alloc, audit.sets.len())?;
+    let mut query_slots = open_slots(alloc, sides.query.sets.len())?;
+    let mut audit_slots = open_slots(alloc, sides.audit.sets.len())?;
     let search = Search {
-        query,
-        audit,
+        query: &sides.query,
+        audit: &sides.audit,
         query_stages: &query_stages,
         audit_stages: &audit_stages,
-        seen,
+        seen: sides.seen,
     };
     search.first(alloc, &stages, &mut query_slots, &mut audit_slots)
 }

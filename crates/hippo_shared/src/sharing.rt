@@ -1,11 +1,15 @@
 //! The first virtual tuple that a query and an audit share.
-ghost use Rattle.std.specs.Prelude.{◌≡◌, [], IfOk, bytes_eq, length, map};
-ghost use Rattle.std.specs.List.{All, IsDistinct};
+ghost use Rattle.std.specs.Prelude.{◌≡◌, IfOk, map};
+ghost use Rattle.std.specs.List.{All};
 ghost use Rattle.hippo_model.specs.RowSets.{IsAscending, key_in};
-ghost use Rattle.hippo_eval.specs.Unmasked.{unmasked_condition};
-ghost use Rattle.hippo_shared.specs.Sharing.{HaveSameRows, first_shared};
+ghost use Rattle.hippo_shared.specs.Audited.{HasRowsFor};
+ghost use Rattle.hippo_shared.specs.Searching.{HaveCommon};
+ghost use Rattle.hippo_shared.specs.Sharing.{first_shared};
+ghost use Rattle.hippo_shared.specs.Sides.{AreSidesOf, StandsFor, condition_alone};
 
-use crate::commons::common_places;
+use crate::audited::Audited;
+use crate::commons::{CommonPlaces, common_places};
+use crate::sides::Sides;
 use crate::told::first_places;
 use crate::tuples::tuple_at;
 use hippo_eval::unmasked_condition;
@@ -14,10 +18,17 @@ use hippo_model::{Audit, BornRow, ChoiceView, Exprs, Masked, Sets, SharedTuple};
 use hippo_values::{Memory, Sequence};
 use std::alloc::Global;
 
+// What stands for an audit in a search: its condition as a query, and the tables that it has in common with another.
+#[derive(Drop)]
+pub(crate) struct AuditSide {
+    pub unmasked: Masked,
+    pub common: CommonPlaces,
+    pub blank: BornRow,
+}
+
 // An audit's condition as that of a query without guards.
 pub(crate) fn unmasked_query(alloc: Global, audit: &Audit) -> Result<Masked, Memory>
-    ensures { IfOk result (λ query.
-        query ≡ record { items = []; tables = []; guards = []; cond = unmasked_condition audit.now.cond }) }
+    ensures { IfOk result (λ query. query ≡ condition_alone audit.now) }
 {
     Ok(Masked {
         items: Sequence::new(alloc),
@@ -36,49 +47,74 @@ pub fn know_order(sets: &Sets<'_>)
     }
 }
 
-// What `first_shared` answers, by the query that stands for the audit.
+pub(crate) fn audit_side(alloc: Global, query: &Masked, audit: &Audit) -> Result<AuditSide, Memory>
+    ensures { IfOk result (StandsFor query.now audit.now) }
+{
+    let common = common_places(alloc, query.tables.as_slice(), audit.tables.as_slice())?;
+    let blank = blank_row(alloc)?;
+    let unmasked = unmasked_query(alloc, audit)?;
+    Ok(AuditSide {
+        unmasked,
+        common,
+        blank,
+    })
+}
+
+// Both sides of a search, by what stands for the audit.
+pub(crate) fn sides_of<'s, C: ChoiceView>(
+    query: &'s Masked,
+    seen: &'s Exprs,
+    audited: &'s Audited<'_, C>,
+    side: &'s AuditSide,
+) -> Sides<'s, C>
+    requires rows { HasRowsFor query.now.tables audited.now }
+    requires side { StandsFor query.now audited.now.audit.now side.now }
+    ensures are { AreSidesOf query.now seen.now audited.now result }
+    ensures common { HaveCommon result }
+{
+    Sides {
+        query: Side {
+            query: &*query,
+            sets: &*audited.query_sets,
+            choices: &*audited.choices,
+            blank: &side.blank,
+        },
+        audit: Side {
+            query: &side.unmasked,
+            sets: &*audited.audit_sets,
+            choices: &*audited.choices,
+            blank: &side.blank,
+        },
+        seen: seen.as_slice(),
+        common: &side.common,
+    }
+}
+
+// What `first_shared` answers, by what stands for the audit.
 fn first_beside<C: ChoiceView>(
     alloc: Global,
     query: &Masked,
-    audit: &Audit,
-    unmasked: &Masked,
     seen: &Exprs,
-    query_sets: &Sets<'_>,
-    audit_sets: &Sets<'_>,
-    choices: &C,
+    audited: &Audited<'_, C>,
+    side: &AuditSide,
 ) -> Result<Option<SharedTuple>, Memory>
-    requires unmasked { unmasked.now ≡ record {
-      items = [];
-      tables = [];
-      guards = [];
-      cond = unmasked_condition audit.now.cond;
-    } }
-    requires query_sets { length query_sets.now ≡ length query.now.tables }
-    requires audit_sets { length audit_sets.now ≡ length audit.now.tables }
-    requires tables { IsDistinct bytes_eq audit.now.tables }
-    requires rows { HaveSameRows query.now.tables query_sets.now audit.now.tables audit_sets.now }
-    ensures { IfOk result (λ shared.
-        shared ≡ first_shared (C.choices choices.now) query.now audit.now seen.now query_sets.now audit_sets.now) }
+    requires rows { HasRowsFor query.now.tables audited.now }
+    requires side { StandsFor query.now audited.now.audit.now side.now }
+    ensures { IfOk result (λ shared. shared ≡ first_shared (C.choices audited.now.choices.now) query.now
+        audited.now.audit.now seen.now audited.now.query_sets.now audited.now.audit_sets.now) }
 {
-    let blank = blank_row(alloc)?;
-    let common = common_places(alloc, query.tables.as_slice(), audit.tables.as_slice())?;
-    know_order(audit_sets);
-    let audit_side = Side {
-        query: &*unmasked,
-        sets: &*audit_sets,
-        choices: &*choices,
-        blank: &blank,
-    };
-    let query_side = Side {
-        query: &*query,
-        sets: &*query_sets,
-        choices: &*choices,
-        blank: &blank,
-    };
-    match first_places(alloc, &query_side, &audit_side, seen.as_slice(), &common)? {
+    know_order(audited.audit_sets);
+    let sides = sides_of(query, seen, audited, side);
+    match first_places(alloc, &sides)? {
         Some(places) => {
-            let names = audit.tables.as_slice();
-            let tuple = tuple_at(alloc, names, audit_sets, &common.audit, &places)?;
+            let names = audited.audit.tables.as_slice();
+            let tuple = tuple_at(
+                alloc,
+                names,
+                audited.audit_sets,
+                &side.common.audit,
+                &places,
+            )?;
             Ok(Some(tuple))
         }
         None => Ok(None),
@@ -95,21 +131,13 @@ fn first_beside<C: ChoiceView>(
 pub fn first_shared<C: ChoiceView>(
     alloc: Global,
     query: &Masked,
-    audit: &Audit,
     seen: &Exprs,
-    query_sets: &Sets<'_>,
-    audit_sets: &Sets<'_>,
-    choices: &C,
+    audited: &Audited<'_, C>,
 ) -> Result<Option<SharedTuple>, Memory>
-    requires query_sets { length query_sets.now ≡ length query.now.tables }
-    requires audit_sets { length audit_sets.now ≡ length audit.now.tables }
-    requires tables { IsDistinct bytes_eq audit.now.tables }
-    requires rows { HaveSameRows query.now.tables query_sets.now audit.now.tables audit_sets.now }
-    ensures { IfOk result (λ shared.
-        shared ≡ first_shared (C.choices choices.now) query.now audit.now seen.now query_sets.now audit_sets.now) }
+    requires { HasRowsFor query.now.tables audited.now }
+    ensures { IfOk result (λ shared. shared ≡ first_shared (C.choices audited.now.choices.now) query.now
+        audited.now.audit.now seen.now audited.now.query_sets.now audited.now.audit_sets.now) }
 {
-    let unmasked = unmasked_query(alloc, audit)?;
-    first_beside(
-        alloc, query, audit, &unmasked, seen, query_sets, audit_sets, choices,
-    )
+    let side = audit_side(alloc, query, audited.audit)?;
+    first_beside(alloc, query, seen, audited, &side)
 }

@@ -4,10 +4,11 @@ ghost use Rattle.std.specs.List.{All};
 ghost use Rattle.hippo_join.specs.Existence.{Decides};
 ghost use Rattle.hippo_shared.specs.FirstPlaces.{AreChosen, IsFirst, IsFirstAmong, with_rows};
 ghost use Rattle.hippo_join.specs.Places.{slot_at};
-ghost use Rattle.hippo_shared.specs.Searching.{AreCommon, AreFewOf, AreFewShared, AreTold, HasOneOf, IsOnlyShared, SharedPlaces};
+ghost use Rattle.hippo_shared.specs.Searching.{AreFewOf, AreFewShared, AreTold, HasOneOf, HaveCommon, IsOnlyShared, SharedBy};
 
-use crate::commons::{CommonPlaces, order_from};
+use crate::commons::order_from;
 use crate::searching::{first_staged, first_walked, in_order, slots_with};
+use crate::sides::Sides;
 use hippo_join::Side;
 use hippo_model::{ChoiceView, Expr, Places};
 use hippo_values::{Memory, Sequence};
@@ -59,19 +60,15 @@ fn told_places<C: ChoiceView>(
 // The places of the common tables of which look-ups on either side tell that no others are shared.
 fn told_by_either<C: ChoiceView>(
     alloc: Global,
-    query: &Side<'_, C>,
-    audit: &Side<'_, C>,
-    common: &CommonPlaces,
+    sides: &Sides<'_, C>,
 ) -> Result<Option<Vec<usize>>, Memory>
-    requires { AreCommon (length query.now.sets.now) (length audit.now.sets.now)
-        common.now.query.items common.now.audit.items }
-    ensures { IfOk result (λ found. IfSome found (λ told. IsOnlyShared C.choices query.now audit.now
-        common.now.query.items common.now.audit.items told.items)) }
+    requires { HaveCommon sides.now }
+    ensures { IfOk result (λ found. IfSome found (λ told. IsOnlyShared C.choices sides.now told.items)) }
 {
-    if let Some(places) = told_places(alloc, query, &common.query)? {
+    if let Some(places) = told_places(alloc, &sides.query, &sides.common.query)? {
         return Ok(Some(places));
     }
-    let found = told_places(alloc, audit, &common.audit)?;
+    let found = told_places(alloc, &sides.audit, &sides.common.audit)?;
     Ok(found)
 }
 
@@ -96,23 +93,18 @@ fn has_at<C: ChoiceView>(
 // Whether both sides have a combination with these places of the common tables.
 fn share_at<C: ChoiceView>(
     alloc: Global,
-    query: &Side<'_, C>,
-    audit: &Side<'_, C>,
-    seen: &[Expr],
-    common: &CommonPlaces,
+    sides: &Sides<'_, C>,
     places: &[usize],
 ) -> Result<bool, Memory>
-    requires { AreCommon (length query.now.sets.now) (length audit.now.sets.now)
-        common.now.query.items common.now.audit.items }
-    ensures { Decides (SharedPlaces C.choices query.now audit.now seen.now
-        common.now.query.items common.now.audit.items places.now) result }
+    requires { HaveCommon sides.now }
+    ensures { Decides (SharedBy C.choices sides.now places.now) result }
 {
-    if places.len() != common.query.len() {
+    if places.len() != sides.common.query.len() {
         // They are those of no tuple.
         return Ok(false);
     }
-    if has_at(alloc, audit, &common.audit, &[], places)? {
-        return has_at(alloc, query, &common.query, seen, places);
+    if has_at(alloc, &sides.audit, &sides.common.audit, &[], places)? {
+        return has_at(alloc, &sides.query, &sides.common.query, sides.seen, places);
     }
     Ok(false)
 }
@@ -126,20 +118,14 @@ fn kept_if(test: bool, places: Vec<usize>) -> Option<Vec<usize>>
 // The first places with which both sides have a combination, where no others are shared.
 fn first_told<C: ChoiceView>(
     alloc: Global,
-    query: &Side<'_, C>,
-    audit: &Side<'_, C>,
-    seen: &[Expr],
-    common: &CommonPlaces,
+    sides: &Sides<'_, C>,
     told: Vec<usize>,
 ) -> Result<Option<Vec<usize>>, Memory>
-    requires common { AreCommon (length query.now.sets.now) (length audit.now.sets.now)
-        common.now.query.items common.now.audit.items }
-    requires told { IsOnlyShared C.choices query.now audit.now
-        common.now.query.items common.now.audit.items told.items }
-    ensures { IfOk result (λ found. IsFirst (SharedPlaces C.choices query.now audit.now seen.now
-        common.now.query.items common.now.audit.items) (option_map (λ places. places.items) found)) }
+    requires common { HaveCommon sides.now }
+    requires told { IsOnlyShared C.choices sides.now told.items }
+    ensures { IfOk result (λ found. IsFirst (SharedBy C.choices sides.now) (option_map (λ places. places.items) found)) }
 {
-    let shares = share_at(alloc, query, audit, seen, common, &told)?;
+    let shares = share_at(alloc, sides, &told)?;
     Ok(kept_if(shares, told))
 }
 
@@ -178,19 +164,15 @@ fn few_places<C: ChoiceView>(
 // The places of the one common table among which those are that are shared, where look-ups on either side find few.
 fn few_by_either<C: ChoiceView>(
     alloc: Global,
-    query: &Side<'_, C>,
-    audit: &Side<'_, C>,
-    common: &CommonPlaces,
+    sides: &Sides<'_, C>,
 ) -> Result<Option<Vec<usize>>, Memory>
-    requires { AreCommon (length query.now.sets.now) (length audit.now.sets.now)
-        common.now.query.items common.now.audit.items }
-    ensures { IfOk result (λ found. IfSome found (λ few. AreFewShared C.choices query.now audit.now
-        common.now.query.items common.now.audit.items few.items)) }
+    requires { HaveCommon sides.now }
+    ensures { IfOk result (λ found. IfSome found (λ few. AreFewShared C.choices sides.now few.items)) }
 {
-    if let Some(places) = few_places(alloc, query, &common.query)? {
+    if let Some(places) = few_places(alloc, &sides.query, &sides.common.query)? {
         return Ok(Some(places));
     }
-    let found = few_places(alloc, audit, &common.audit)?;
+    let found = few_places(alloc, &sides.audit, &sides.common.audit)?;
     Ok(found)
 }
 
@@ -229,62 +211,46 @@ fn copied(alloc: Global, places: Option<&Places>) -> Result<Option<Vec<usize>>, 
 // The first of a few places of the one common table with which both sides have a combination.
 fn first_of_few<C: ChoiceView>(
     alloc: Global,
-    query: &Side<'_, C>,
-    audit: &Side<'_, C>,
-    seen: &[Expr],
-    common: &CommonPlaces,
+    sides: &Sides<'_, C>,
     few: &[usize],
 ) -> Result<Option<Vec<usize>>, Memory>
-    requires common { AreCommon (length query.now.sets.now) (length audit.now.sets.now)
-        common.now.query.items common.now.audit.items }
-    requires few { AreFewShared C.choices query.now audit.now
-        common.now.query.items common.now.audit.items few.now }
-    ensures { IfOk result (λ found. IsFirst (SharedPlaces C.choices query.now audit.now seen.now
-        common.now.query.items common.now.audit.items) (option_map (λ places. places.items) found)) }
+    requires common { HaveCommon sides.now }
+    requires few { AreFewShared C.choices sides.now few.now }
+    ensures { IfOk result (λ found. IsFirst (SharedBy C.choices sides.now) (option_map (λ places. places.items) found)) }
 {
     let candidates = singles(alloc, few)?;
-    let found = first_looked_up(alloc, query, audit, seen, common, &candidates)?;
+    let found = first_looked_up(alloc, sides, &candidates)?;
     copied(alloc, found)
 }
 
 // The first places of the common tables' rows with which both sides have a combination.
 pub(crate) fn first_places<C: ChoiceView>(
     alloc: Global,
-    query: &Side<'_, C>,
-    audit: &Side<'_, C>,
-    seen: &[Expr],
-    common: &CommonPlaces,
+    sides: &Sides<'_, C>,
 ) -> Result<Option<Vec<usize>>, Memory>
-    requires { AreCommon (length query.now.sets.now) (length audit.now.sets.now)
-        common.now.query.items common.now.audit.items }
-    ensures { IfOk result (λ found. IsFirst (SharedPlaces C.choices query.now audit.now seen.now
-        common.now.query.items common.now.audit.items) (option_map (λ places. places.items) found)) }
+    requires { HaveCommon sides.now }
+    ensures { IfOk result (λ found. IsFirst (SharedBy C.choices sides.now) (option_map (λ places. places.items) found)) }
 {
-    if let Some(told) = told_by_either(alloc, query, audit, common)? {
-        return first_told(alloc, query, audit, seen, common, told);
+    if let Some(told) = told_by_either(alloc, sides)? {
+        return first_told(alloc, sides, told);
     }
-    if let Some(few) = few_by_either(alloc, query, audit, common)? {
-        return first_of_few(alloc, query, audit, seen, common, &few);
+    if let Some(few) = few_by_either(alloc, sides)? {
+        return first_of_few(alloc, sides, &few);
     }
-    first_walked(alloc, query, audit, seen, common)
+    first_walked(alloc, sides)
 }
 
 // The first of some places with which both sides have a combination, where each is looked up.
 fn first_looked_up<'p, C: ChoiceView>(
     alloc: Global,
-    query: &Side<'_, C>,
-    audit: &Side<'_, C>,
-    seen: &[Expr],
-    common: &CommonPlaces,
+    sides: &Sides<'_, C>,
     candidates: &'p [Places],
 ) -> Result<Option<&'p Places>, Memory>
-    requires { AreCommon (length query.now.sets.now) (length audit.now.sets.now)
-        common.now.query.items common.now.audit.items }
-    ensures { IfOk result (λ found. IsFirstAmong (SharedPlaces C.choices query.now audit.now seen.now
-        common.now.query.items common.now.audit.items) candidates.now (option_copied found)) }
+    requires { HaveCommon sides.now }
+    ensures { IfOk result (λ found. IsFirstAmong (SharedBy C.choices sides.now) candidates.now (option_copied found)) }
 {
     for places in candidates {
-        if share_at(alloc, query, audit, seen, common, places.as_slice())? {
+        if share_at(alloc, sides, places.as_slice())? {
             return Ok(Some(places));
         }
     }
@@ -294,20 +260,15 @@ fn first_looked_up<'p, C: ChoiceView>(
 // The first of some places of the common tables' rows with which both sides have a combination.
 pub(crate) fn first_candidate<'p, C: ChoiceView>(
     alloc: Global,
-    query: &Side<'_, C>,
-    audit: &Side<'_, C>,
-    seen: &[Expr],
-    common: &CommonPlaces,
+    sides: &Sides<'_, C>,
     candidates: &'p [Places],
 ) -> Result<Option<&'p Places>, Memory>
-    requires { AreCommon (length query.now.sets.now) (length audit.now.sets.now)
-        common.now.query.items common.now.audit.items }
-    ensures { IfOk result (λ found. IsFirstAmong (SharedPlaces C.choices query.now audit.now seen.now
-        common.now.query.items common.now.audit.items) candidates.now (option_copied found)) }
+    requires { HaveCommon sides.now }
+    ensures { IfOk result (λ found. IsFirstAmong (SharedBy C.choices sides.now) candidates.now (option_copied found)) }
 {
     if candidates.len() <= FEW {
-        first_looked_up(alloc, query, audit, seen, common, candidates)
+        first_looked_up(alloc, sides, candidates)
     } else {
-        first_staged(alloc, query, audit, seen, common, candidates)
+        first_staged(alloc, sides, candidates)
     }
 }

@@ -8,13 +8,11 @@ use Rattle.hippo_shared.proofs.told.few_by_either.Goals as goal
 
 pub returns-in-Some : goal.returns-in-Some
 returns-in-Some g c =
-    let tables = c.args.common.now.query.items in
-    let few : AreFewOf g.C.ChoiceView.choices c.args.query.now c.deref.result.now c.in-Some.places.items = rw (c.in-Some.is) at c.in_ok-places.ensures in
-    few-by-query g.C.ChoiceView.choices c.args.query.now c.args.audit.now tables c.args.common.now.audit.items c.requires c.in-Some.places.items
-    (subst (λ (some : List Place). AreFewOf g.C.ChoiceView.choices c.args.query.now some c.in-Some.places.items) c.deref.ensures.value few)
+    let few : AreFewOf g.C.ChoiceView.choices c.args.sides.now.query c.deref.result.now c.in-Some.places.items = rw (c.in-Some.is) at c.in_ok-places.ensures in
+    few-by-query g.C.ChoiceView.choices c.args.sides.now c.requires c.in-Some.places.items
+    (subst (λ (some : List Place). AreFewOf g.C.ChoiceView.choices c.args.sides.now.query some c.in-Some.places.items) c.deref.ensures.value few)
 
 pub returns : goal.returns
 returns g c =
-    let others = c.args.common.now.audit.items in
-    few-by-either g.C.ChoiceView.choices c.args.query.now c.args.audit.now c.args.common.now.query.items others c.requires (λ (places : Vec ℕ Global). places.items) c.in_ok-found.found
-    (subst (λ (some : List Place). IfSome c.in_ok-found.found (λ few. AreFewOf g.C.ChoiceView.choices c.args.audit.now some few.items)) c.deref-2.ensures.value c.in_ok-found.ensures)
+    few-by-either g.C.ChoiceView.choices c.args.sides.now c.requires (λ (places : Vec ℕ Global). places.items) c.in_ok-found.found
+    (subst (λ (some : List Place). IfSome c.in_ok-found.found (λ few. AreFewOf g.C.ChoiceView.choices c.args.sides.now.audit some few.items)) c.deref-2.ensures.value c.in_ok-found.ensures)

@@ -3,10 +3,10 @@ use Rattle.std.proofs.Common.{List, drop}
 use Rattle.std.specs.Prelude.{Option}
 use Rattle.hippo_model.specs.Terms.{Place}
 use Rattle.hippo_shared.specs.FirstPlaces.{IsFirstAmong}
-use Rattle.hippo_shared.specs.Searching.{SharedPlaces}
+use Rattle.hippo_shared.specs.Searching.{SharedBy}
 use Rattle.hippo_shared.proofs.told.first_looked_up.Given as goal
 
 abbrev pub invariant-loop-places : goal.invariant-loop-places
 invariant-loop-places g l = (found : Option (List Place))
-    → IsFirstAmong (SharedPlaces g.C.ChoiceView.choices l.query l.audit l.seen l.common.query.items l.common.audit.items) (drop l.places-index l.candidates) found
-    → IsFirstAmong (SharedPlaces g.C.ChoiceView.choices l.query l.audit l.seen l.common.query.items l.common.audit.items) l.candidates found
+    → IsFirstAmong (SharedBy g.C.ChoiceView.choices l.sides) (drop l.places-index l.candidates) found
+    → IsFirstAmong (SharedBy g.C.ChoiceView.choices l.sides) l.candidates found

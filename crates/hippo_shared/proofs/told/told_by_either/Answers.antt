@@ -8,13 +8,11 @@ use Rattle.hippo_shared.proofs.told.told_by_either.Goals as goal
 
 pub returns-in-Some : goal.returns-in-Some
 returns-in-Some g c =
-    let tables = c.args.common.now.query.items in
-    let told : AreTold g.C.ChoiceView.choices c.args.query.now c.deref.result.now c.in-Some.places.items = rw (c.in-Some.is) at c.in_ok-places.ensures in
-    told-by-query g.C.ChoiceView.choices c.args.query.now c.args.audit.now tables c.args.common.now.audit.items c.requires c.in-Some.places.items
-    (subst (λ (some : List Place). AreTold g.C.ChoiceView.choices c.args.query.now some c.in-Some.places.items) c.deref.ensures.value told)
+    let told : AreTold g.C.ChoiceView.choices c.args.sides.now.query c.deref.result.now c.in-Some.places.items = rw (c.in-Some.is) at c.in_ok-places.ensures in
+    told-by-query g.C.ChoiceView.choices c.args.sides.now c.requires c.in-Some.places.items
+    (subst (λ (some : List Place). AreTold g.C.ChoiceView.choices c.args.sides.now.query some c.in-Some.places.items) c.deref.ensures.value told)
 
 pub returns : goal.returns
 returns g c =
-    let others = c.args.common.now.audit.items in
-    either-told g.C.ChoiceView.choices c.args.query.now c.args.audit.now c.args.common.now.query.items others c.requires (λ (places : Vec ℕ Global). places.items) c.in_ok-found.found
-    (subst (λ (some : List Place). IfSome c.in_ok-found.found (λ told. AreTold g.C.ChoiceView.choices c.args.audit.now some told.items)) c.deref-2.ensures.value c.in_ok-found.ensures)
+    either-told g.C.ChoiceView.choices c.args.sides.now c.requires (λ (places : Vec ℕ Global). places.items) c.in_ok-found.found
+    (subst (λ (some : List Place). IfSome c.in_ok-found.found (λ told. AreTold g.C.ChoiceView.choices c.args.sides.now.audit some told.items)) c.deref-2.ensures.value c.in_ok-found.ensures)

@@ -1,4 +1,4 @@
--- The same tuple, or another.
+-- One combination more: all have one tuple, or two of them differ.
 use Rattle.std.proofs.Common.{sym, ◌∙◌}
 use Rattle.hippo_shared.proofs.MarkLemmas.{mark-same, mark-other}
 use Rattle.hippo_shared.proofs.marks.Mark.with.Goals as goal
