@@ -5,7 +5,7 @@ use Rattle.hippo_model.specs.declared.audit.SharedRow.{SharedRow}
 use Rattle.hippo_model.specs.Terms.{History}
 use Rattle.hippo_model.specs.Verdicts.{Context}
 use Rattle.hippo_typing.specs.Meanings.{meaning}
-use Rattle.hippo_audit_job.specs.Examining.{first_serving}
+use Rattle.hippo_model.specs.Audits.{first_serving}
 use Rattle.hippo_examining.specs.Examining.{ServesFirst}
 use Rattle.hippo_combine.specs.Held.{have_rows}
 use Rattle.hippo_combine.specs.Sharing.{HoldsBoth}
