@@ -1,5 +1,5 @@
 -- The examiner by removal, the rows that it reads, and what is said of it.
-use Rattle.std.specs.Prelude.{◌≡◌, ◌≢◌, ◌⊎◌, ℕ, ◌+◌, ◌<◌, ◌≤◌, Bool, true, false, List, [], ◌∷◌, ◌++◌, map, length, take, nat_lt, is_some, Option, Some, None, Result, Ok, Err, IfOk, OnOk}
+use Rattle.std.specs.Prelude.{◌≡◌, ◌≢◌, ℕ, ◌+◌, ◌≤◌, Bool, true, false, List, [], ◌∷◌, ◌++◌, map, length, take, nat_lt, is_some, None, Result, Ok, Err, IfOk, OnOk}
 use Rattle.std.specs.List.{AllByRecursion, list_all}
 use Rattle.std.specs.Option.{option_map_or}
 use Rattle.hippo_values.specs.declared.names.Name.{Name}
@@ -18,11 +18,6 @@ use Rattle.hippo_audit_job.specs.declared.past.Past.{Past}
 use Rattle.hippo_audit_job.specs.Examining.{IsPastOf, IsAuditOf, Examination}
 use Rattle.hippo_removal.specs.declared.removal.Removal.{Removal}
 use Rattle.hippo_removal.specs.declared.snapshots.BothRows.{BothRows}
-
--- the number of the entry before this one, which is among the first so many; none where it is not
-abbrev pub IsNumberBefore : ℕ → ℕ → Option ℕ → Type 0
-IsNumberBefore seq count (Some number) = (number + 1 ≡ seq) × (seq ≤ count)
-IsNumberBefore seq count None = (seq ≡ 0) ⊎ (count < seq)
 
 -- whether there are rows of each table
 abbrev pub have_rows : List KeyedRows → Bool

@@ -8,12 +8,13 @@ ghost use Rattle.hippo_model.specs.Terms.{History};
 ghost use Rattle.hippo_model.specs.Verdicts.{Context};
 ghost use Rattle.hippo_backlog.specs.declared.faults.ReadFault.TheVariants.{Memory as NoMemory};
 ghost use Rattle.hippo_model.specs.Audits.{first_serving};
-ghost use Rattle.hippo_removal.specs.Removals.{IsNumberBefore, have_rows, AreThen};
+ghost use Rattle.hippo_removal.specs.Removals.{have_rows, AreThen};
 
 use crate::sharing::first_serving;
 use crate::snapshots::{BothRows, Rows, lent, read_both, schemas_of};
 use hippo_audit_job::{Examiner, Past};
 use hippo_backlog::ReadFault;
+use hippo_combine::number_before;
 use hippo_keeper::{Keeper, Steps};
 use hippo_model::{Act, Audit, Entry, Query, SharedTuple};
 use hippo_values::{Memory, Moment, Name};
@@ -35,17 +36,6 @@ impl Removal {
         ensures { IsNew removal_terms result }
     {
         Removal
-    }
-}
-
-// The number of the entry before this one, where this one is among the first so many.
-fn number_before(seq: u64, count: u64) -> Option<u64>
-    ensures { IsNumberBefore seq count result }
-{
-    if seq == 0 || count < seq {
-        None
-    } else {
-        Some(seq - 1)
     }
 }
 

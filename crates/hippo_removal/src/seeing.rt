@@ -1,60 +1,14 @@
 //! Whether what an audit asks to be seen was shown.
-ghost use Rattle.std.specs.Prelude.{◌≡◌, map, IfOk};
+ghost use Rattle.std.specs.Prelude.{◌≡◌, IfOk};
 ghost use Rattle.hippo_model.specs.Masking.{is_shown_cell, masked_cell};
 ghost use Rattle.hippo_join.specs.Existence.{are_shown};
 ghost use Rattle.hippo_shared.specs.Sharing.{query_has};
-ghost use Rattle.hippo_examining.specs.Seen.{column_in, to_be_seen};
 
-use crate::tuples::{has_tuple, place_in};
+use crate::tuples::has_tuple;
 use hippo_eval::{Onward, Visitor, cell, passes, walk};
-use hippo_model::{
-    Audit, ChoiceView, Combo, Expr, Exprs, Masked, Query, Ref, Refs, RulesInForce, Sets,
-    SharedTuple,
-};
-use hippo_rewrite::mask_columns;
-use hippo_values::{Memory, Name, Sequence};
+use hippo_model::{ChoiceView, Combo, Expr, Exprs, Masked, Sets, SharedTuple};
+use hippo_values::Memory;
 use std::alloc::Global;
-
-// An audited column, by its table's place in the query.
-fn column_in(query: &[Name], audit: &[Name], column: Ref) -> Ref
-    ensures { result ≡ column_in query.now audit.now column }
-{
-    let table = match audit.get(column.table) {
-        Some(table) => place_in(query, table),
-        None => query.len(),
-    };
-    Ref {
-        table,
-        column: column.column,
-    }
-}
-
-fn columns_in(alloc: Global, query: &[Name], audit: &Audit) -> Result<Refs, Memory>
-    ensures { IfOk result (λ columns. columns ≡ map (column_in query.now audit.now.tables) audit.now.columns) }
-{
-    let tables = audit.tables.as_slice();
-    let mut columns = Sequence::new(alloc);
-    for column in audit.columns.as_slice() {
-        columns.push(column_in(query, tables, *column))?;
-    }
-    Ok(columns)
-}
-
-/// What is to be seen of the query's rows, where the audit asks for cells that were shown.
-pub(crate) fn to_be_seen(
-    alloc: Global,
-    query: &Query,
-    audit: &Audit,
-    rules: &RulesInForce,
-) -> Result<Exprs, Memory>
-    ensures { IfOk result (λ seen. seen ≡ to_be_seen rules.now query.now audit.now) }
-{
-    if !audit.shown {
-        return Ok(Sequence::new(alloc));
-    }
-    let columns = columns_in(alloc, query.tables.as_slice(), audit)?;
-    mask_columns(alloc, &columns, rules)
-}
 
 fn is_shown<C: ChoiceView>(expr: &Expr, rows: &Combo<'_>, choices: &C) -> bool
     ensures { result ≡ is_shown_cell (masked_cell (C.choices choices.now) rows.now expr.now) }

@@ -8,15 +8,17 @@ ghost use Rattle.hippo_examining.specs.Examining.{ServesFirst};
 ghost use Rattle.hippo_removal.specs.Removing.{tuple_of, unmasked_query};
 
 use crate::needing::needs;
-use crate::seeing::{has_seen, to_be_seen};
-use crate::tuples::{key_of, place_in};
+use crate::seeing::has_seen;
+use crate::tuples::key_of;
 use hippo_eval::{Onward, Visitor, unmasked_condition, walk};
 use hippo_examining::laws::needed_serves_first;
+use hippo_examining::to_be_seen;
 use hippo_model::{
     Audit, ChoiceView, Combo, Expr, Exprs, Form, Lent, Masked, Names, Query, RowSet, RulesInForce,
     Sets, SharedRow, SharedTuple,
 };
 use hippo_rewrite::rewrite;
+use hippo_shared::{Audited, place_in};
 use hippo_values::{Duplicate, Memory, Name, Sequence};
 use std::alloc::Global;
 
@@ -204,30 +206,27 @@ fn first_needed<C: ChoiceView>(
     alloc: Global,
     form: &Form,
     query: &Masked,
-    audit: &Audit,
     seen: &Exprs,
-    query_sets: &Sets<'_>,
-    audit_sets: &Sets<'_>,
-    choices: &C,
+    audited: &Audited<'_, C>,
 ) -> Result<Option<SharedTuple>, Memory>
-    requires audit_sets { length audit_sets.now ≡ length audit.now.tables }
-    ensures { IfOk result (λ shared. shared
-        ≡ first_needed (C.choices choices.now) query.now form.now audit.now seen.now query_sets.now audit_sets.now) }
+    requires audit_sets { length audited.now.audit_sets.now ≡ length audited.now.audit.now.tables }
+    ensures { IfOk result (λ shared. shared ≡ first_needed (C.choices audited.now.choices.now) query.now form.now
+        audited.now.audit.now seen.now audited.now.query_sets.now audited.now.audit_sets.now) }
 {
-    let tables = audit.tables.as_slice();
+    let tables = audited.audit.tables.as_slice();
     let common = common_tables(alloc, query.tables.as_slice(), tables)?;
-    let common_sets = sets_named(alloc, tables, audit_sets, common.as_slice())?;
-    let unmasked = unmasked_query(alloc, audit)?;
+    let common_sets = sets_named(alloc, tables, audited.audit_sets, common.as_slice())?;
+    let unmasked = unmasked_query(alloc, audited.audit)?;
     let sides = Sides {
         query: &*query,
         form: &*form,
         audit: &unmasked,
         seen: &*seen,
-        query_sets: &*query_sets,
-        audit_sets: &*audit_sets,
+        query_sets: &*audited.query_sets,
+        audit_sets: &*audited.audit_sets,
         common: common.as_slice(),
         common_sets: &common_sets,
-        choices: &*choices,
+        choices: &*audited.choices,
     };
     let mut found = None;
     walk(alloc, &common_sets, &sides, &mut found)?;
@@ -250,12 +249,15 @@ pub(crate) fn first_serving<C: ChoiceView>(
         (C.choices choices.now) shared) }
 {
     needed_serves_first();
+    let audited = Audited {
+        audit: &*audit,
+        query_sets: &*query_sets,
+        audit_sets: &*audit_sets,
+        choices: &*choices,
+    };
     let masked = rewrite(alloc, query, rules)?;
     let seen = to_be_seen(alloc, query, audit, rules)?;
-    let form = &query.form;
-    let shared = first_needed(
-        alloc, form, &masked, audit, &seen, query_sets, audit_sets, choices,
-    );
+    let shared = first_needed(alloc, &query.form, &masked, &seen, &audited);
     drop(seen);
     drop(masked);
     shared

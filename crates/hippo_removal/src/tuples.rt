@@ -5,26 +5,13 @@ ghost use Rattle.hippo_model.specs.Rows.{cell_at};
 ghost use Rattle.hippo_model.specs.RowSets.{key_in};
 ghost use Rattle.hippo_eval.specs.LentCells.{or_null};
 ghost use Rattle.hippo_join.specs.Places.{blank};
-ghost use Rattle.hippo_shared.specs.Sharing.{place_in, rows_named, key_at, has_tuple, common_tables};
+ghost use Rattle.hippo_shared.specs.Sharing.{rows_named, key_at, has_tuple, common_tables};
 ghost use Rattle.hippo_removal.specs.Removing.{tuple_of};
 
 use hippo_model::{Cells, Combo, Names, Sets, SharedRow, SharedTuple};
-use hippo_values::{Duplicate, Memory, Name, Sequence, Value};
+use hippo_shared::place_in;
+use hippo_values::{Duplicate, Memory, Sequence, Value};
 use std::alloc::Global;
-
-/// The place of a table among others, or their number where it is not among them.
-pub(crate) fn place_in(tables: &[Name], table: &Name) -> usize
-    ensures { result ≡ place_in tables.now table.now }
-{
-    let mut place = 0;
-    for other in tables {
-        if table == other {
-            return place;
-        }
-        place += 1;
-    }
-    place
-}
 
 // The columns of the key of a table's rows; none where no table stands at the place.
 fn key_columns<'a>(sets: &Sets<'a>, place: usize) -> &'a [usize]

@@ -6,5 +6,5 @@ use Rattle.hippo_removal.proofs.sharing.first_needed.Goals as goal
 pub returns : goal.returns
 returns g c =
     c.in_ok-walk.ensures [] refl
-    ∙ first_by_removal (g.C.ChoiceView.choices c.args.choices.now) c.args.query.now c.args.form.now c.args.audit.now c.args.seen.now c.args.query_sets.now c.args.audit_sets.now c.requires.audit_sets
+    ∙ first_by_removal (g.C.ChoiceView.choices c.args.audited.now.choices.now) c.args.query.now c.args.form.now c.args.audited.now.audit.now c.args.seen.now c.args.audited.now.query_sets.now c.args.audited.now.audit_sets.now c.requires.audit_sets
     _ (search rules) c.in_ok-common_sets.common_sets (search rules) c.in_ok-unmasked.unmasked c.in_ok-unmasked.ensures

@@ -9,10 +9,15 @@ use Rattle.hippo_watch.specs.Alarms.{ServesNow}
 use Rattle.hippo_watch.proofs.AlarmLemmas.{rows_same, those_of}
 use Rattle.hippo_watch.proofs.alarms.first_kept.Goals as goal
 
-pub shared_of-requires-clause-rows : goal.shared_of-requires-clause-rows
-shared_of-requires-clause-rows c =
-    rows_same c.args.asked.now.tables.now c.args.asked.now.query.now.tables c.args.audit.now.tables c.in_ok-query_sets.query_sets c.in_ok-audit_sets.audit_sets
-    c.requires.query c.requires.audit c.in_ok-query_sets.ensures.rows c.in_ok-audit_sets.ensures.rows
+pub shared_of-requires : goal.shared_of-requires
+shared_of-requires c = record {
+  query_sets = c.in_ok-query_sets.ensures.each;
+  audit_sets = c.in_ok-audit_sets.ensures.each;
+  tables = c.requires.differ;
+  rows =
+      rows_same c.args.asked.now.tables.now c.args.asked.now.query.now.tables c.args.audit.now.tables c.in_ok-query_sets.query_sets c.in_ok-audit_sets.audit_sets
+      c.requires.query c.requires.audit c.in_ok-query_sets.ensures.rows c.in_ok-audit_sets.ensures.rows;
+}
 
 pub returns : goal.returns
 returns c =
