@@ -189,7 +189,7 @@ impl Part for Act {
 }
 
 // How many bytes a body is given room for at first; few have more.
-const BODY_ROOM: usize = 128;
+const BODY_ROOM: usize = 256;
 
 /// The body of an entry.
 pub fn write_body(alloc: Global, entry: &Entry) -> Result<Vec<u8>, Memory>
