@@ -1,5 +1,5 @@
 -- A watch of a history, when one entry more is taken in or taken back; and what it shares with a question.
-use Rattle.std.proofs.Common.{◌≡◌, ◌∙◌, sym, ap, subst, List, [], ◌∷◌, ◌++◌, Option, None, Some}
+use Rattle.std.proofs.Common.{◌≡◌, ◌∙◌, sym, ap, subst, true, false, List, [], ◌∷◌, ◌++◌, Option, None, Some}
 use Rattle.hippo_values.specs.declared.names.Name.{Name}
 use Rattle.hippo_model.specs.declared.audit.Audit.{Audit}
 use Rattle.hippo_model.specs.declared.audit.SharedRow.{SharedRow}
@@ -21,7 +21,7 @@ use Rattle.hippo_hits.specs.Counts.{AreHits, HasNone, taken_in, taken_back}
 use Rattle.hippo_hits.proofs.ChangedCounts.{AreHits-no_version, AreHits-taken_in, AreHits-taken_back, audit_stays}
 use Rattle.hippo_watch.specs.declared.alarms.AskedNow.{AskedNow}
 use Rattle.hippo_watch.specs.Alarms.{SharesNext}
-use Rattle.hippo_watch.specs.Watches.{IsWatchOf, WasWatchOf, ComesNext, Follows, GoesBack, SharesWatched}
+use Rattle.hippo_watch.specs.Watches.{IsWatchOf, Follows, GoesBack, SharesWatched}
 use Rattle.hippo_watch.proofs.AlarmLemmas.{query, context, shared_then}
 use Rattle.hippo_model.specs.Validity.{is_valid}
 use Rattle.hippo_model.specs.Versions.{is_version}

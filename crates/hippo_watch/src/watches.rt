@@ -1,9 +1,9 @@
 //! Watches: standing audits, each with the counts of its hits.
-ghost use Rattle.std.specs.Prelude.{◌≡◌, slice_index_or, option_copied, bytes_eq, IfOk};
+ghost use Rattle.std.specs.Prelude.{◌≡◌, true, slice_index_or, option_copied, bytes_eq, IfOk};
 ghost use Rattle.std.specs.List.{IsDistinct};
 ghost use Rattle.hippo_model.specs.Terms.{History};
 ghost use Rattle.hippo_tables.specs.Standing.{StandsFor};
-ghost use Rattle.hippo_hits.specs.Counts.{AreHits, changed_hits};
+ghost use Rattle.hippo_hits.specs.Counts.{AreHits, HasNone, changed_hits};
 ghost use Rattle.hippo_watch.specs.Alarms.{AreOfSome};
 ghost use Rattle.hippo_watch.specs.Watches.{Follows, GoesBack, SharesWatched};
 
@@ -35,6 +35,22 @@ impl Model for Watch {
     ghost view = { λ watch. watch.held };
 
     ghost invariant = { λ watch. IsDistinct bytes_eq watch.held.audit.tables };
+}
+
+// Changes the counts as the act of the next entry changes them.
+fn take_in(held: &mut AuditHits, tables: &Tables, act: &Act)
+    ensures audit { held.new.audit ≡ held.old.audit }
+    ensures follows { Follows tables.now act.now held.old held.new }
+{
+    held.take_in(tables, act);
+}
+
+// Changes them back.
+fn take_back(held: &mut AuditHits, tables: &Tables, act: &Act)
+    ensures audit { held.new.audit ≡ held.old.audit }
+    ensures goes_back { GoesBack tables.now act.now held.old held.new }
+{
+    held.take_back(tables, act);
 }
 
 impl Watch {
@@ -78,7 +94,7 @@ impl Watch {
         ensures audit { self.new.audit ≡ self.old.audit }
         ensures follows { Follows tables.now act.now self.old self.new }
     {
-        self.held.take_in(tables, act);
+        take_in(&mut self.held, tables, act);
     }
 
     /// Changes the hits back where the act that was taken in last does not come, over the same tables. Takes no memory.
@@ -86,7 +102,14 @@ impl Watch {
         ensures audit { self.new.audit ≡ self.old.audit }
         ensures goes_back { GoesBack tables.now act.now self.old self.new }
     {
-        self.held.take_back(tables, act);
+        take_back(&mut self.held, tables, act);
+    }
+
+    // Whether some table has no hit.
+    fn has_none(&self) -> bool
+        ensures { result ≡ true → HasNone self.now.audit self.now.hits }
+    {
+        self.held.has_none()
     }
 
     /// What the audit shares with a question that is asked now: the first virtual tuple that serves, where the query is
@@ -96,7 +119,7 @@ impl Watch {
         requires some { AreOfSome asked.now.tables.now }
         ensures { IfOk result (SharesWatched asked.now self.now) }
     {
-        if self.held.has_none() {
+        if self.has_none() {
             Ok(None)
         } else {
             alarm(alloc, asked, self.audit())

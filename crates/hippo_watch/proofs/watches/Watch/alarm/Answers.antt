@@ -1,5 +1,5 @@
 -- Where a table has no hit, nothing is shared; where each has one, what the audit shares.
-use Rattle.std.proofs.Common.{subst, rules}
+use Rattle.std.proofs.Common.{subst}
 use Rattle.std.proofs.lemmas.Result.{IfOk-weaker}
 use Rattle.hippo_model.specs.declared.audit.Audit.{Audit}
 use Rattle.hippo_watch.specs.Alarms.{SharesNext}
