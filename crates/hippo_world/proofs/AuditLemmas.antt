@@ -1,5 +1,5 @@
 -- Jobs and watches that are held of a history: when an entry is added, where nothing is held, and when one is put there.
-use Rattle.std.proofs.Common.{◌≡◌, ◌∙◌, ◌<◌, sym, ap, subst, refl, arith, ℕ, zero, suc, ◌+◌, List, [], ◌∷◌, ◌++◌, map, length, get_or, Option, None, Some, true, false}
+use Rattle.std.proofs.Common.{◌≡◌, ◌∙◌, ◌<◌, sym, ap, subst, refl, arith, ℕ, zero, suc, List, [], ◌∷◌, ◌++◌, map, length, get_or, Option, None, Some, true, false}
 use Rattle.std.specs.Prelude.{IfSome, option_map, slice_set}
 use Rattle.std.specs.List.{All, AllByRecursion}
 use Rattle.std.proofs.lemmas.List.Elements.{filter_map-append}
@@ -19,7 +19,7 @@ use Rattle.hippo_combine.specs.Combining.{combine_terms}
 use Rattle.hippo_model.specs.declared.entry.Act.{Act}
 use Rattle.hippo_tables.specs.declared.tables.Tables.{Tables}
 use Rattle.hippo_hits.specs.declared.counts.AuditHits.{AuditHits}
-use Rattle.hippo_watch.specs.Watches.{IsWatchOf, WasWatchOf, ComesNext}
+use Rattle.hippo_watch.specs.Watches.{IsWatchOf, WasWatchOf}
 use Rattle.hippo_watch.proofs.WatchLemmas.{IsWatchOf-no_version}
 use Rattle.hippo_world.specs.declared.worlds.World.{World as HeldWorld}
 use Rattle.hippo_world.specs.Auditing.{HeldJob, taken_by, HasBegun, LooksAt, AreLooking, watched, AreWatching, AreAudits, EachFollows, EachGoesBack, all_handed}

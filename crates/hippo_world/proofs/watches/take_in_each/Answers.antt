@@ -1,5 +1,5 @@
 -- One more, which watches what it watched.
-use Rattle.std.proofs.Common.{◌≡◌, ◌∙◌, ◌<◌, [], ◌∷◌, ◌++◌, length, map, List, sym, ap, arith}
+use Rattle.std.proofs.Common.{◌≡◌, ◌∙◌, ◌<◌, [], ◌∷◌, ◌++◌, length, List, sym, ap, arith}
 use Rattle.std.specs.Prelude.{Option, IfSome, option_map}
 use Rattle.std.proofs.lemmas.List.{length-map}
 use Rattle.hippo_model.specs.declared.audit.Audit.{Audit}
