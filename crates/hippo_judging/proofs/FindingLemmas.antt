@@ -100,6 +100,24 @@ watch_there world session number found console there =
     ap (λ (n : ℕ). held_watch (world_of world) n number) console
     ∙ ap (λ (held : Option Audit). ok_or held (NoWatch number) >>= λ audit. Ok tt) (seen-at watched world.watches number ∙ ap (option_map watched) there)
 
+abbrev passed_by : Checked (Unit {0}) → Checked Audit → Checked (Unit {0})
+passed_by console found = console >>= λ _. found >>= λ audit. Ok tt
+
+abbrev deed_then : Checked (Unit {0}) → Checked Audit → deeds.Deed → Checked deeds.Deed
+deed_then console found deed = console >>= λ _. found >>= λ audit. Ok deed
+
+watch_first : (console : Checked (Unit {0})) (found : Checked Audit) (deed : deeds.Deed) (refusal : Refusal) → passed_by console found ≡ Err refusal → deed_then console found deed ≡ Err refusal
+watch_first (Ok passed) (Ok audit) deed refusal is = absurd cc
+watch_first (Ok passed) (Err other) deed refusal is = let same : other ≡ refusal = cc in ap Err same
+watch_first (Err other) found deed refusal is = let same : other ≡ refusal = cc in ap Err same
+
+-- ending a watch is refused where none stands
+pub refused_unwatch : (world : HeldWorld) (state : State) (session number : ℕ) (refusal : Refusal) → held_watch (world_of world) session number ≡ Err refusal
+    → length (refusal_line (Some session) refusal) ≤ reply_room → IsRefused (ask session (requests.unwatches number)) refusal state world
+refused_unwatch world state session number refusal is fits =
+    refused_so (ask session (requests.unwatches number)) refusal state world
+    (λ history stands. watch_first (by_console session) (ok_or (at_number (world_of world).watches number) (NoWatch number)) (deeds.end_watch number) refusal is) fits
+
 -- a step of a job that stands there, and its end
 module _ (world : HeldWorld) (state : State) (number : ℕ) (job : HeldJob) (there : at_number world.jobs number ≡ Some job) where
   seen : at_number (world_of world).jobs number ≡ Some (open_audit job)
