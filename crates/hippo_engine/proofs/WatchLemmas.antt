@@ -75,7 +75,7 @@ module _ (asked : AskedNow) where
   nobody_added number old = λ history entry next fits. sym (append-nil old)
 
   -- ---- all watches, one after the other
-  abbrev pub SoFar : List (Option Audit) → ℕ → Txt → Txt → Type 0
+  abbrev pub SoFar : List (Option AuditHits) → ℕ → Txt → Txt → Type 0
   SoFar watches place first now =
       (history : History) (entry : Entry) → IsAskedNext asked history entry → AreWatching history watches
       → now ++ alarms_from history entry (place + 1) (map (option_map watched) (drop place watches)) ≡ first ++ alarms_from history entry 1 (map (option_map watched) watches)
