@@ -1,14 +1,17 @@
 -- From the checks of a statement that changes something, and from recording its entry, to what carrying it out does.
-use Rattle.std.proofs.Common.{◌≡◌, ◌⊎◌, ◌∙◌, ◌≤◌, inl, inr, refl, sym, ap, subst, ℕ, Bool, length, Option, Some, true, false}
+use Rattle.std.proofs.Common.{◌≡◌, ◌⊎◌, ◌∙◌, ◌≤◌, ◌<◌, ◌+◌, ◌^◌, inl, inr, refl, sym, ap, subst, arith, ℕ, Bool, length, Option, Some, true, false}
 use Rattle.std.specs.Prelude.{codes, int_le, [], ◌∷◌, ◌++◌}
-use Rattle.std.proofs.lemmas.Bool.{false≢true}
+use Rattle.std.proofs.lemmas.Bool.{false≢true, and_from}
 use Rattle.hippo_values.specs.Texts.{Txt}
 use Rattle.hippo_model.specs.declared.entry.Entry.{Entry}
 use Rattle.hippo_model.specs.Terms.{History}
+use Rattle.hippo_model.specs.Validity.{may_follow, is_valid}
+use Rattle.hippo_laws.proofs.ValidFronts.{is_valid-append}
+use Rattle.hippo_typing.specs.Meanings.{meaning}
 use Rattle.hippo_keeper.specs.declared.faults.KeeperFault.{KeeperFault}
 use Rattle.hippo_keeper.specs.declared.faults.KeeperFault.TheVariants.{Failed, Memory}
 use Rattle.hippo_keeper.specs.Keeping.{KeeperState}
-use Rattle.hippo_replay.specs.Standing.{StandsFor, IsSound, IsTimely}
+use Rattle.hippo_replay.specs.Standing.{StandsFor, MayFollow, IsSound, IsTimely}
 use Rattle.hippo_replay.specs.Recording.{Records}
 use Rattle.hippo_replay.proofs.StateLemmas.{latest_moment-append}
 use Rattle.hippo_keeper.proofs.CallLemmas.{IsAfterCall-as}
@@ -19,8 +22,12 @@ use Rattle.hippo_report.specs.Notices.{number_line}
 use Rattle.hippo_report.specs.Refusals.{refusal_line}
 use Rattle.hippo_world.specs.declared.worlds.World.{World as HeldWorld}
 use Rattle.hippo_world.specs.Worlds.{World}
-use Rattle.hippo_world.specs.Holding.{world_of, JobsFit, taken_of, WatchesFit}
-use Rattle.hippo_world.proofs.AuditLemmas.{JobsFit-more, WatchesFit-more}
+use Rattle.hippo_tables.specs.declared.tables.Tables.{Tables}
+use Rattle.hippo_tables.specs.Standing.{StandsFor as TablesStandFor}
+use Rattle.hippo_watch.specs.Watches.{ComesNext}
+use Rattle.hippo_world.specs.Auditing.{AreLooking, AreAudits, all_handed}
+use Rattle.hippo_world.specs.Holding.{world_of, WatchesFollow, WatchesGoBack}
+use Rattle.hippo_world.proofs.AuditLemmas.{JobsFit-more, AreAudits-of}
 use Rattle.hippo_commands.specs.Commands.{Command, who_commands}
 use Rattle.hippo_engine.specs.declared.engine.Engine.{Engine}
 use Rattle.hippo_engine.specs.declared.faults.EngineFault.{EngineFault}
@@ -101,7 +108,7 @@ changes_by command entry engine is = record {
 
 module _ (command : Command) (entry : Entry) (old new : Engine) (before after : KeeperState) (steps : ℕ) (changes : Changes command entry old) (at_work : AtWork old before) where
   -- an entry that was added has the clock's moment
-  timely_more : ((history : History) → StandsFor old.state history → StandsFor new.state (history ++ entry ∷ [])) → new.world ≡ old.world → IsTimely new.state new.world.clock
+  timely_more : ((history : History) → StandsFor old.state history → StandsFor new.state (history ++ entry ∷ [])) → world_of new.world ≡ world_of old.world → IsTimely new.state new.world.clock
   timely_more added world_is =
       let history = at_work.sound.history in
       let stands = at_work.sound.stands in
@@ -111,17 +118,27 @@ module _ (command : Command) (entry : Entry) (old new : Engine) (before after : 
       same ∙ int_le-refl old.world.clock
 
   -- the last entry is that of before, where none was added
-  timely_same : ((history : History) → StandsFor old.state history → StandsFor new.state history) → new.world ≡ old.world → IsTimely new.state new.world.clock
+  timely_same : ((history : History) → StandsFor old.state history → StandsFor new.state history) → world_of new.world ≡ world_of old.world → IsTimely new.state new.world.clock
   timely_same stays world_is =
       let last : new.state.last ≡ old.state.last = (stays at_work.sound.history at_work.sound.stands).last ∙ sym at_work.sound.stands.last in
       let same : int_le new.state.last new.world.clock ≡ int_le old.state.last old.world.clock = λ i. int_le (last i) (world_is i).clock in
       same ∙ at_work.timely
 
+  -- the entry comes next after the history
+  comes_next : entry.seq < 2 ^ 63 → MayFollow old.state entry → (history : History) → StandsFor old.state history → (tables : Tables) → TablesStandFor tables history → ComesNext tables history entry
+  comes_next number follows history stands tables there =
+      let seq = ap (λ (e : Entry). e.seq) (changes.next history stands) in
+      record {
+        stands = there;
+        valid = is_valid-append meaning history entry ∙ and_from (is_valid meaning history) (may_follow meaning history entry) stands.valid (follows history stands);
+        few = omega (arith, number, seq);
+      }
+
   -- a change that was recorded
-  pub recorded : Records entry (well KeeperFault) old.state new.state before after → IsSound new.state
-      → new.world ≡ old.world → new.reply ≡ number_line 0 (codes "ok") entry.seq
+  pub recorded : entry.seq < 2 ^ 63 → MayFollow old.state entry → Records entry (well KeeperFault) old.state new.state before after → IsSound new.state
+      → world_of new.world ≡ world_of old.world → new.world.jobs ≡ old.world.jobs → WatchesFollow old.state.tables entry.act old.world new.world → new.reply ≡ number_line 0 (codes "ok") entry.seq
       → Carries command (well EngineFault) old new before after steps steps
-  recorded records sound world_is reply_is = record {
+  recorded number follows records sound world_is jobs_are follow reply_is = record {
     call = records.keeps.call;
     sound = λ fine. sound;
     timely = λ fine. timely_more records.ok world_is;
@@ -130,23 +147,24 @@ module _ (command : Command) (entry : Entry) (old new : Engine) (before after : 
       effect = changed (world_of old.world) entry;
       is = inl (sym (changes.adds history holds.stands));
       reply = reply_is;
-      world = ap world_of world_is;
+      world = world_is;
       holds = Holds-more history entry old new before after holds (records.ok history holds.stands)
-          (JobsFit-more history entry (records.ok history holds.stands).valid new.world (subst (JobsFit history) (sym world_is) holds.jobs))
-          (WatchesFit-more history entry (records.ok history holds.stands).valid new.world (subst (WatchesFit history) (sym world_is) holds.watches)) (records.keeps.kept tells);
+          (JobsFit-more history entry (records.ok history holds.stands).valid new.world (subst (AreLooking history) (sym jobs_are) holds.jobs))
+          (follow history entry refl (comes_next number follows history holds.stands old.state.tables holds.stands.tables) holds.watches) (records.keeps.kept tells);
       kept = records.keeps.kept tells;
-      counts = λ ample. none_taken refl (ap taken_of world_is);
+      counts = λ ample. none_taken refl (ap all_handed jobs_are);
       refused = λ refusal is others. refl;
     };
     failed = λ fails. absurd (false≢true fails);
     undamaged = λ tells history holds number damaged. cc;
   }
 
-  -- one that was not, since memory was short
-  pub unrecorded : Records entry (err_of (Unit {0}) Memory) old.state new.state before after → IsSound new.state
-      → new.world ≡ old.world → new.reply ≡ refusal_line (Some 0) refusals.Memory
+  -- one that was not, since memory was short: the watches followed, and went back
+  pub unrecorded : entry.seq < 2 ^ 63 → MayFollow old.state entry → Records entry (err_of (Unit {0}) Memory) old.state new.state before after → IsSound new.state
+      → (between : HeldWorld) → world_of between ≡ world_of old.world → WatchesFollow old.state.tables entry.act old.world between → WatchesGoBack new.state.tables entry.act between new.world
+      → world_of new.world ≡ world_of old.world → new.world.jobs ≡ old.world.jobs → new.reply ≡ refusal_line (Some 0) refusals.Memory
       → Carries command (well EngineFault) old new before after steps steps
-  unrecorded records sound world_is reply_is = record {
+  unrecorded number follows records sound between seen follow go_back world_is jobs_are reply_is = record {
     call = IsAfterCall-as true false (err_of (Unit {0}) Memory) (well KeeperFault) before after refl records.keeps.call;
     sound = λ fine. sound;
     timely = λ fine. timely_same (records.memory refl) world_is;
@@ -157,11 +175,15 @@ module _ (command : Command) (entry : Entry) (old new : Engine) (before after : 
           (only_reply (world_of old.world) (refusal_line who refusals.Memory)))
           changes.who (short history (world_of old.world) command changes.memory);
       reply = reply_is;
-      world = ap world_of world_is;
+      world = world_is;
       holds = Holds-same history old new before after holds (records.memory refl history holds.stands)
-          (subst (JobsFit history) (sym world_is) holds.jobs) (subst (WatchesFit history) (sym world_is) holds.watches) (records.keeps.same refl tells);
+          (subst (AreLooking history) (sym jobs_are) holds.jobs)
+          (go_back history entry refl (comes_next number follows history holds.stands new.state.tables (records.memory refl history holds.stands).tables)
+          (subst (λ (world : World). AreAudits history world.watches) (sym seen) (AreAudits-of history old.world.watches holds.watches))
+          (follow history entry refl (comes_next number follows history holds.stands old.state.tables holds.stands.tables) holds.watches))
+          (records.keeps.same refl tells);
       kept = records.keeps.same refl tells;
-      counts = λ ample. none_taken refl (ap taken_of world_is);
+      counts = λ ample. none_taken refl (ap all_handed jobs_are);
       refused = λ refusal is others. refl;
     };
     failed = λ fails. absurd (false≢true fails);

@@ -128,7 +128,7 @@ module _ (command : Command) (deed : Deed) (question : Question) (said : List Sh
       world = refl;
       holds = Holds-more history entry old new before after holds (kept.added history holds.stands)
           (JobsFit-more history entry (kept.added history holds.stands).valid new.world (JobsFit-same history old.world new.world same_audits holds.jobs))
-          (WatchesFit-more history entry (kept.added history holds.stands).valid new.world (WatchesFit-same history old.world new.world same_audits holds.watches)) (kept.keeps.kept tells);
+          (WatchesFit-more history entry (kept.added history holds.stands).valid new.world refl (WatchesFit-same history old.world new.world same_audits holds.watches)) (kept.keeps.kept tells);
       kept = kept.keeps.kept tells;
       counts = λ ample. none_taken refl (taken_of-same old.world new.world same_audits);
       refused = λ refusal is others. refl;

@@ -15,7 +15,8 @@ use hippo_report::Refusal;
 use std::alloc::Global;
 
 impl Engine {
-    // Replies with an entry's number, and records it; or replies that memory was short.
+    // Replies with an entry's number, has the watches count what it changes, and records it; or replies that memory was
+    // short, and the watches count as before.
     fn record_change<P: Keeper>(
         &mut self,
         alloc: Global,
@@ -30,10 +31,12 @@ impl Engine {
         ensures unwritten { result ≢ Err WriteFailed }
     {
         say_number(0, "ok", entry.seq, &mut self.reply);
+        self.world.take_in(&self.state.tables, &entry.act);
         match self.state.record(alloc, keeper, entry) {
             Ok(()) => Ok(()),
             Err(KeeperFault::Failed) => Err(EngineFault::Keeper),
             Err(KeeperFault::Memory) => {
+                self.world.take_back(&self.state.tables, &entry.act);
                 refuse(Some(0), &Refusal::Memory, &mut self.reply);
                 Ok(())
             }

@@ -142,7 +142,7 @@ impl Engine {
             Deed::Explain { entry } => return self.explain(alloc, keeper, entry, steps),
             Deed::Audit { audit } => return self.audit(alloc, keeper, audit, steps),
             Deed::BeginAudit { job, audit } => self.begin_audit(alloc, job, audit),
-            Deed::Watch { watch, audit } => self.watch(watch, audit),
+            Deed::Watch { watch, audit } => self.watch(alloc, watch, audit),
         }
         Ok(())
     }

@@ -18,15 +18,15 @@ ghost use Rattle.hippo_engine.specs.Carrying.{AddsNothing};
 ghost use Rattle.hippo_engine.specs.Watching.{AddsAlarm, AddsAlarms, alarms_now};
 
 use crate::engine::{Engine, Reply};
-use crate::replies::{say_done, say_number};
+use crate::replies::{refuse_for_memory, say_done, say_number};
 use hippo_audit_job::Past;
 use hippo_judging::Asking;
 use hippo_model::{Audit, Pair, Query, SharedTuple};
 use hippo_replay::State;
 use hippo_typing::read_meaning;
 use hippo_values::Memory;
-use hippo_watch::{AskedNow, alarm, alarm_line};
-use hippo_world::{Watch, World};
+use hippo_watch::{AskedNow, Watch, alarm_line};
+use hippo_world::World;
 use std::alloc::Global;
 
 // Adds the line by which a watch says what it shares with a question, if it does.
@@ -62,7 +62,7 @@ fn append_alarm(
 {
     match held {
         Some(watch) => {
-            let found = alarm(alloc, asked, watch.audit())?;
+            let found = watch.alarm(alloc, asked)?;
             append_found(number, asked.past.count + 1, found, out)
         }
         None => Ok(()),
@@ -179,14 +179,19 @@ pub(crate) fn alarms_of(
 }
 
 impl Engine {
-    /// Sets a watch at a number that is free. Takes no memory.
-    pub(crate) fn watch(&mut self, number: usize, audit: Audit)
+    /// Sets a watch at a number that is free; or says that memory was short for it.
+    pub(crate) fn watch(&mut self, alloc: Global, number: usize, audit: Audit)
         requires differ { IsDistinct bytes_eq audit.tables }
         ensures { (command : Command) → Does command (deeds.Watch number audit) self.old.state self.old.world
             → AddsNothing command self.old self.new }
     {
-        self.world.watches.put(number, Some(Watch::new(audit)));
-        say_number(0, "watch", number as u64, &mut self.reply);
+        match Watch::new(alloc, audit, &self.state.tables) {
+            Ok(watch) => {
+                self.world.watches.put(number, Some(watch));
+                say_number(0, "watch", number as u64, &mut self.reply);
+            }
+            Err(Memory) => refuse_for_memory(Some(0), &mut self.reply),
+        }
     }
 
     /// Ends a watch. Takes no memory.

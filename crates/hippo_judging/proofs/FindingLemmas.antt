@@ -10,14 +10,15 @@ use Rattle.hippo_model.specs.declared.statement.Stmt.TheVariants as stmt
 use Rattle.hippo_model.specs.Terms.{History}
 use Rattle.hippo_keeper.specs.Keeping.{KeeperState}
 use Rattle.hippo_audit_job.specs.Jobs.{OpenAudit, open_audit}
+use Rattle.hippo_hits.specs.declared.counts.AuditHits.{AuditHits}
 use Rattle.hippo_replay.specs.declared.state.State.{State}
 use Rattle.hippo_replay.specs.Standing.{StandsFor, MayFollow}
 use Rattle.hippo_report.specs.declared.refusal.Refusal.{Refusal}
-use Rattle.hippo_report.specs.declared.refusal.Refusal.TheVariants.{SessionsOnly, NoSession, NoJob, JobLimit, WatchLimit}
+use Rattle.hippo_report.specs.declared.refusal.Refusal.TheVariants.{SessionsOnly, NoSession, NoJob, NoWatch, JobLimit, WatchLimit}
 use Rattle.hippo_report.specs.Refusals.{refusal_line}
 use Rattle.hippo_world.specs.declared.sessions.Session.{Session}
 use Rattle.hippo_world.specs.declared.worlds.World.{World as HeldWorld}
-use Rattle.hippo_world.specs.Auditing.{HeldJob}
+use Rattle.hippo_world.specs.Auditing.{HeldJob, watched}
 use Rattle.hippo_world.specs.Holding.{world_of}
 use Rattle.hippo_world.specs.Worlds.{World, at_number, session_at, free_number}
 use Rattle.hippo_world.proofs.HeldLemmas.{seen-at, seen-free}
@@ -30,7 +31,7 @@ use Rattle.hippo_judging.specs.declared.deeds.Deed.{Deed}
 use Rattle.hippo_judging.specs.declared.deeds.Deed.TheVariants as kinds
 use Rattle.hippo_judging.specs.declared.deeds.Question.{Question}
 use Rattle.hippo_judging.specs.declared.deeds.Unjudged.{Unjudged}
-use Rattle.hippo_judging.specs.Checks.{Checked, Refuses, ◌>>=◌, refused_if, by_console, open_session, job_at, reply_room}
+use Rattle.hippo_judging.specs.Checks.{Checked, Refuses, ◌>>=◌, refused_if, by_console, open_session, job_at, held_watch, reply_room}
 use Rattle.hippo_judging.specs.Deeds as deeds
 use Rattle.hippo_judging.specs.Changes.{IsChange}
 use Rattle.hippo_judging.specs.Findings.{Adds, IsJudged, IsRefused, MayBeAsked, Means, Does, FindsDeed, deed_by, begun_with, set_with, unread, Judges, may_do_nothing}
@@ -91,6 +92,31 @@ pub no_job : (world : HeldWorld) (session number : ℕ) → session ≡ 0 → at
 no_job world session number console none =
     ap (λ (n : ℕ). job_at (world_of world) n number) console
     ∙ ap (λ (held : Option OpenAudit). ok_or held (NoJob number)) (seen-at open_audit world.jobs number ∙ ap (option_map open_audit) none)
+
+-- whether a watch stands at a number
+pub watch_there : (world : HeldWorld) (session number : ℕ) (found : Option AuditHits) → session ≡ 0 → at_number world.watches number ≡ found
+    → held_watch (world_of world) session number ≡ (ok_or (option_map watched found) (NoWatch number) >>= λ audit. Ok tt)
+watch_there world session number found console there =
+    ap (λ (n : ℕ). held_watch (world_of world) n number) console
+    ∙ ap (λ (held : Option Audit). ok_or held (NoWatch number) >>= λ audit. Ok tt) (seen-at watched world.watches number ∙ ap (option_map watched) there)
+
+abbrev passed_by : Checked (Unit {0}) → Checked Audit → Checked (Unit {0})
+passed_by console found = console >>= λ _. found >>= λ audit. Ok tt
+
+abbrev deed_then : Checked (Unit {0}) → Checked Audit → deeds.Deed → Checked deeds.Deed
+deed_then console found deed = console >>= λ _. found >>= λ audit. Ok deed
+
+watch_first : (console : Checked (Unit {0})) (found : Checked Audit) (deed : deeds.Deed) (refusal : Refusal) → passed_by console found ≡ Err refusal → deed_then console found deed ≡ Err refusal
+watch_first (Ok passed) (Ok audit) deed refusal is = absurd cc
+watch_first (Ok passed) (Err other) deed refusal is = let same : other ≡ refusal = cc in ap Err same
+watch_first (Err other) found deed refusal is = let same : other ≡ refusal = cc in ap Err same
+
+-- ending a watch is refused where none stands
+pub refused_unwatch : (world : HeldWorld) (state : State) (session number : ℕ) (refusal : Refusal) → held_watch (world_of world) session number ≡ Err refusal
+    → length (refusal_line (Some session) refusal) ≤ reply_room → IsRefused (ask session (requests.unwatches number)) refusal state world
+refused_unwatch world state session number refusal is fits =
+    refused_so (ask session (requests.unwatches number)) refusal state world
+    (λ history stands. watch_first (by_console session) (ok_or (at_number (world_of world).watches number) (NoWatch number)) (deeds.end_watch number) refusal is) fits
 
 -- a step of a job that stands there, and its end
 module _ (world : HeldWorld) (state : State) (number : ℕ) (job : HeldJob) (there : at_number world.jobs number ≡ Some job) where
@@ -155,7 +181,7 @@ module _ (state : State) (world : HeldWorld) (session : ℕ) (written : RawAudit
     begins one = ok_or (free_number (world_of world).jobs) JobLimit >>= λ number. Ok (deeds.begin_audit number one)
 
     abbrev sets : Audit → Checked deeds.Deed
-    sets one = ok_or (free_number world.watches) WatchLimit >>= λ number. Ok (deeds.watch number one)
+    sets one = ok_or (free_number (world_of world).watches) WatchLimit >>= λ number. Ok (deeds.watch number one)
 
     by_free : (found : Option ℕ) → free_number world.jobs ≡ found → begins audit ≡ (ok_or found JobLimit >>= λ number. Ok (deeds.begin_audit number audit))
     by_free found free = ap (λ (one : Option ℕ). ok_or one JobLimit >>= λ number. Ok (deeds.begin_audit number audit)) (seen-free open_audit world.jobs ∙ free)
@@ -172,13 +198,19 @@ module _ (state : State) (world : HeldWorld) (session : ℕ) (written : RawAudit
         refused_or_short (commands.state session (stmt.BeginAudit written) text) JobLimit state world refl
         (λ history stands. inl (judged_audit begins history stands ∙ by_free None free))
 
+    by_free_watch : (found : Option ℕ) → free_number world.watches ≡ found → sets audit ≡ (ok_or found WatchLimit >>= λ number. Ok (deeds.watch number audit))
+    by_free_watch found free = ap (λ (one : Option ℕ). ok_or one WatchLimit >>= λ number. Ok (deeds.watch number audit)) (seen-free watched world.watches ∙ free)
+
     -- a watch is set where a number is free
     pub may_watch : (found : Option ℕ) → free_number world.watches ≡ found → FindsDeed (commands.state session (stmt.Watch written) text) (set_with audit (ok_or found WatchLimit)) state world
-    may_watch (Some number) free =
-        (means, λ history stands. judged_audit sets history stands ∙ ap (λ (one : Option ℕ). ok_or one WatchLimit >>= λ number. Ok (deeds.watch number audit)) free)
+    may_watch (Some number) free = (
+      (written, text, ap (λ (n : ℕ). commands.state n (stmt.Watch written) text) console),
+      means,
+      λ history stands. judged_audit sets history stands ∙ by_free_watch (Some number) free,
+    )
     may_watch None free =
         refused_or_short (commands.state session (stmt.Watch written) text) WatchLimit state world refl
-        (λ history stands. inl (judged_audit sets history stands ∙ ap (λ (one : Option ℕ). ok_or one WatchLimit >>= λ number. Ok (deeds.watch number audit)) free))
+        (λ history stands. inl (judged_audit sets history stands ∙ by_free_watch None free))
 
 -- ---- questions
 module _ (command : Command) (state : State) (world : HeldWorld) (question : Question) where

@@ -157,7 +157,8 @@ Does command (kinds.BeginAudit number audit) state world =
     × Means audit state × (free_number world.jobs ≡ Some number)
     × IsJudged command state world (Ok (deeds.begin_audit number audit))
 Does command (kinds.Watch number audit) state world =
-    Means audit state × IsJudged command state world (Ok (deeds.watch number audit))
+    ((written : RawAudit) × (text : Txt) × (command ≡ commands.state 0 (stmt.Watch written) text))
+    × Means audit state × IsJudged command state world (Ok (deeds.watch number audit))
 
 -- a command that names no logged question does this, or is refused
 abbrev pub FindsDeed : Command → Result Deed Refusal → State → HeldWorld → Type 0

@@ -125,10 +125,10 @@ front_is : (history : History) → take (length history + 1 - 1) history ≡ his
 front_is history = take_all (length history + 1 - 1) history (omega arith)
 
 module _ (asked : AskedNow) (audit : Audit) where
-  abbrev query : Query
+  abbrev pub query : Query
   query = asked.query.now
 
-  abbrev context : Context
+  abbrev pub context : Context
   context = context_of asked.pair.now asked.moment
 
   shared_next : (history : History) (user : Name) (text : Txt) → meaning history text ≡ Some query → shared meaning history audit (asked_next history asked.moment user asked.pair.now text) ≡ shared_by history context query audit
@@ -139,7 +139,7 @@ module _ (asked : AskedNow) (audit : Audit) where
   abbrev where_candidate : History → Bool → Option (List SharedRow)
   where_candidate history test = if test then first_serving history context query audit else None
 
-  shared_then : (history : History) (entry : Entry) → IsAskedNext asked history entry → shared meaning history audit entry ≡ shared_by history context query audit
+  pub shared_then : (history : History) (entry : Entry) → IsAskedNext asked history entry → shared meaning history audit entry ≡ shared_by history context query audit
   shared_then history entry next = ap (shared meaning history audit) next.is ∙ shared_next history next.user next.text next.means
 
   -- a candidate shares what serves first

@@ -1,1 +1,2 @@
 pub mod AlarmLemmas
+pub mod WatchLemmas

@@ -1,2 +1,3 @@
 pub mod Alarms
 pub mod AlarmLines
+pub mod Watches

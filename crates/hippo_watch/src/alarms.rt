@@ -88,7 +88,7 @@ fn first_now(
 /// What an audit shares with a question that is asked now: the first virtual tuple that serves, where the query is a
 /// candidate; none exactly where the audit does not flag the question. Wants an audit that names no table twice. The
 /// error is want of memory.
-pub fn alarm(
+pub(crate) fn alarm(
     alloc: Global,
     asked: &AskedNow<'_>,
     audit: &Audit,

@@ -1,7 +1,7 @@
 -- Jobs and watches that are held of a history: when an entry is added, where nothing is held, and when one is put there.
-use Rattle.std.proofs.Common.{◌≡◌, ◌∙◌, sym, ap, subst, refl, ℕ, zero, suc, List, [], ◌∷◌, ◌++◌, map, length, Option, None, Some, true}
+use Rattle.std.proofs.Common.{◌≡◌, ◌∙◌, ◌<◌, sym, ap, subst, refl, arith, ℕ, zero, suc, List, [], ◌∷◌, ◌++◌, map, length, get_or, Option, None, Some, true, false}
 use Rattle.std.specs.Prelude.{IfSome, option_map, slice_set}
-use Rattle.std.specs.List.{AllByRecursion}
+use Rattle.std.specs.List.{All, AllByRecursion}
 use Rattle.std.proofs.lemmas.List.Elements.{filter_map-append}
 use Rattle.hippo_values.specs.Limits.{job_limit, watch_limit}
 use Rattle.hippo_values.specs.declared.moments.Moment.{Moment}
@@ -9,15 +9,21 @@ use Rattle.hippo_model.specs.declared.audit.Audit.{Audit}
 use Rattle.hippo_model.specs.declared.entry.Entry.{Entry}
 use Rattle.hippo_model.specs.Terms.{History}
 use Rattle.hippo_model.specs.Validity.{is_valid}
+use Rattle.hippo_model.specs.Versions.{is_version}
 use Rattle.hippo_report.specs.declared.format.Format.{Format}
 use Rattle.hippo_typing.specs.Meanings.{meaning}
 use Rattle.hippo_audit_job.specs.Examining.{IsAuditOf}
 use Rattle.hippo_audit_job.specs.Jobs.{open_audit}
-use Rattle.hippo_audit_job.proofs.JobLemmas.{IsAuditOf-longer, IsSound-new, JobFits-new, JobFits-grown}
+use Rattle.hippo_audit_job.proofs.JobLemmas.{IsSound-new, JobFits-new, JobFits-grown}
 use Rattle.hippo_combine.specs.Combining.{combine_terms}
+use Rattle.hippo_model.specs.declared.entry.Act.{Act}
+use Rattle.hippo_tables.specs.declared.tables.Tables.{Tables}
+use Rattle.hippo_hits.specs.declared.counts.AuditHits.{AuditHits}
+use Rattle.hippo_watch.specs.Watches.{IsWatchOf, WasWatchOf}
+use Rattle.hippo_watch.proofs.WatchLemmas.{IsWatchOf-no_version}
 use Rattle.hippo_world.specs.declared.worlds.World.{World as HeldWorld}
-use Rattle.hippo_world.specs.Auditing.{HeldJob, taken_by, HasBegun, LooksAt, AreLooking, AreWatching, all_handed}
-use Rattle.hippo_world.specs.Holding.{world_of, KeepsAudits, JobsFit, WatchesFit, taken_of}
+use Rattle.hippo_world.specs.Auditing.{HeldJob, taken_by, HasBegun, LooksAt, AreLooking, watched, AreWatching, AreAudits, EachFollows, EachGoesBack, all_handed}
+use Rattle.hippo_world.specs.Holding.{world_of, KeepsAudits, JobsFit, WatchesFit, WatchesFollow, WatchesGoBack, taken_of}
 use Rattle.hippo_world.specs.Worlds.{World, with_at, none_held, opening}
 use Rattle.hippo_world.proofs.HeldLemmas.{StandsAt}
 
@@ -56,10 +62,10 @@ module _ (history : History) (entry : Entry) (valid : is_valid meaning (history 
   pub JobsFit-more : (held : HeldWorld) → JobsFit history held → JobsFit (history ++ entry ∷ []) held
   JobsFit-more held fit = each_held (LooksAt history) (LooksAt (history ++ entry ∷ [])) looks_on held.jobs fit
 
-  -- and so do watches
-  pub WatchesFit-more : (held : HeldWorld) → WatchesFit history held → WatchesFit (history ++ entry ∷ []) held
-  WatchesFit-more held fit =
-      each_held (IsAuditOf history) (IsAuditOf (history ++ entry ∷ [])) (λ audit is. IsAuditOf-longer history (entry ∷ []) valid audit is) held.watches fit
+  -- and so do watches, where it changes no row
+  pub WatchesFit-more : (held : HeldWorld) → is_version entry.act ≡ false → WatchesFit history held → WatchesFit (history ++ entry ∷ []) held
+  WatchesFit-more held none fit =
+      each_held (IsWatchOf history) (IsWatchOf (history ++ entry ∷ [])) (λ watch is. IsWatchOf-no_version history entry valid watch none is) held.watches fit
 
 module _ (history : History) (old new : HeldWorld) (keeps : KeepsAudits old new) where
   -- jobs and watches that are the same fit still
@@ -74,14 +80,15 @@ pub taken_of-same : (old new : HeldWorld) → KeepsAudits old new → taken_of n
 taken_of-same old new keeps = ap all_handed keeps.jobs
 
 -- nothing is held where nothing is seen
-none_there : (places : List (Option HeldJob)) (count : ℕ) → map (option_map open_audit) places ≡ none_held count → places ≡ none_held count
-none_there [] zero is = refl
-none_there [] (suc count) is = absurd cc
-none_there (first ∷ rest) zero is = absurd cc
-none_there (None ∷ rest) (suc count) is =
-    let later : map (option_map open_audit) rest ≡ none_held count = cc in
-    ap (λ (places : List (Option HeldJob)). None ∷ places) (none_there rest count later)
-none_there (Some job ∷ rest) (suc count) is = absurd cc
+module _ {A B : Type 0} (f : A → B) where
+  none_there : (places : List (Option A)) (count : ℕ) → map (option_map f) places ≡ none_held count → places ≡ none_held count
+  none_there [] zero is = refl
+  none_there [] (suc count) is = absurd cc
+  none_there (first ∷ rest) zero is = absurd cc
+  none_there (None ∷ rest) (suc count) is =
+      let later : map (option_map f) rest ≡ none_held count = cc in
+      ap (λ (places : List (Option A)). None ∷ places) (none_there rest count later)
+  none_there (Some one ∷ rest) (suc count) is = absurd cc
 
 none_look : (history : History) (count : ℕ) → AreLooking history (none_held count)
 none_look history zero = tt
@@ -97,7 +104,7 @@ none_handed (suc count) = none_handed count
 
 module _ (held : HeldWorld) (clock : Moment) (limit : ℕ) (format : Format) (opens : world_of held ≡ opening clock limit format) where
   no_jobs : (count : ℕ) → (opening clock limit format).jobs ≡ none_held count → held.jobs ≡ none_held count
-  no_jobs count is = none_there held.jobs count (ap (λ (world : World). world.jobs) opens ∙ is)
+  no_jobs count is = none_there open_audit held.jobs count (ap (λ (world : World). world.jobs) opens ∙ is)
 
   -- no job is held where a run begins
   pub JobsFit-opening : (history : History) → JobsFit history held
@@ -106,9 +113,12 @@ module _ (held : HeldWorld) (clock : Moment) (limit : ℕ) (format : Format) (op
   pub taken_of-opening : taken_of held ≡ []
   taken_of-opening = ap all_handed (no_jobs job_limit refl) ∙ none_handed job_limit
 
+  no_watches : (count : ℕ) → (opening clock limit format).watches ≡ none_held count → held.watches ≡ none_held count
+  no_watches count is = none_there watched held.watches count (ap (λ (world : World). world.watches) opens ∙ is)
+
   -- nor any watch
   pub none_watched : held.watches ≡ none_held watch_limit
-  none_watched = ap (λ (world : World). world.watches) opens
+  none_watched = no_watches watch_limit refl
 
   pub WatchesFit-opening : (history : History) → WatchesFit history held
   WatchesFit-opening history = subst (AreWatching history) (sym none_watched) (none_watch history watch_limit)
@@ -153,3 +163,40 @@ LooksAt-written history job looks = record {
     once = looks.fits.once;
   };
 }
+
+-- ---- watches when an entry is taken in, and taken back
+module _ {A : Type 0} (P : A → Type 0) where
+  all_here : (places : List A) → AllByRecursion P places → All P places
+  all_here places all = λ k d within. there places k d all within
+    where
+      there : (places : List A) (k : ℕ) (d : A) → AllByRecursion P places → k < length places → P (get_or places k d)
+      there [] k d all within = absurd (omega (arith, within))
+      there (first ∷ rest) zero d all within = all.0
+      there (first ∷ rest) (suc k) d all within = there rest k d all.1 (omega (arith, within))
+
+  each_of_all : (places : List A) → All P places → AllByRecursion P places
+  each_of_all [] all = tt
+  each_of_all (first ∷ rest) all = (all 0 first (omega arith), each_of_all rest (λ k d within. all (suc k) d (omega (arith, within))))
+
+-- watches of a history have audits of it
+pub AreAudits-of : (history : History) (watches : List (Option AuditHits)) → AreWatching history watches → AreAudits history (map (option_map watched) watches)
+AreAudits-of history [] all = tt
+AreAudits-of history (None ∷ rest) all = (tt, AreAudits-of history rest all.1)
+AreAudits-of history (Some watch ∷ rest) all = (all.0.audit_is, AreAudits-of history rest all.1)
+
+both_held : (history : History) (entry : Entry) (watches : List (Option AuditHits)) → AreAudits history (map (option_map watched) watches) → AreWatching (history ++ entry ∷ []) watches
+    → AllByRecursion (λ held. IfSome held (WasWatchOf history entry)) watches
+both_held history entry [] audits all = tt
+both_held history entry (None ∷ rest) audits all = (tt, both_held history entry rest audits.1 all.1)
+both_held history entry (Some watch ∷ rest) audits all = (record { audit_is = audits.0; is_now = all.0 }, both_held history entry rest audits.1 all.1)
+
+module _ (tables : Tables) (act : Act) (old new : HeldWorld) where
+  pub WatchesFollow-each : EachFollows tables act old.watches new.watches → WatchesFollow tables act old new
+  WatchesFollow-each each = λ history entry is next fit.
+      each_of_all (λ held. IfSome held (IsWatchOf (history ++ entry ∷ []))) new.watches
+      (each history entry is next (all_here (λ held. IfSome held (IsWatchOf history)) old.watches fit))
+
+  pub WatchesGoBack-each : EachGoesBack tables act old.watches new.watches → WatchesGoBack tables act old new
+  WatchesGoBack-each each = λ history entry is next audits fit.
+      each_of_all (λ held. IfSome held (IsWatchOf history)) new.watches
+      (each history entry is next (all_here (λ held. IfSome held (WasWatchOf history entry)) old.watches (both_held history entry old.watches audits fit)))

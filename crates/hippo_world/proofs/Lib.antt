@@ -2,3 +2,4 @@ mod WorldsExamples
 pub mod NumberLemmas
 pub mod HeldLemmas
 pub mod AuditLemmas
+pub mod SlotLemmas

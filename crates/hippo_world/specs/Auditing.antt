@@ -1,8 +1,13 @@
 -- The audit jobs and watches that a run holds, and what they have to do with a history.
-use Rattle.std.specs.Prelude.{◌≡◌, ℕ, List, Option, IfSome, option_map, filter_map}
-use Rattle.std.specs.List.{AllByRecursion}
+use Rattle.std.specs.Prelude.{◌≡◌, ℕ, List, [], ◌∷◌, ◌++◌, Option, IfSome, option_map, filter_map}
+use Rattle.std.specs.List.{All, AllByRecursion}
 use Rattle.hippo_model.specs.declared.audit.Audit.{Audit}
+use Rattle.hippo_model.specs.declared.entry.Act.{Act}
+use Rattle.hippo_model.specs.declared.entry.Entry.{Entry}
 use Rattle.hippo_model.specs.Terms.{History}
+use Rattle.hippo_tables.specs.declared.tables.Tables.{Tables}
+use Rattle.hippo_hits.specs.declared.counts.AuditHits.{AuditHits}
+use Rattle.hippo_watch.specs.Watches.{IsWatchOf, WasWatchOf, ComesNext}
 use Rattle.hippo_audit_job.specs.declared.jobs.Job.{Job}
 use Rattle.hippo_audit_job.specs.Examining.{IsAuditOf, IsNew}
 use Rattle.hippo_audit_job.specs.Jobs.{IsSound, JobFits, new_job}
@@ -32,9 +37,41 @@ pub record LooksAt (history : History) (job : HeldJob) : Type 0 where
 abbrev pub AreLooking : History → List (Option HeldJob) → Type 0
 AreLooking history jobs = AllByRecursion (λ held. IfSome held (LooksAt history)) jobs
 
--- each watch that is held is an audit of a history
-abbrev pub AreWatching : History → List (Option Audit) → Type 0
-AreWatching history watches = AllByRecursion (λ held. IfSome held (IsAuditOf history)) watches
+-- what a watch watches
+abbrev pub watched : AuditHits → Audit
+watched watch = watch.audit
+
+-- each watch that is held is one of a history
+abbrev pub AreWatching : History → List (Option AuditHits) → Type 0
+AreWatching history watches = AllByRecursion (λ held. IfSome held (IsWatchOf history)) watches
+
+-- each audit that is held is one of a history
+abbrev pub AreAudits : History → List (Option Audit) → Type 0
+AreAudits history audits = AllByRecursion (λ held. IfSome held (IsAuditOf history)) audits
+
+-- what stands at a number follows, or goes back
+abbrev pub OneFollows : Tables → Act → Option AuditHits → Option AuditHits → Type 0
+OneFollows tables act old new =
+    (history : History) (entry : Entry) → entry.act ≡ act → ComesNext tables history entry
+    → IfSome old (IsWatchOf history) → IfSome new (IsWatchOf (history ++ entry ∷ []))
+
+abbrev pub OneGoesBack : Tables → Act → Option AuditHits → Option AuditHits → Type 0
+OneGoesBack tables act old new =
+    (history : History) (entry : Entry) → entry.act ≡ act → ComesNext tables history entry
+    → IfSome old (WasWatchOf history entry) → IfSome new (IsWatchOf history)
+
+-- what stands at each number does
+abbrev pub EachFollows : Tables → Act → List (Option AuditHits) → List (Option AuditHits) → Type 0
+EachFollows tables act old new =
+    (history : History) (entry : Entry) → entry.act ≡ act → ComesNext tables history entry
+    → All (λ held. IfSome held (IsWatchOf history)) old
+    → All (λ held. IfSome held (IsWatchOf (history ++ entry ∷ []))) new
+
+abbrev pub EachGoesBack : Tables → Act → List (Option AuditHits) → List (Option AuditHits) → Type 0
+EachGoesBack tables act old new =
+    (history : History) (entry : Entry) → entry.act ≡ act → ComesNext tables history entry
+    → All (λ held. IfSome held (WasWatchOf history entry)) old
+    → All (λ held. IfSome held (IsWatchOf history)) new
 
 -- how many versions each job that is held was handed, in the order of their numbers
 abbrev pub all_handed : List (Option HeldJob) → List ℕ

@@ -1,9 +1,13 @@
 -- What the code's world holds, as the record of definitions, and beside it.
-use Rattle.std.specs.Prelude.{◌≡◌, ℕ, List, map, option_map}
+use Rattle.std.specs.Prelude.{◌≡◌, ℕ, List, [], ◌∷◌, ◌++◌, map, option_map}
+use Rattle.hippo_model.specs.declared.entry.Act.{Act}
+use Rattle.hippo_model.specs.declared.entry.Entry.{Entry}
 use Rattle.hippo_model.specs.Terms.{History}
+use Rattle.hippo_tables.specs.declared.tables.Tables.{Tables}
+use Rattle.hippo_watch.specs.Watches.{ComesNext}
 use Rattle.hippo_audit_job.specs.Jobs.{open_audit}
 use Rattle.hippo_world.specs.declared.worlds.World.{World as HeldWorld}
-use Rattle.hippo_world.specs.Auditing.{AreLooking, AreWatching, all_handed}
+use Rattle.hippo_world.specs.Auditing.{AreLooking, watched, AreWatching, AreAudits, all_handed}
 use Rattle.hippo_world.specs.Worlds.{World}
 
 abbrev pub world_of : HeldWorld → World
@@ -13,7 +17,7 @@ world_of held = record {
   format = held.format;
   sessions = held.sessions;
   jobs = map (option_map open_audit) held.jobs;
-  watches = held.watches;
+  watches = map (option_map watched) held.watches;
 }
 
 -- the jobs and watches are the same
@@ -28,6 +32,18 @@ JobsFit history held = AreLooking history held.jobs
 -- what the watches hold is that of a history
 abbrev pub WatchesFit : History → HeldWorld → Type 0
 WatchesFit history held = AreWatching history held.watches
+
+-- the watches of a history are those of it with an entry more
+abbrev pub WatchesFollow : Tables → Act → HeldWorld → HeldWorld → Type 0
+WatchesFollow tables act old new =
+    (history : History) (entry : Entry) → entry.act ≡ act → ComesNext tables history entry
+    → WatchesFit history old → WatchesFit (history ++ entry ∷ []) new
+
+-- and those of it with an entry more, whose audits are its own, are those without
+abbrev pub WatchesGoBack : Tables → Act → HeldWorld → HeldWorld → Type 0
+WatchesGoBack tables act old new =
+    (history : History) (entry : Entry) → entry.act ≡ act → ComesNext tables history entry
+    → AreAudits history (world_of old).watches → WatchesFit (history ++ entry ∷ []) old → WatchesFit history new
 
 -- how many steps each open job has taken, in the order of their numbers
 abbrev pub taken_of : HeldWorld → List ℕ

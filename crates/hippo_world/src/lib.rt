@@ -12,5 +12,4 @@ pub use audit_jobs::AuditJob;
 pub use cursors::Cursor;
 pub use numbered::Numbered;
 pub use sessions::Session;
-pub use watches::Watch;
 pub use worlds::World;

@@ -12,7 +12,7 @@ use std::mem;
 /// Numbers from 1 on, so many as there were when it was made, each of which holds something or nothing.
 #[derive(Drop)]
 pub struct Numbered<T> {
-    places: Vec<Option<T>>,
+    pub(crate) places: Vec<Option<T>>,
 }
 
 impl<T> Model for Numbered<T> {

@@ -1,45 +1,63 @@
-//! Watches: audits of what is asked from now on.
-ghost use Rattle.std.specs.Prelude.{◌≡◌, bytes_eq};
-ghost use Rattle.std.specs.List.{IsDistinct};
+//! Watches at their numbers: what an act that comes next changes in them.
+ghost use Rattle.std.specs.Prelude.{◌≡◌, map, option_map};
+ghost use Rattle.hippo_world.specs.Auditing.{watched, OneFollows, OneGoesBack, EachFollows, EachGoesBack};
 
-use hippo_model::Audit;
-use std::marker::Model;
+use crate::numbered::Numbered;
+use hippo_model::Act;
+use hippo_tables::Tables;
+use hippo_watch::Watch;
 
-/// An audit of what is asked from now on. No table is named twice in it.
-#[derive(Drop)]
-pub struct Watch {
-    audit: Audit,
+fn take_in_one(held: &mut Option<Watch>, tables: &Tables, act: &Act)
+    ensures audit { option_map watched held.new ≡ option_map watched held.old }
+    ensures follows { OneFollows tables.now act.now held.old held.new }
+{
+    if let Some(watch) = held {
+        watch.take_in(tables, act);
+    }
 }
 
-impl Model for Watch {
-    ghost use Rattle.std.specs.Prelude.{bytes_eq};
-    ghost use Rattle.std.specs.List.{IsDistinct};
-    ghost use Rattle.hippo_model.specs.contracts.audit.Audit.{the_row};
-    ghost use Rattle.hippo_model.specs.declared.audit.Audit as audits;
-
-    ghost Value = { audits.Audit };
-
-    ghost coded = { the_row.coded };
-
-    ghost view = { λ watch. watch.audit };
-
-    ghost invariant = { λ watch. IsDistinct bytes_eq watch.audit.tables };
+fn take_back_one(held: &mut Option<Watch>, tables: &Tables, act: &Act)
+    ensures audit { option_map watched held.new ≡ option_map watched held.old }
+    ensures goes_back { OneGoesBack tables.now act.now held.old held.new }
+{
+    if let Some(watch) = held {
+        watch.take_back(tables, act);
+    }
 }
 
-impl Watch {
-    /// A watch by an audit; takes no memory.
-    pub fn new(audit: Audit) -> Watch
-        requires differ { IsDistinct bytes_eq audit.tables }
-        ensures { result ≡ audit }
+fn take_in_each(watches: &mut [Option<Watch>], tables: &Tables, act: &Act)
+    ensures audits { map (option_map watched) watches.new ≡ map (option_map watched) watches.old }
+    ensures follow { EachFollows tables.now act.now watches.old watches.new }
+{
+    for place in 0..watches.len() {
+        take_in_one(&mut watches[place], tables, act);
+    }
+}
+
+fn take_back_each(watches: &mut [Option<Watch>], tables: &Tables, act: &Act)
+    ensures audits { map (option_map watched) watches.new ≡ map (option_map watched) watches.old }
+    ensures go_back { EachGoesBack tables.now act.now watches.old watches.new }
+{
+    for place in 0..watches.len() {
+        take_back_one(&mut watches[place], tables, act);
+    }
+}
+
+impl Numbered<Watch> {
+    /// Changes the counts of each watch as the act of the next entry changes them, over the tables as they are before
+    /// it. Takes no memory.
+    pub(crate) fn take_in(&mut self, tables: &Tables, act: &Act)
+        ensures audits { map (option_map watched) self.new ≡ map (option_map watched) self.old }
+        ensures follow { EachFollows tables.now act.now self.old self.new }
     {
-        Watch { audit }
+        take_in_each(&mut self.places, tables, act);
     }
 
-    /// What is watched.
-    pub fn audit(&self) -> &Audit
-        ensures is { result.now ≡ self.now }
-        ensures differ { IsDistinct bytes_eq self.now.tables }
+    /// Changes them back where the act that was taken in last does not come, over the same tables. Takes no memory.
+    pub(crate) fn take_back(&mut self, tables: &Tables, act: &Act)
+        ensures audits { map (option_map watched) self.new ≡ map (option_map watched) self.old }
+        ensures go_back { EachGoesBack tables.now act.now self.old self.new }
     {
-        &self.audit
+        take_back_each(&mut self.places, tables, act);
     }
 }

@@ -3,16 +3,17 @@ ghost use Rattle.std.specs.Prelude.{◌≡◌, Some, None, option_copied, IfOk, 
 ghost use Rattle.hippo_world.specs.declared.cursors.Cursor.{Cursor as KeptCursor};
 ghost use Rattle.hippo_world.specs.declared.sessions.Session.{Session as KeptSession};
 ghost use Rattle.hippo_world.specs.Worlds.{at_number, session_at, with_session, with_cursor, new_session, new_cursor, moved_on, opening};
-ghost use Rattle.hippo_world.specs.Holding.{world_of, KeepsAudits};
+ghost use Rattle.hippo_world.specs.Holding.{world_of, KeepsAudits, WatchesFollow, WatchesGoBack};
 
 use crate::audit_jobs::AuditJob;
 use crate::cursors::Cursor;
 use crate::numbered::Numbered;
 use crate::sessions::Session;
-use crate::watches::Watch;
-use hippo_model::{Answer, Pair};
+use hippo_model::{Act, Answer, Pair};
 use hippo_report::Format;
+use hippo_tables::Tables;
 use hippo_values::{JOB_LIMIT, Memory, Moment, Name, SESSION_LIMIT, WATCH_LIMIT};
+use hippo_watch::Watch;
 use std::alloc::Global;
 
 /// The clock, how many entries the history may have, the format of flags, and the open sessions, audit jobs and watches.
@@ -129,5 +130,24 @@ impl World {
             session.move_on(cursor, count);
             self.sessions.put(usize::from(number), Some(session));
         }
+    }
+
+    /// Changes the hits of each watch as the act of the next entry changes them, over the tables as they are before it.
+    /// Takes no memory.
+    pub fn take_in(&mut self, tables: &Tables, act: &Act)
+        ensures world { world_of self.new ≡ world_of self.old }
+        ensures jobs { self.new.jobs ≡ self.old.jobs }
+        ensures follow { WatchesFollow tables.now act.now self.old self.new }
+    {
+        self.watches.take_in(tables, act);
+    }
+
+    /// Changes them back where the act that was taken in last does not come, over the same tables. Takes no memory.
+    pub fn take_back(&mut self, tables: &Tables, act: &Act)
+        ensures world { world_of self.new ≡ world_of self.old }
+        ensures jobs { self.new.jobs ≡ self.old.jobs }
+        ensures go_back { WatchesGoBack tables.now act.now self.old self.new }
+    {
+        self.watches.take_back(tables, act);
     }
 }

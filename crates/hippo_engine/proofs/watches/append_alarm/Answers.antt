@@ -1,7 +1,4 @@
 -- What it shares with the question is said; where nothing stands, nothing is.
-use Rattle.std.proofs.Common.{subst}
-use Rattle.hippo_model.specs.declared.audit.Audit.{Audit}
-use Rattle.hippo_watch.specs.Alarms.{SharesNext}
 use Rattle.hippo_engine.proofs.WatchLemmas.{alarm_printed, nobody_added}
 use Rattle.hippo_engine.proofs.watches.append_alarm.Goals as goal
 
@@ -9,8 +6,7 @@ pub returns-in_ok-found-in-Some : goal.returns-in_ok-found-in-Some
 returns-in_ok-found-in-Some c =
     rw c.in-Some.is
     (alarm_printed c.args.asked.now c.args.number c.in-Some.watch c.args.out.now c.append_found.new.out c.in_ok-found-in-Some.found c.append_found.result
-    (subst (λ (audit : Audit). SharesNext c.args.asked.now audit c.in_ok-found-in-Some.found) c.audit.ensures.is c.in_ok-found-in-Some.ensures)
-    c.append_found.ensures)
+    c.in_ok-found-in-Some.ensures c.append_found.ensures)
 
 pub returns-in-None : goal.returns-in-None
 returns-in-None c = rw c.in-None.is (nobody_added c.args.asked.now c.args.number c.args.out.now)

@@ -41,7 +41,7 @@ pub begin_audit-requires : goal.begin_audit-requires
 begin_audit-requires g c = let needs = rw c.in-BeginAudit.is at c.requires.needs in record { differ = needs.1.1.differ }
 
 pub watch-requires : goal.watch-requires
-watch-requires g c = let needs = rw c.in-Watch.is at c.requires.needs in record { differ = needs.1.0.differ }
+watch-requires g c = let needs = rw c.in-Watch.is at c.requires.needs in record { differ = needs.1.1.differ }
 
 pub returns-in-DoNothing-clause-performs : goal.returns-in-DoNothing-clause-performs
 returns-in-DoNothing-clause-performs g c =

@@ -1,0 +1,4 @@
+pub mod OwnColumns
+pub mod ChangedRows
+pub mod ChangedCounts
+pub mod Counting

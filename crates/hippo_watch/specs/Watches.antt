@@ -1,0 +1,50 @@
+-- What a watch has to do with a history: before and after one entry more, and what it shares with a question.
+use Rattle.std.specs.Prelude.{◌≡◌, ◌<◌, true, List, [], ◌∷◌, ◌++◌, length, Option}
+use Rattle.hippo_model.specs.declared.audit.SharedRow.{SharedRow}
+use Rattle.hippo_model.specs.declared.entry.Act.{Act}
+use Rattle.hippo_model.specs.declared.entry.Entry.{Entry}
+use Rattle.hippo_model.specs.Terms.{History}
+use Rattle.hippo_model.specs.Audits.{shared}
+use Rattle.hippo_model.specs.Validity.{is_valid}
+use Rattle.hippo_tables.specs.declared.tables.Tables.{Tables}
+use Rattle.hippo_tables.specs.Standing.{StandsFor}
+use Rattle.hippo_typing.specs.Meanings.{meaning}
+use Rattle.hippo_audit_job.specs.Examining.{IsAuditOf}
+use Rattle.hippo_hits.specs.declared.counts.AuditHits.{AuditHits}
+use Rattle.hippo_hits.specs.Counts.{AreHits}
+use Rattle.hippo_watch.specs.declared.alarms.AskedNow.{AskedNow}
+use Rattle.hippo_watch.specs.Alarms.{IsAskedNext}
+
+-- its audit is one of a history, and its counts are those of the audit's hits
+pub record IsWatchOf (history : History) (watch : AuditHits) : Type 0 where
+  pub audit_is : IsAuditOf history watch.audit
+  pub hits_are : AreHits history watch.audit watch.hits
+
+-- an entry may come next after a history, whose tables these are
+pub record ComesNext (tables : Tables) (history : History) (entry : Entry) : Type 0 where
+  pub stands : StandsFor tables history
+  pub valid : is_valid meaning (history ++ entry ∷ []) ≡ true
+  pub few : length history < 9223372036854775808
+
+-- an audit of a history, with the counts of its hits with an entry more
+pub record WasWatchOf (history : History) (entry : Entry) (watch : AuditHits) : Type 0 where
+  pub audit_is : IsAuditOf history watch.audit
+  pub is_now : IsWatchOf (history ++ entry ∷ []) watch
+
+-- a watch of a history is one of it with an entry more
+abbrev pub Follows : Tables → Act → AuditHits → AuditHits → Type 0
+Follows tables act old new =
+    (history : History) (entry : Entry) → entry.act ≡ act → ComesNext tables history entry
+    → IsWatchOf history old → IsWatchOf (history ++ entry ∷ []) new
+
+-- and one with an entry more is one without
+abbrev pub GoesBack : Tables → Act → AuditHits → AuditHits → Type 0
+GoesBack tables act old new =
+    (history : History) (entry : Entry) → entry.act ≡ act → ComesNext tables history entry
+    → WasWatchOf history entry old → IsWatchOf history new
+
+-- what a watch shares with a question that is asked next
+abbrev pub SharesWatched : AskedNow → AuditHits → Option (List SharedRow) → Type 0
+SharesWatched asked watch found =
+    (history : History) (entry : Entry) → IsAskedNext asked history entry
+    → IsWatchOf history watch → found ≡ shared meaning history watch.audit entry
