@@ -22,6 +22,7 @@ use Rattle.hippo_watch.specs.Alarms.{IsPresentOf, asked_next, IsAskedNext, Share
 use Rattle.hippo_watch.specs.AlarmLines.{alarm_text}
 use Rattle.hippo_replay.specs.declared.state.State.{State}
 use Rattle.hippo_replay.specs.Standing.{StandsFor}
+use Rattle.hippo_report.specs.declared.speaker.Speaker.TheVariants.{Console}
 use Rattle.hippo_report.specs.Notices.{done_line, number_line}
 use Rattle.hippo_world.specs.declared.worlds.World.{World as HeldWorld}
 use Rattle.hippo_world.specs.Worlds.{World, with_at}
@@ -157,6 +158,6 @@ sets_watch command number audit old new does same world_is said =
     puts_watch command (deeds.watch number audit) number (Some audit) old new same does.1 world_is does.0.fits (λ history. λ i. only_reply (world_of (world_is i)) (said i))
 
 pub ends_watch : (command : Command) (number : ℕ) (old new : Engine) → Does command (kinds.EndWatch number) old.state old.world → new.state ≡ old.state
-    → new.world ≡ record old.world { watches = with_at old.world.watches number None } → new.reply ≡ done_line (Some 0) → AddsNothing command old new
+    → new.world ≡ record old.world { watches = with_at old.world.watches number None } → new.reply ≡ done_line Console → AddsNothing command old new
 ends_watch command number old new does same world_is said =
     puts_watch command (deeds.end_watch number) number None old new same does world_is (λ history stands. tt) (λ history. λ i. only_reply (world_of (world_is i)) (said i))

@@ -23,6 +23,7 @@ use hippo_audit_job::Past;
 use hippo_judging::Asking;
 use hippo_model::{Audit, Pair, Query, SharedTuple};
 use hippo_replay::State;
+use hippo_report::Speaker;
 use hippo_typing::read_meaning;
 use hippo_values::Memory;
 use hippo_watch::{AskedNow, alarm, alarm_line};
@@ -195,6 +196,6 @@ impl Engine {
             → AddsNothing command self.old self.new }
     {
         self.world.watches.put(usize::from(number), None);
-        say_done(Some(0), &mut self.reply);
+        say_done(Speaker::Console, &mut self.reply);
     }
 }

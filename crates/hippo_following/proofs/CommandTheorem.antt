@@ -110,7 +110,7 @@ by_statement line number behind session statement text (Ok other) form found is 
       form = form ∙ (λ i. Some (states (numbers i) (texts i)));
       found = subst (λ (text : Txt). statement_in text ≡ Ok statement) texts (found ∙ (λ i. Ok (statements i)));
     }
-by_statement line number behind session statement text (Err refusal) form found is = let other : wrong (Some number) refusal ≡ state session statement text = is in absurd cc
+by_statement line number behind session statement text (Err refusal) form found is = let other : wrong (speaker_at number) refusal ≡ state session statement text = is in absurd cc
 
 by_moment : (line : Txt) (moment : Option Moment) (session : ℕ) (statement : Stmt) (text : Txt) → clock_command moment ≡ state session statement text → IsCommanded line session statement text
 by_moment line None session statement text is = absurd cc
