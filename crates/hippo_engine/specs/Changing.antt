@@ -1,5 +1,5 @@
 -- What a statement that changes something does: its entry is added, or it is refused.
-use Rattle.std.specs.Prelude.{◌≡◌, [], ◌∷◌, Some, true, codes}
+use Rattle.std.specs.Prelude.{◌≡◌, [], ◌∷◌, true, codes}
 use Rattle.hippo_model.specs.declared.entry.Entry.{Entry}
 use Rattle.hippo_model.specs.Terms.{History}
 use Rattle.hippo_replay.specs.Standing.{StandsFor}

@@ -32,7 +32,11 @@ impl Engine {
                 Ok(())
             }
             Unjudged::NoQuestion(number) => {
-                refuse(Speaker::Console, &Refusal::NoSuchQuery(number), &mut self.reply);
+                refuse(
+                    Speaker::Console,
+                    &Refusal::NoSuchQuery(number),
+                    &mut self.reply,
+                );
                 Ok(())
             }
             Unjudged::Unread(ReadFault::Memory) => {

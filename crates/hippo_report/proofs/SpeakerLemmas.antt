@@ -1,7 +1,5 @@
 -- Who speaks in a line that begins with a number.
-use Rattle.std.proofs.Common.{◌≡◌, ℕ, zero, suc, true, false, refl}
-use Rattle.std.specs.Prelude.{◌==◌}
-use Rattle.std.proofs.lemmas.Bool.{false≢true}
+use Rattle.std.proofs.Common.{◌≡◌, ℕ, zero, suc, true, refl}
 use Rattle.hippo_report.specs.declared.speaker.Speaker.TheVariants.{Console, Session}
 use Rattle.hippo_report.specs.Speakers.{speaker_at, is_somebody}
 

@@ -1,5 +1,5 @@
 -- Who a line speaks for, by the number that it begins with, and how its reply begins.
-use Rattle.std.specs.Prelude.{ℕ, Bool, true, false, codes, decimal}
+use Rattle.std.specs.Prelude.{ℕ, zero, suc, Bool, true, false, codes, decimal}
 use Rattle.hippo_values.specs.Texts.{Txt}
 use Rattle.hippo_report.specs.declared.speaker.Speaker.{Speaker}
 use Rattle.hippo_report.specs.declared.speaker.Speaker.TheVariants.{Nobody, Console, Session}

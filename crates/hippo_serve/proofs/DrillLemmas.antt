@@ -1,5 +1,5 @@
 -- A drill, one line more.
-use Rattle.std.proofs.Common.{◌≡◌, ◌≢◌, ℕ, List, [], ◌∷◌, ◌++◌, map, true, inl, inr, Option, Result, Ok, Err, OnOk, refl, ap, sym, subst, ◌∙◌, append_assoc}
+use Rattle.std.proofs.Common.{◌≡◌, ◌≢◌, ℕ, List, [], ◌∷◌, ◌++◌, map, true, inl, inr, Result, Ok, Err, OnOk, refl, ap, sym, subst, ◌∙◌, append_assoc}
 use Rattle.hippo_values.specs.declared.moments.Moment.{Moment}
 use Rattle.hippo_values.specs.Texts.{Txt}
 use Rattle.hippo_values.specs.declared.memory.Memory.{Memory as Want}

@@ -1,5 +1,5 @@
 //! The drill: a script is run over a keeper in memory, and its replies are counted.
-ghost use Rattle.std.specs.Prelude.{◌≡◌, ◌≢◌, ℕ, ◌<◌, [], true, false, Option, Ok, length, string_bytes, IfOk, OnOk};
+ghost use Rattle.std.specs.Prelude.{◌≡◌, ◌≢◌, ℕ, ◌<◌, [], true, false, Ok, length, string_bytes, IfOk, OnOk};
 ghost use Rattle.hippo_io.specs.Lines.{text_line};
 ghost use Rattle.hippo_model.specs.Terms.{History};
 ghost use Rattle.hippo_keeper.specs.Keeping.{IsReady};
