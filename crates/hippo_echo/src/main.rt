@@ -8,7 +8,7 @@ use hippo_values::Txt;
 use std::alloc::Global;
 
 // Writes each word on a line, and answers how many there are.
-fn echo<K: Sink>(words: &[Txt], sink: &mut K) -> Result<u8, Failed> {
+fn say_words<K: Sink>(words: &[Txt], sink: &mut K) -> Result<u8, Failed> {
     let mut count: u8 = 0;
     for word in words {
         write_whole(sink, word.as_str().as_bytes())?;
@@ -29,7 +29,7 @@ impl Program for Echo {
         _source: &mut S,
         sink: &mut K,
     ) -> u8 {
-        echo(words, sink).unwrap_or(u8::MAX)
+        say_words(words, sink).unwrap_or(u8::MAX)
     }
 }
 
