@@ -23,6 +23,7 @@ use Rattle.hippo_lines.proofs.FormLemmas.{states-within}
 use Rattle.hippo_model.specs.declared.statement.Stmt.{Stmt}
 use Rattle.hippo_report.specs.declared.refusal.Refusal.{Refusal}
 use Rattle.hippo_report.specs.declared.refusal.Refusal.TheVariants.{BadSyntax}
+use Rattle.hippo_report.specs.Speakers.{speaker_at}
 use Rattle.hippo_stmt_reader.specs.StatementFinder.{statement_of}
 use Rattle.hippo_commands.specs.Commands.{state, wrong, statement_by, statement_among, statement_in, state_command, clock_command, command_by}
 use Rattle.hippo_commands.specs.Moments.{moment_in}
