@@ -2,4 +2,4 @@
 use Rattle.hippo.proofs.HippoProgram.call.Given as goal
 
 abbrev pub ghosts-serve : goal.ghosts-serve
-ghosts-serve a = record { name = a.blank.name; parts = a.blank.parts }
+ghosts-serve g a = record { name = a.blank.name; parts = a.blank.parts }

@@ -2,4 +2,4 @@
 use Rattle.hippo_history.proofs.HistoryProgram.call.Given as goal
 
 abbrev pub ghosts-show : goal.ghosts-show
-ghosts-show a = record { name = a.blank.name; parts = a.blank.parts }
+ghosts-show g a = record { name = a.blank.name; parts = a.blank.parts }
