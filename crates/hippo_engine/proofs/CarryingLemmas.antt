@@ -1,5 +1,5 @@
 -- From what single calls do to what carrying out a command does.
-use Rattle.std.proofs.Common.{◌≡◌, ◌∙◌, ℕ, refl, sym, ap, subst, inl, inr, List, [], ◌∷◌, ◌++◌, map, Option, Some, None, Result, Ok, Err, true, append-nil}
+use Rattle.std.proofs.Common.{◌≡◌, ◌∙◌, ℕ, zero, suc, refl, sym, ap, subst, inl, inr, List, [], ◌∷◌, ◌++◌, map, Option, Some, None, Result, Ok, Err, true, append-nil}
 use Rattle.std.specs.Prelude.{int_le}
 use Rattle.std.proofs.lemmas.Bool.{false≢true}
 use Rattle.std.proofs.lemmas.List.{map-append}
@@ -202,7 +202,8 @@ wanting (wrong Console refusal) wants = (refl, tt)
 wanting (wrong (Session number) refusal) wants = (refl, tt)
 wanting (commands.set_clock moment) wants = absurd (false≢true wants)
 wanting (ask session request) wants = absurd (false≢true wants)
-wanting (state session statement text) wants = (refl, tt)
+wanting (state zero statement text) wants = (refl, tt)
+wanting (state (suc session) statement text) wants = (refl, tt)
 
 -- what is carried out for the command that was found
 pub Carries-found : {A : Type 0} (command found : Command) (result : Result A EngineFault) (old new : Engine) (before after : KeeperState) (steps steps' : ℕ)
