@@ -3,31 +3,33 @@ use Rattle.std.proofs.Common.{◌≡◌, ℕ, List, [], ◌∷◌, true, false, 
 use Rattle.hippo_io.specs.Lines.{text_line, too_long_line, not_utf8_line}
 use Rattle.hippo_lines.specs.Forms.{logs_out, fetches, says_nothing, asks, states}
 use Rattle.hippo_report.specs.declared.refusal.Refusal.TheVariants.{BadLine, LineTooLong, BadSyntax, BadMoment, Unsupported, Memory}
+use Rattle.hippo_report.specs.declared.speaker.Speaker.TheVariants.{Nobody}
+use Rattle.hippo_report.specs.Speakers.{speaker_at}
 use Rattle.hippo_lexer.specs.declared.kinds.Token.{Token}
 use Rattle.hippo_lexer.specs.declared.kinds.TokenKind.TheVariants as kinds
 use Rattle.hippo_lexer.specs.declared.faults.SyntaxFault.TheVariants as syntax
 use Rattle.hippo_commands.specs.Commands.{nothing, wrong, ask, command_by, command_of, clock_command, syntax_refusal, state_command, who_commands, takes_memory}
 
-too_long_is_nobodys : command_of too_long_line ≡ wrong None LineTooLong
+too_long_is_nobodys : command_of too_long_line ≡ wrong Nobody LineTooLong
 too_long_is_nobodys = refl
 
-no_utf8_is_nobodys : command_of not_utf8_line ≡ wrong None BadLine
+no_utf8_is_nobodys : command_of not_utf8_line ≡ wrong Nobody BadLine
 no_utf8_is_nobodys = refl
 
-formless_is_nobodys : command_by None ≡ wrong None BadLine
+formless_is_nobodys : command_by None ≡ wrong Nobody BadLine
 formless_is_nobodys = refl
 
 silence_commands_nothing : command_by (Some says_nothing) ≡ nothing
 silence_commands_nothing = refl
 
-no_moment_is_nobodys : clock_command None ≡ wrong None BadMoment
+no_moment_is_nobodys : clock_command None ≡ wrong Nobody BadMoment
 no_moment_is_nobodys = refl
 
 fetches_in_a_session : command_by (Some (asks 1 (fetches 2 10))) ≡ ask 1 (fetches 2 10)
 fetches_in_a_session = refl
 
 -- a statement's refusal is its session's
-refused_in_a_session : (text : List ℕ) → state_command 3 text (Err BadSyntax) ≡ wrong (Some 3) BadSyntax
+refused_in_a_session : (text : List ℕ) → state_command 3 text (Err BadSyntax) ≡ wrong (speaker_at 3) BadSyntax
 refused_in_a_session text = refl
 
 -- the word that is refused is told in upper case
@@ -40,5 +42,5 @@ words_in_upper_case = refl
 logout_takes_none : takes_memory (ask 7 logs_out) ≡ false
 logout_takes_none = refl
 
-refusals_may_take_some : takes_memory (wrong (Some 3) BadSyntax) ≡ true
+refusals_may_take_some : takes_memory (wrong (speaker_at 3) BadSyntax) ≡ true
 refusals_may_take_some = refl

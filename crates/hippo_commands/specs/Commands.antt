@@ -19,13 +19,16 @@ use Rattle.hippo_model.specs.declared.statement.Stmt.{Stmt}
 use Rattle.hippo_stmt_reader.specs.StatementFinder.{statement_of}
 use Rattle.hippo_report.specs.declared.refusal.Refusal.{Refusal}
 use Rattle.hippo_report.specs.declared.refusal.Refusal.TheVariants.{BadLine, LineTooLong, BadToken, BadSyntax, Unsupported, TooDeep, NumberTooLarge, BadDate, BadMoment, Memory}
+use Rattle.hippo_report.specs.declared.speaker.Speaker.{Speaker}
+use Rattle.hippo_report.specs.declared.speaker.Speaker.TheVariants.{Nobody}
+use Rattle.hippo_report.specs.Speakers.{speaker_at, is_somebody}
 use Rattle.hippo_commands.specs.Moments.{moment_in}
 
 pub data Command : Type 0 where
   -- an empty line, or a comment
   nothing : Command
-  -- whatever the history, a line of this session, of the console or of nobody is refused
-  wrong : Option ℕ → Refusal → Command
+  -- whatever the history, a line that speaks for somebody or nobody is refused
+  wrong : Speaker → Refusal → Command
   set_clock : Moment → Command
   -- in a session or at the console: what a short word asks for
   ask : ℕ → Request → Command
@@ -69,15 +72,15 @@ statement_in text = statement_among (outcome_of text)
 
 abbrev pub state_command : ℕ → Txt → Result Stmt Refusal → Command
 state_command session text (Ok stmt) = state session stmt text
-state_command session text (Err refusal) = wrong (Some session) refusal
+state_command session text (Err refusal) = wrong (speaker_at session) refusal
 
 abbrev pub clock_command : Option Moment → Command
 clock_command (Some moment) = set_clock moment
-clock_command None = wrong None BadMoment
+clock_command None = wrong Nobody BadMoment
 
 -- what a line of this form commands
 abbrev pub command_by : Option Form → Command
-command_by None = wrong None BadLine
+command_by None = wrong Nobody BadLine
 command_by (Some says_nothing) = nothing
 command_by (Some (sets_clock moment)) = clock_command (moment_in moment)
 command_by (Some (asks session request)) = ask session request
@@ -86,20 +89,20 @@ command_by (Some (states session text)) = state_command session text (statement_
 -- what a line commands
 abbrev pub command_of : LineText → Command
 command_of (text_line text) = command_by (line_form text)
-command_of too_long_line = wrong None LineTooLong
-command_of not_utf8_line = wrong None BadLine
+command_of too_long_line = wrong Nobody LineTooLong
+command_of not_utf8_line = wrong Nobody BadLine
 
 -- what is commanded by what a reader hands out: by a line, what it commands; by the end of the input, nothing
 abbrev pub commanded : Option LineText → Command
 commanded line = option_map_or command_of line nothing
 
--- whose line it is: a session's, the console's, or nobody's
-abbrev pub who_commands : Command → Option ℕ
-who_commands nothing = None
+-- who the line speaks for
+abbrev pub who_commands : Command → Speaker
+who_commands nothing = Nobody
 who_commands (wrong who refusal) = who
-who_commands (set_clock moment) = None
-who_commands (ask session request) = Some session
-who_commands (state session stmt text) = Some session
+who_commands (set_clock moment) = Nobody
+who_commands (ask session request) = speaker_at session
+who_commands (state session stmt text) = speaker_at session
 
 -- what is asked for by a short word takes no memory where it ends something
 abbrev pub request_takes_memory : Request → Bool
@@ -112,15 +115,14 @@ request_takes_memory request = true
 -- the other lines that take none are those that say nothing, set the clock, or are nobody's
 abbrev pub takes_memory : Command → Bool
 takes_memory nothing = false
-takes_memory (wrong None refusal) = false
-takes_memory (wrong (Some session) refusal) = true
+takes_memory (wrong who refusal) = is_somebody who
 takes_memory (set_clock moment) = false
 takes_memory (ask session request) = request_takes_memory request
 takes_memory (state session stmt text) = true
 
 -- reading takes memory for statements alone: such a line is a statement, or a refusal of a session's line
 abbrev pub may_want : Command → Bool
-may_want (wrong (Some session) refusal) = true
+may_want (wrong who refusal) = is_somebody who
 may_want (state session stmt text) = true
 may_want command = false
 

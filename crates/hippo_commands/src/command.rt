@@ -1,7 +1,7 @@
 //! Commands.
 use hippo_lines::RequestForm;
 use hippo_model::Stmt;
-use hippo_report::Refusal;
+use hippo_report::{Refusal, Speaker};
 use hippo_values::Moment;
 
 /// What a line commands. Texts are the line's own.
@@ -9,9 +9,9 @@ use hippo_values::Moment;
 pub enum Command<'a> {
     /// The line is empty, has only spaces, or begins with `#`.
     Nothing,
-    /// Whatever the history, the line is refused. It is a session's, the console's, which is session 0, or nobody's.
+    /// Whatever the history, the line is refused.
     Wrong {
-        who: Option<u8>,
+        who: Speaker,
         refusal: Refusal,
     },
     /// Set the clock.

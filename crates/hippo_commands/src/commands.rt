@@ -10,7 +10,7 @@ use crate::command::Command;
 use crate::statements::statement_in;
 use hippo_io::Line;
 use hippo_lines::{LineForm, line_form};
-use hippo_report::Refusal;
+use hippo_report::{Refusal, Speaker};
 use hippo_values::{Moment, read_moment};
 use std::alloc::Global;
 
@@ -26,12 +26,13 @@ fn clock_command(text: &str) -> Command<'_>
     match moment_in(text) {
         Some(moment) => Command::SetClock { moment },
         None => Command::Wrong {
-            who: None,
+            who: Speaker::Nobody,
             refusal: Refusal::BadMoment,
         },
     }
 }
 
+#[tactic(auto, using(hippo_report::proofs::SpeakerLemmas::somebody_at))]
 fn state_command<'a>(alloc: Global, session: u8, text: &'a str) -> Command<'a>
     ensures { IsCommand (state_command session text.now (statement_in text.now)) (command result) }
 {
@@ -42,7 +43,7 @@ fn state_command<'a>(alloc: Global, session: u8, text: &'a str) -> Command<'a>
             text,
         },
         Err(refusal) => Command::Wrong {
-            who: Some(session),
+            who: Speaker::at(session),
             refusal,
         },
     }
@@ -53,7 +54,7 @@ fn text_command<'a>(alloc: Global, text: &'a str) -> Command<'a>
 {
     match line_form(text) {
         None => Command::Wrong {
-            who: None,
+            who: Speaker::Nobody,
             refusal: Refusal::BadLine,
         },
         Some(LineForm::Silent) => Command::Nothing,
@@ -71,11 +72,11 @@ pub fn command_of<'a>(alloc: Global, line: Line<'a>) -> Command<'a>
     match line {
         Line::Text(text) => text_command(alloc, text),
         Line::TooLong => Command::Wrong {
-            who: None,
+            who: Speaker::Nobody,
             refusal: Refusal::LineTooLong,
         },
         Line::NotUtf8 => Command::Wrong {
-            who: None,
+            who: Speaker::Nobody,
             refusal: Refusal::BadLine,
         },
         Line::End => Command::Nothing,

@@ -29,6 +29,8 @@ use Rattle.hippo_combine.specs.Combining.{combine_terms}
 use Rattle.hippo_combine.specs.Held.{all_taken}
 use Rattle.hippo_replay.specs.declared.state.State.{State}
 use Rattle.hippo_replay.specs.Standing.{StandsFor}
+use Rattle.hippo_report.specs.declared.speaker.Speaker.{Speaker}
+use Rattle.hippo_report.specs.declared.speaker.Speaker.TheVariants.{Console}
 use Rattle.hippo_report.specs.declared.format.Format.{Format}
 use Rattle.hippo_report.specs.declared.refusal.Refusal.{Refusal}
 use Rattle.hippo_report.specs.declared.refusal.Refusal.TheVariants as refusals
@@ -110,13 +112,13 @@ ended_same (Err Keeper) = refl
 ended_same (Err (Damaged number)) = refl
 ended_same (Err Memory) = refl
 
-module _ (history : History) (world : World) (command : Command) (audit : Audit) (takes : may_do_nothing command ≡ true) (who : who_commands command ≡ Some 0)
+module _ (history : History) (world : World) (command : Command) (audit : Audit) (takes : may_do_nothing command ≡ true) (who : who_commands command ≡ Console)
     (judged_is : judged history world command ≡ Ok (deeds.audit audit)) where
   done_so : effect_of history world command ≡ audited history world audit
   done_so = done_for history world command (deeds.audit audit) judged_is
 
-  short_of_memory : IsEffect history world command (only_reply world (refusal_line (Some 0) refusals.Memory))
-  short_of_memory = subst (λ (one : Option ℕ). IsEffect history world command (only_reply world (refusal_line one refusals.Memory))) who (short history world command takes)
+  short_of_memory : IsEffect history world command (only_reply world (refusal_line Console refusals.Memory))
+  short_of_memory = subst (λ (one : Speaker). IsEffect history world command (only_reply world (refusal_line one refusals.Memory))) who (short history world command takes)
 
   -- what was found has its effect
   effect_found : (found : Result (List Flag) ReadFault) (reply : Txt) → IfOk found (λ flags. flags ≡ flags_between meaning history audit 0 (length history))
@@ -146,7 +148,7 @@ carried_said (Err (Damaged number)) said fine is = absurd (false≢true fine)
 carried_said (Err Memory) said fine is = is
 
 abbrev IsSaid : Format → Result (List Flag) ReadFault → Txt → Type 0
-IsSaid format found reply = (reply ≡ told_flags format found) ⊎ (reply ≡ refusal_line (Some 0) refusals.Memory)
+IsSaid format found reply = (reply ≡ told_flags format found) ⊎ (reply ≡ refusal_line Console refusals.Memory)
 
 -- DURING at the console
 module _ (text : Txt) (written : RawAudit) (audit : Audit) (old new : Engine) (before after : KeeperState) (steps steps' : ℕ) where
@@ -180,7 +182,7 @@ module _ (text : Txt) (written : RawAudit) (audit : Audit) (old new : Engine) (b
       }))
     where
       either : (history : History) → judged history (world_of old.world) audits ≡ Ok (deeds.audit audit) → IfOk tells.found (λ flags. flags ≡ flags_between meaning history audit 0 (length history))
-          → is_carried (ended tells.found) ≡ true → (new.reply ≡ told_flags old.world.format tells.found) ⊎ (new.reply ≡ refusal_line (Some 0) refusals.Memory)
+          → is_carried (ended tells.found) ≡ true → (new.reply ≡ told_flags old.world.format tells.found) ⊎ (new.reply ≡ refusal_line Console refusals.Memory)
           → IsEffect history (world_of old.world) audits (only_reply (world_of old.world) new.reply)
       either history is flags fine (inl said) = effect_found history (world_of old.world) audits audit refl refl is tells.found new.reply flags fine said
       either history is flags fine (inr said) =

@@ -1,5 +1,5 @@
 -- From what single calls do to what carrying out a command does.
-use Rattle.std.proofs.Common.{◌≡◌, ◌∙◌, ℕ, refl, sym, ap, subst, inl, inr, List, [], ◌∷◌, ◌++◌, map, Option, Some, None, Result, Ok, Err, true, append-nil}
+use Rattle.std.proofs.Common.{◌≡◌, ◌∙◌, ℕ, zero, suc, refl, sym, ap, subst, inl, inr, List, [], ◌∷◌, ◌++◌, map, Option, Some, None, Result, Ok, Err, true, append-nil}
 use Rattle.std.specs.Prelude.{int_le}
 use Rattle.std.proofs.lemmas.Bool.{false≢true}
 use Rattle.std.proofs.lemmas.List.{map-append}
@@ -12,6 +12,8 @@ use Rattle.hippo_replay.specs.Standing.{StandsFor, IsSound, IsTimely}
 use Rattle.hippo_replay.specs.declared.state.State.{State}
 use Rattle.hippo_keeper.proofs.CallLemmas.{KeepsSame-here, IsAfterCall-none}
 use Rattle.hippo_keeper.proofs.Results.{well}
+use Rattle.hippo_report.specs.declared.speaker.Speaker.{Speaker}
+use Rattle.hippo_report.specs.declared.speaker.Speaker.TheVariants.{Nobody, Console, Session}
 use Rattle.hippo_report.specs.declared.refusal.Refusal.{Refusal}
 use Rattle.hippo_report.specs.declared.refusal.Refusal.TheVariants.{Memory}
 use Rattle.hippo_report.specs.Refusals.{refusal_line}
@@ -128,7 +130,7 @@ Carries-quiet command old new keeper steps at_work quiet =
     Carries-nothing command old new keeper steps at_work (AddsNothing-quiet command old new quiet)
 
 -- a line that is refused for want of memory, whatever the history, has that reply alone
-memory_effect : (history : History) (world : World) (who : Option ℕ) (effect : Effect) → IsEffect history world (wrong who Memory) effect
+memory_effect : (history : History) (world : World) (who : Speaker) (effect : Effect) → IsEffect history world (wrong who Memory) effect
     → effect ≡ only_reply world (refusal_line who Memory)
 memory_effect history world who effect (inl is) = is
 memory_effect history world who effect (inr (takes, is)) = is
@@ -137,7 +139,7 @@ not_added : {A : Type 0} (entry : A) → ◌≡◌ {A = List A} [] (entry ∷ []
 not_added entry e = cc
 
 -- a line that is refused whatever the history takes no step
-Tallies-refused : (who : Option ℕ) (refusal : Refusal) (command : Command) (versions steps steps' : ℕ) (taken taken' : List ℕ)
+Tallies-refused : (who : Speaker) (refusal : Refusal) (command : Command) (versions steps steps' : ℕ) (taken taken' : List ℕ)
     → Tallies (wrong who refusal) versions steps steps' taken taken' → Tallies command versions steps steps' taken taken'
 Tallies-refused who refusal command versions steps steps' taken taken' (none_taken same kept) = none_taken same kept
 Tallies-refused who refusal command versions steps steps' taken taken' (at_once looks few kept) = absurd (false≢true looks)
@@ -146,7 +148,7 @@ Tallies-refused who refusal command versions steps steps' taken taken' (job_step
 Tallies-refused who refusal command versions steps steps' taken taken' (job_dropped had front rest drops same before after) = absurd (false≢true drops)
 
 -- nor does the keeper fail
-unbroken : (history : History) (who : Option ℕ) (old : Engine) (before after : KeeperState) → BreaksOff history (wrong who Memory) old before after → ⊥
+unbroken : (history : History) (who : Speaker) (old : Engine) (before after : KeeperState) → BreaksOff history (wrong who Memory) old before after → ⊥
 unbroken history who old before after (inl adding) = not_added adding.entry adding.adds
 unbroken history who old before after (inr reading) = false≢true reading.reads
 
@@ -195,11 +197,13 @@ Carries-written command (Err Write) old new before after steps steps' done carri
 -- what may want memory to be read takes memory, and is not nobody's
 wanting : (command : Command) → may_want command ≡ true → (may_do_nothing command ≡ true) × IsOfLine (wrong (who_commands command) Memory)
 wanting nothing wants = absurd (false≢true wants)
-wanting (wrong None refusal) wants = absurd (false≢true wants)
-wanting (wrong (Some session) refusal) wants = (refl, tt)
+wanting (wrong Nobody refusal) wants = absurd (false≢true wants)
+wanting (wrong Console refusal) wants = (refl, tt)
+wanting (wrong (Session number) refusal) wants = (refl, tt)
 wanting (commands.set_clock moment) wants = absurd (false≢true wants)
 wanting (ask session request) wants = absurd (false≢true wants)
-wanting (state session statement text) wants = (refl, tt)
+wanting (state zero statement text) wants = (refl, tt)
+wanting (state (suc session) statement text) wants = (refl, tt)
 
 -- what is carried out for the command that was found
 pub Carries-found : {A : Type 0} (command found : Command) (result : Result A EngineFault) (old new : Engine) (before after : KeeperState) (steps steps' : ℕ)

@@ -16,6 +16,8 @@ use Rattle.hippo_replay.specs.Recording.{Records}
 use Rattle.hippo_replay.proofs.StateLemmas.{latest_moment-append}
 use Rattle.hippo_keeper.proofs.CallLemmas.{IsAfterCall-as}
 use Rattle.hippo_keeper.proofs.Results.{err_of, well}
+use Rattle.hippo_report.specs.declared.speaker.Speaker.{Speaker}
+use Rattle.hippo_report.specs.declared.speaker.Speaker.TheVariants.{Console}
 use Rattle.hippo_report.specs.declared.refusal.Refusal.{Refusal}
 use Rattle.hippo_report.specs.declared.refusal.Refusal.TheVariants as refusals
 use Rattle.hippo_report.specs.Notices.{number_line}
@@ -48,12 +50,12 @@ use Rattle.hippo_engine.proofs.ClockLemmas.{int_le-refl}
 use Rattle.hippo_engine.proofs.ShortLemmas.{short, refused}
 
 -- want of memory is told either way
-pub told_short : (reply : Txt) → (reply ≡ refusal_line (Some 0) refusals.Memory) ⊎ (reply ≡ refusal_line (Some 0) refusals.Memory) → reply ≡ refusal_line (Some 0) refusals.Memory
+pub told_short : (reply : Txt) → (reply ≡ refusal_line Console refusals.Memory) ⊎ (reply ≡ refusal_line Console refusals.Memory) → reply ≡ refusal_line Console refusals.Memory
 told_short reply (inl is) = is
 told_short reply (inr is) = is
 
 -- a command that is refused adds nothing
-pub quiet_refusal : (command : Command) (who : Option ℕ) (refusal : Refusal) (old new : Engine) → who ≡ who_commands command → IsRefused command refusal old.state old.world
+pub quiet_refusal : (command : Command) (who : Speaker) (refusal : Refusal) (old new : Engine) → who ≡ who_commands command → IsRefused command refusal old.state old.world
     → new.state ≡ old.state → new.world ≡ old.world → SaysRefusal who refusal new.reply → IsQuiet command old new
 quiet_refusal command who refusal old new who_is is state_is world_is says = record {
   same = state_is;
@@ -68,7 +70,7 @@ quiet_refusal command who refusal old new who_is is state_is world_is says = rec
         → IsEffect history (world_of old.world) command (only_reply (world_of old.world) new.reply)
     as_said history other told effect =
         subst (λ (reply : Txt). IsEffect history (world_of old.world) command (only_reply (world_of old.world) reply))
-        (ap (λ (one : Option ℕ). refusal_line one other) (sym who_is) ∙ sym told) effect
+        (ap (λ (one : Speaker). refusal_line one other) (sym who_is) ∙ sym told) effect
 
     replied : (history : History) → may_do_nothing command ≡ true → Refuses (judged history (world_of old.world) command) refusal
         → (new.reply ≡ refusal_line who refusal) ⊎ (new.reply ≡ refusal_line who refusals.Memory)
@@ -83,7 +85,7 @@ quiet_refusal command who refusal old new who_is is state_is world_is says = rec
         → IsEffect history (world_of old.world) command (only_reply (world_of old.world) new.reply)
     by_memory true takes history stands = replied history takes (is.refuses history stands) says.0
     by_memory false none history stands =
-        as_said history refusal (says.1 (subst (λ (one : Option ℕ). length (refusal_line one refusal) ≤ reply_room) (sym who_is) (is.short none)))
+        as_said history refusal (says.1 (subst (λ (one : Speaker). length (refusal_line one refusal) ≤ reply_room) (sym who_is) (is.short none)))
         (refused history (world_of old.world) command refusal (is.exact none history stands))
 
 -- what is done for a change that adds the next entry
@@ -162,7 +164,7 @@ module _ (command : Command) (entry : Entry) (old new : Engine) (before after : 
   -- one that was not, since memory was short: the watches followed, and went back
   pub unrecorded : entry.seq < 2 ^ 63 → MayFollow old.state entry → Records entry (err_of (Unit {0}) Memory) old.state new.state before after → IsSound new.state
       → (between : HeldWorld) → world_of between ≡ world_of old.world → WatchesFollow old.state.tables entry.act old.world between → WatchesGoBack new.state.tables entry.act between new.world
-      → world_of new.world ≡ world_of old.world → new.world.jobs ≡ old.world.jobs → new.reply ≡ refusal_line (Some 0) refusals.Memory
+      → world_of new.world ≡ world_of old.world → new.world.jobs ≡ old.world.jobs → new.reply ≡ refusal_line Console refusals.Memory
       → Carries command (well EngineFault) old new before after steps steps
   unrecorded number follows records sound between seen follow go_back world_is jobs_are reply_is = record {
     call = IsAfterCall-as true false (err_of (Unit {0}) Memory) (well KeeperFault) before after refl records.keeps.call;
@@ -170,8 +172,8 @@ module _ (command : Command) (entry : Entry) (old new : Engine) (before after : 
     timely = λ fine. timely_same (records.memory refl) world_is;
     idle = λ none. refl;
     carried = λ fine tells history holds. record {
-      effect = only_reply (world_of old.world) (refusal_line (Some 0) refusals.Memory);
-      is = subst (λ (who : Option ℕ). IsEffect history (world_of old.world) command
+      effect = only_reply (world_of old.world) (refusal_line Console refusals.Memory);
+      is = subst (λ (who : Speaker). IsEffect history (world_of old.world) command
           (only_reply (world_of old.world) (refusal_line who refusals.Memory)))
           changes.who (short history (world_of old.world) command changes.memory);
       reply = reply_is;

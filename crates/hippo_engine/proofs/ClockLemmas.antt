@@ -6,6 +6,9 @@ use Rattle.hippo_values.specs.declared.moments.Moment.{Moment}
 use Rattle.hippo_values.specs.Texts.{Txt}
 use Rattle.hippo_model.specs.Terms.{History}
 use Rattle.hippo_audit_job.specs.Jobs.{OpenAudit}
+use Rattle.hippo_report.specs.declared.speaker.Speaker.{Speaker}
+use Rattle.hippo_report.specs.declared.speaker.Speaker.TheVariants.{Nobody}
+use Rattle.hippo_report.specs.Speakers.{speaker_at}
 use Rattle.hippo_report.specs.declared.refusal.Refusal.TheVariants.{NoJob, MomentBack, Memory}
 use Rattle.hippo_report.specs.Refusals.{refusal_line}
 use Rattle.hippo_world.specs.Worlds.{World, at_number}
@@ -38,18 +41,18 @@ done_clock history world (deeds.open_cursor session number question) none =
     either_clock (nat_lt row_limit (length (question_rows history world question))) world _ refl
 done_clock history world deed none = refl
 
-carried_clock : (history : History) (world : World) (who : Option ℕ) (judgement : Checked Deed) → IsPlain judgement → (carried_out history world who judgement).world.clock ≡ world.clock
+carried_clock : (history : History) (world : World) (who : Speaker) (judgement : Checked Deed) → IsPlain judgement → (carried_out history world who judgement).world.clock ≡ world.clock
 carried_clock history world who (Ok deed) none = done_clock history world deed none
 carried_clock history world who (Err refusal) none = refl
 
-stepped_clock : (history : History) (world : World) (who : Option ℕ) (number count : ℕ) (console : Checked (Unit {0})) (held : Option OpenAudit)
+stepped_clock : (history : History) (world : World) (who : Speaker) (number count : ℕ) (console : Checked (Unit {0})) (held : Option OpenAudit)
     → (carried_out history world who (console >>= λ console. ok_or held (NoJob number) >>= λ job. Ok (deeds.step_job number job count))).world.clock ≡ world.clock
 stepped_clock history world who number count (Err refusal) held = refl
 stepped_clock history world who number count (Ok console) None = refl
 stepped_clock history world who number count (Ok console) (Some job) = refl
 
 set_forward : (history : History) (world : World) (last moment : Moment) (before : Bool) → int_lt moment world.clock ≡ before → int_le last world.clock ≡ true
-    → int_le last (carried_out history world None (refused_if before (MomentBack world.clock) >>= λ later. Ok (deeds.set_clock moment))).world.clock ≡ true
+    → int_le last (carried_out history world Nobody (refused_if before (MomentBack world.clock) >>= λ later. Ok (deeds.set_clock moment))).world.clock ≡ true
 set_forward history world last moment true is timely = timely
 set_forward history world last moment false is timely = later last world.clock moment timely is
 
@@ -57,7 +60,7 @@ by_rules : (history : History) (world : World) (command : Command) (last : Momen
     → int_le last (effect_of history world command).world.clock ≡ true
 by_rules history world (commands.set_clock moment) last timely = set_forward history world last moment (int_lt moment world.clock) refl timely
 by_rules history world (ask session (steps number count)) last timely =
-    ap (λ (moment : Moment). int_le last moment) (stepped_clock history world (Some session) number count (by_console session) (at_number world.jobs number)) ∙ timely
+    ap (λ (moment : Moment). int_le last moment) (stepped_clock history world (speaker_at session) number count (by_console session) (at_number world.jobs number)) ∙ timely
 by_rules history world command last timely =
     ap (λ (moment : Moment). int_le last moment) (carried_clock history world (who_commands command) (judged history world command) (plain history world command refl)) ∙ timely
 

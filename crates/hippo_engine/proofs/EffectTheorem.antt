@@ -2,6 +2,7 @@
 use Rattle.std.proofs.Common.{◌≡◌, inl, inr, Option, ℕ, Ok, Err, refl}
 use Rattle.hippo_model.specs.Terms.{History}
 use Rattle.hippo_world.specs.Worlds.{World}
+use Rattle.hippo_report.specs.declared.speaker.Speaker.{Speaker}
 use Rattle.hippo_report.specs.declared.refusal.Refusal.{Refusal}
 use Rattle.hippo_commands.specs.Commands.{who_commands}
 use Rattle.hippo_judging.specs.Checks.{Checked}
@@ -11,7 +12,7 @@ use Rattle.hippo_judging.specs.Judging.{judged}
 use Rattle.hippo_engine.specs.Effects.{done, carried_out}
 use Rattle.hippo_engine.specs.EffectLaws.{ChangesNothing, RefusalsChangeNothing, AddsNext, LinesAddTheNextEntry}
 
-refused : (history : History) (world : World) (who : Option ℕ) (judgement : Checked Deed) (refusal : Refusal) → judgement ≡ Err refusal → ChangesNothing world (carried_out history world who judgement)
+refused : (history : History) (world : World) (who : Speaker) (judgement : Checked Deed) (refusal : Refusal) → judgement ≡ Err refusal → ChangesNothing world (carried_out history world who judgement)
 refused history world who (Err other) refusal e = record { added = refl; world_is = refl }
 refused history world who (Ok deed) refusal e = absurd cc
 
@@ -37,7 +38,7 @@ adds history world (deeds.audit audit) = inl refl
 adds history world (deeds.begin_audit number audit) = inl refl
 adds history world (deeds.watch number audit) = inl refl
 
-carried : (history : History) (world : World) (who : Option ℕ) (judgement : Checked Deed) → AddsNext history world (carried_out history world who judgement)
+carried : (history : History) (world : World) (who : Speaker) (judgement : Checked Deed) → AddsNext history world (carried_out history world who judgement)
 carried history world who (Ok deed) = adds history world deed
 carried history world who (Err refusal) = inl refl
 

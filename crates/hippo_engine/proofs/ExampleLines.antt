@@ -15,6 +15,8 @@ use Rattle.hippo_model.specs.declared.statement.RawSelect.{RawSelect}
 use Rattle.hippo_model.specs.declared.statement.Stmt.{Stmt}
 use Rattle.hippo_model.specs.declared.statement.Stmt.TheVariants.{CreateTable, CreatePurpose, CreateRecipient, Authorize, Allow, Insert, Select}
 use Rattle.hippo_model.specs.Terms.{History}
+use Rattle.hippo_report.specs.declared.speaker.Speaker.TheVariants.{Console}
+use Rattle.hippo_report.specs.Speakers.{speaker_at}
 use Rattle.hippo_report.specs.declared.format.Format.TheVariants as formats
 use Rattle.hippo_model.specs.declared.audit.Pair.{Pair}
 use Rattle.hippo_model.specs.declared.entry.Act.{Act}
@@ -63,10 +65,10 @@ abbrev pub text : Txt → Cell
 text bytes = Shown (Text bytes)
 
 abbrev pub no : Refusal → Txt
-no refusal = refusal_line (Some 1) refusal
+no refusal = refusal_line (speaker_at 1) refusal
 
 abbrev pub console_no : Refusal → Txt
-console_no refusal = refusal_line (Some 0) refusal
+console_no refusal = refusal_line Console refusal
 
 -- a statement of the console, and one of a session with its whole text
 abbrev pub console : Stmt → Command

@@ -20,6 +20,7 @@ use Rattle.hippo_denials.specs.declared.faults.DenialsFault.TheVariants.{Read, T
 use Rattle.hippo_denials.specs.Denying.{IsAnswer, Denies}
 use Rattle.hippo_denials.specs.Denying as listing
 use Rattle.hippo_replay.specs.declared.state.State.{State}
+use Rattle.hippo_report.specs.declared.speaker.Speaker.TheVariants.{Console}
 use Rattle.hippo_report.specs.declared.refusal.Refusal.{Refusal}
 use Rattle.hippo_report.specs.declared.refusal.Refusal.TheVariants as refusals
 use Rattle.hippo_report.specs.Refusals.{refusal_line}
@@ -131,7 +132,7 @@ module _ (history : History) (world : World) (text : Txt) (number : ℤ) where
   judged_is : (found : Option Entry) → question_at history number ≡ found → judged history world command ≡ by_found found
   judged_is found is = ap by_found is
 
-  said_so : (reply : Txt) → IsEffect history world command (only_reply world (refusal_line (Some 0) refusals.Memory))
+  said_so : (reply : Txt) → IsEffect history world command (only_reply world (refusal_line Console refusals.Memory))
   said_so reply = short history world command refl
 
   denied_effect : (denied : AreDenied history number (λ cells. Unit {0})) → effect_of history world command ≡ explained history world denied.entry
@@ -141,7 +142,7 @@ module _ (history : History) (world : World) (text : Txt) (number : ℤ) where
   effect_found : (found : Explanation) (reply : Txt) → IsFound history number found → is_carried (ended found) ≡ true → reply ≡ explained_line number found → IsEffect history world command (only_reply world reply)
   effect_found (Ok cells) reply is fine said =
       let few : nat_lt row_limit (length (denials meaning history is.entry)) ≡ false = not_more row_limit (length (denials meaning history is.entry)) is.cells.1 in
-      let line : (explained history world is.entry).reply ≡ listed 0 denial_line (denials meaning history is.entry) = ap (λ (b : Bool). if b then refusal_line (Some 0) refusals.TooManyRows else listed 0 denial_line (denials meaning history is.entry)) few in
+      let line : (explained history world is.entry).reply ≡ listed 0 denial_line (denials meaning history is.entry) = ap (λ (b : Bool). if b then refusal_line Console refusals.TooManyRows else listed 0 denial_line (denials meaning history is.entry)) few in
       inl (ap (only_reply world) (said ∙ ap (listed 0 denial_line) is.cells.0 ∙ sym line) ∙ sym (denied_effect (record { entry = is.entry; asked = is.asked; cells = tt })))
     where
       not_more : (limit count : ℕ) → count ≤ limit → nat_lt limit count ≡ false
@@ -150,7 +151,7 @@ module _ (history : History) (world : World) (text : Txt) (number : ℤ) where
       subst (λ (r : Txt). IsEffect history world command (only_reply world r)) (sym said) (refused history world command (refusals.NoSuchQuery number) (judged_is None is))
   effect_found (Err (Some TooMany)) reply is fine said =
       let many : nat_lt row_limit (length (denials meaning history is.entry)) ≡ true = more row_limit (length (denials meaning history is.entry)) is.cells in
-      let line : (explained history world is.entry).reply ≡ refusal_line (Some 0) refusals.TooManyRows = ap (λ (b : Bool). if b then refusal_line (Some 0) refusals.TooManyRows else listed 0 denial_line (denials meaning history is.entry)) many in
+      let line : (explained history world is.entry).reply ≡ refusal_line Console refusals.TooManyRows = ap (λ (b : Bool). if b then refusal_line Console refusals.TooManyRows else listed 0 denial_line (denials meaning history is.entry)) many in
       inl (ap (only_reply world) (said ∙ sym line) ∙ sym (denied_effect (record { entry = is.entry; asked = is.asked; cells = tt })))
     where
       more : (limit count : ℕ) → limit < count → nat_lt limit count ≡ true
@@ -173,7 +174,7 @@ module _ (history : History) (world : World) (text : Txt) (number : ℤ) where
   adds_none = by (question_at history number) refl
     where
       by : (found : Option Entry) → question_at history number ≡ found → (effect_of history world command).added ≡ []
-      by None is = ap (λ (e : Effect). e.added) (sym (ap (λ (judgement : Checked Deed). carried_out history world (Some 0) judgement) (sym (judged_is None is))))
+      by None is = ap (λ (e : Effect). e.added) (sym (ap (λ (judgement : Checked Deed). carried_out history world Console judgement) (sym (judged_is None is))))
       by (Some entry) is = ap (λ (e : Effect). e.added) (done_for history world command (deeds.explain entry) (judged_is (Some entry) is))
 
   only_missing : (refusal : Refusal) → judged history world command ≡ Err refusal → ((other : ℤ) → refusal ≢ refusals.NoSuchQuery other) → ⊥
@@ -195,7 +196,7 @@ carried_said (Err (Some (Read (Damaged number)))) said fine is = absurd (false�
 carried_said (Err (Some (Read Memory))) said fine is = is
 
 abbrev IsSaid : ℤ → Explanation → Txt → Type 0
-IsSaid number found reply = (reply ≡ explained_line number found) ⊎ (reply ≡ refusal_line (Some 0) refusals.Memory)
+IsSaid number found reply = (reply ≡ explained_line number found) ⊎ (reply ≡ refusal_line Console refusals.Memory)
 
 -- EXPLAIN at the console
 pub Carries-explained : (text : Txt) (number : ℤ) (session : ℕ) (result : Result (Unit {0}) EngineFault) (old new : Engine) (before after : KeeperState) (steps steps' : ℕ) → session ≡ 0 → AtWork old before
@@ -223,7 +224,7 @@ Carries-explained text number session result old new before after steps steps' c
     })))
   where
     either : (history : History) (world : World) → IsFound history number tells.found → is_carried (ended tells.found) ≡ true
-        → (new.reply ≡ explained_line number tells.found) ⊎ (new.reply ≡ refusal_line (Some 0) refusals.Memory)
+        → (new.reply ≡ explained_line number tells.found) ⊎ (new.reply ≡ refusal_line Console refusals.Memory)
         → IsEffect history world (state 0 (stmt.Explain number) text) (only_reply world new.reply)
     either history world is fine (inl said) = effect_found history world text number tells.found new.reply is fine said
     either history world is fine (inr said) =
@@ -238,13 +239,13 @@ Carries-told asked number entry result old new before between after start steps 
       found = told_of told.tells.found;
       explains = question_explains number old.state before between start steps entry told.tells.found after steps' looks.looks told.tells.denies;
       ended_so = told.tells.ended_so;
-      said = subst (λ (line : Txt). OnOk result ((new.reply ≡ line) ⊎ (new.reply ≡ refusal_line (Some 0) refusals.Memory))) (sym (told_line number told.tells.found)) told.tells.said;
+      said = subst (λ (line : Txt). OnOk result ((new.reply ≡ line) ⊎ (new.reply ≡ refusal_line Console refusals.Memory))) (sym (told_line number told.tells.found)) told.tells.said;
     }))
 
 -- none has the number
 pub Carries-unasked : (asked : Command) (number : ℤ) (old new : Engine) (before after : KeeperState) (steps steps' : ℕ) → AtWork old before
     → LooksUpFor asked number (Ok None) old.state before after steps steps' → new.state ≡ old.state → new.world ≡ old.world
-    → (new.reply ≡ refusal_line (Some 0) (refusals.NoSuchQuery number)) ⊎ (new.reply ≡ refusal_line (Some 0) refusals.Memory) → Carries {A = Unit {0}} asked (Ok tt) old new before after steps steps'
+    → (new.reply ≡ refusal_line Console (refusals.NoSuchQuery number)) ⊎ (new.reply ≡ refusal_line Console refusals.Memory) → Carries {A = Unit {0}} asked (Ok tt) old new before after steps steps'
 Carries-unasked asked number old new before after steps steps' at_work looks same_state same_world said =
     subst (λ (c : Command). Carries {A = Unit {0}} c (Ok tt) old new before after steps steps') (sym looks.is)
     (Carries-explained looks.text number 0 (Ok tt) old new before after steps steps' refl at_work same_state same_world
@@ -253,12 +254,12 @@ Carries-unasked asked number old new before after steps steps' at_work looks sam
 -- it was not read
 pub Carries-unread : (asked : Command) (number : ℤ) (fault : ReadFault) (result : Result (Unit {0}) EngineFault) (old new : Engine) (before after : KeeperState) (steps steps' : ℕ) → AtWork old before
     → LooksUpFor asked number (Err fault) old.state before after steps steps' → new.state ≡ old.state → new.world ≡ old.world
-    → result ≡ ended (Err (Some (Read fault))) → OnOk result (new.reply ≡ refusal_line (Some 0) refusals.Memory) → Carries asked result old new before after steps steps'
+    → result ≡ ended (Err (Some (Read fault))) → OnOk result (new.reply ≡ refusal_line Console refusals.Memory) → Carries asked result old new before after steps steps'
 Carries-unread asked number fault result old new before after steps steps' at_work looks same_state same_world ends said =
     subst (λ (c : Command). Carries c result old new before after steps steps') (sym looks.is)
     (Carries-explained looks.text number 0 result old new before after steps steps' refl at_work same_state same_world
     (record { found = Err (Some (Read fault)); explains = unread_explains number old.state before after steps steps' fault looks.looks; ended_so = ends; said = on_ok result said }))
   where
-    on_ok : (r : Result (Unit {0}) EngineFault) → OnOk r (new.reply ≡ refusal_line (Some 0) refusals.Memory) → OnOk r ((new.reply ≡ explained_line number (Err (Some (Read fault)))) ⊎ (new.reply ≡ refusal_line (Some 0) refusals.Memory))
+    on_ok : (r : Result (Unit {0}) EngineFault) → OnOk r (new.reply ≡ refusal_line Console refusals.Memory) → OnOk r ((new.reply ≡ explained_line number (Err (Some (Read fault)))) ⊎ (new.reply ≡ refusal_line Console refusals.Memory))
     on_ok (Ok done) is = inr is
     on_ok (Err other) is = tt

@@ -21,6 +21,7 @@ use Rattle.hippo_audit_job.specs.Jobs.{OpenAudit, open_audit, step_end, LooksOve
 use Rattle.hippo_audit_job.proofs.JobLemmas.{taken_within}
 use Rattle.hippo_combine.specs.Combining.{combine_terms}
 use Rattle.hippo_replay.specs.Standing.{StandsFor}
+use Rattle.hippo_report.specs.declared.speaker.Speaker.TheVariants.{Console}
 use Rattle.hippo_report.specs.declared.format.Format.{Format}
 use Rattle.hippo_report.specs.declared.refusal.Refusal.{Refusal}
 use Rattle.hippo_report.specs.declared.refusal.Refusal.TheVariants as refusals
@@ -106,7 +107,7 @@ module _ (number : ℕ) (old new : Engine) where
       ap (λ (one : Option OpenAudit). ok_or one (refusals.NoJob number) >>= λ job. Ok (deeds.drop_job number)) (seen-at open_audit old.world.jobs number ∙ ap (option_map open_audit) is)
 
   pub AddsNothing-dropped : (job : HeldJob) → at_number old.world.jobs number ≡ Some job → new.state ≡ old.state → new.world ≡ record (old.world) { jobs = with_at old.world.jobs number None }
-      → new.reply ≡ done_line (Some 0) → AddsNothing drops old new
+      → new.reply ≡ done_line Console → AddsNothing drops old new
   AddsNothing-dropped job is same_state world_is said = record {
     same = same_state;
     effect = λ history stands. inl (effect_is ∙ sym (done_for history (world_of old.world) drops (deeds.drop_job number) (judged_dropped history (Some job) is)));
@@ -122,7 +123,7 @@ module _ (number : ℕ) (old new : Engine) where
       jobs_are : new.world.jobs ≡ with_at old.world.jobs number None
       jobs_are = ap (λ (held : HeldWorld). held.jobs) world_is
 
-      effect_is : shown new ≡ only_reply (with_job (world_of old.world) number None) (done_line (Some 0))
+      effect_is : shown new ≡ only_reply (with_job (world_of old.world) number None) (done_line Console)
       effect_is =
           let worlds : world_of new.world ≡ with_job (world_of old.world) number None = ap world_of world_is ∙ world_with old.world number None (with_at old.world.jobs number None) refl in
           λ i. only_reply (worlds i) (said i)
@@ -213,9 +214,9 @@ module _ (number count : ℕ) (past : Past) (looked : Result (Unit {0}) ReadFaul
         ]
 
     -- memory was short, and the job stands between
-    short_step : held.told ≡ held.mid → new.reply ≡ refusal_line (Some 0) refusals.Memory → IsEffect history world steps_it (shown new)
+    short_step : held.told ≡ held.mid → new.reply ≡ refusal_line Console refusals.Memory → IsEffect history world steps_it (shown new)
     short_step same said =
-        let line : Txt = refusal_line (Some 0) refusals.Memory in
+        let line : Txt = refusal_line Console refusals.Memory in
         let job_is : open_audit held.told ≡ looked_upto job held.mid.place (step_flags history job held.mid.place) =
         ap (λ (one : HeldJob). open_audit one) same ∙ (λ i. record { audit = held.stepped.looks.same_audit i; length = held.stepped.looks.same_length i; place = held.mid.place; waiting = over.flags i }) in
         let worlds : world_of new.world ≡ with_job world number (Some (looked_upto job held.mid.place (step_flags history job held.mid.place))) =

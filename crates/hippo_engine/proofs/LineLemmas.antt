@@ -1,13 +1,15 @@
 -- What holds of the command of each line.
-use Rattle.std.proofs.Common.{◌≡◌, refl, ℕ, arith, codes, Option, Some, None, Result, Ok, Err}
+use Rattle.std.proofs.Common.{◌≡◌, refl, ℕ, zero, suc, arith, codes, Option, Some, None, Result, Ok, Err}
 use Rattle.std.specs.Prelude.{IsUtf8}
 use Rattle.hippo_values.specs.Texts.{Txt}
 use Rattle.hippo_values.specs.declared.moments.Moment.{Moment}
 use Rattle.hippo_io.specs.Lines.{LineText, text_line, too_long_line, not_utf8_line}
 use Rattle.hippo_model.specs.declared.statement.Stmt.{Stmt}
 use Rattle.hippo_report.specs.declared.refusal.Refusal.{Refusal}
+use Rattle.hippo_report.specs.declared.speaker.Speaker.TheVariants.{Nobody}
+use Rattle.hippo_report.specs.Speakers.{speaker_at}
 use Rattle.hippo_lines.specs.Forms.{Form, says_nothing, sets_clock, asks, states, line_form}
-use Rattle.hippo_commands.specs.Commands.{clock_command, state_command, statement_in, command_by, command_of, commanded}
+use Rattle.hippo_commands.specs.Commands.{wrong, clock_command, state_command, statement_in, command_by, command_of, commanded}
 use Rattle.hippo_commands.specs.Moments.{moment_in}
 use Rattle.hippo_following.proofs.CommandTheorem.{commands_are_written}
 use Rattle.hippo_engine.specs.Carrying.{IsText}
@@ -16,15 +18,20 @@ use Rattle.hippo_judging.proofs.LengthLemmas.{plain_fits}
 
 clock : (moment : Option Moment) → IsOfLine (clock_command moment)
 clock (Some moment) = tt
-clock None = plain_fits None (codes "18 BadMoment") tt (omega arith)
+clock None = plain_fits Nobody (codes "18 BadMoment") tt (omega arith)
+
+-- a refusal of a line that begins with a number may be long
+of_somebody : (number : ℕ) (refusal : Refusal) → IsOfLine (wrong (speaker_at number) refusal)
+of_somebody zero refusal = tt
+of_somebody (suc number) refusal = tt
 
 module _ (line : Txt) (utf8 : IsUtf8 line) where
   statement : (session : ℕ) (text : Txt) (found : Result Stmt Refusal) → command_of (text_line line) ≡ state_command session text found → IsOfLine (state_command session text found)
   statement session text (Ok made) is = (line, commands_are_written line session made text utf8 is)
-  statement session text (Err refusal) is = tt
+  statement session text (Err refusal) is = of_somebody session refusal
 
   by_form : (form : Option Form) → command_of (text_line line) ≡ command_by form → IsOfLine (command_by form)
-  by_form None is = plain_fits None (codes "10 BadLine") tt (omega arith)
+  by_form None is = plain_fits Nobody (codes "10 BadLine") tt (omega arith)
   by_form (Some says_nothing) is = tt
   by_form (Some (sets_clock moment)) is = clock (moment_in moment)
   by_form (Some (asks session request)) is = tt
@@ -33,8 +40,8 @@ module _ (line : Txt) (utf8 : IsUtf8 line) where
 -- a refusal of nobody's line is short, and a statement stands in its line
 IsOfLine-line : (line : LineText) → IsText (Some line) → IsOfLine (command_of line)
 IsOfLine-line (text_line text) utf8 = by_form text utf8 (line_form text) refl
-IsOfLine-line too_long_line utf8 = plain_fits None (codes "11 LineTooLong") tt (omega arith)
-IsOfLine-line not_utf8_line utf8 = plain_fits None (codes "10 BadLine") tt (omega arith)
+IsOfLine-line too_long_line utf8 = plain_fits Nobody (codes "11 LineTooLong") tt (omega arith)
+IsOfLine-line not_utf8_line utf8 = plain_fits Nobody (codes "10 BadLine") tt (omega arith)
 
 pub IsOfLine-commanded : (line : Option LineText) → IsText line → IsOfLine (commanded line)
 IsOfLine-commanded None utf8 = tt

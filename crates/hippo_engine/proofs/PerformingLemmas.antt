@@ -7,6 +7,8 @@ use Rattle.hippo_keeper.specs.Keeping.{KeeperState, IsAfterCall, KeepsSame}
 use Rattle.hippo_keeper.proofs.CallLemmas.{IsReady-after}
 use Rattle.hippo_backlog.specs.Calls as reads
 use Rattle.hippo_backlog.specs.declared.faults.ReadFault.{ReadFault}
+use Rattle.hippo_report.specs.declared.speaker.Speaker.{Speaker}
+use Rattle.hippo_report.specs.Speakers.{speaker_at}
 use Rattle.hippo_report.specs.declared.refusal.Refusal.TheVariants.{Memory}
 use Rattle.hippo_report.specs.Refusals.{refusal_line}
 use Rattle.hippo_world.specs.declared.worlds.World.{World as HeldWorld}
@@ -38,8 +40,8 @@ quiet_done command deed old new does same audits shows = record {
 }
 
 -- or memory was short for it, and that is said
-pub quiet_short : (command : Command) (session : ℕ) (old new : Engine) → who_commands command ≡ Some session → may_do_nothing command ≡ true → new.state ≡ old.state → new.world ≡ old.world
-    → new.reply ≡ refusal_line (Some session) Memory → IsQuiet command old new
+pub quiet_short : (command : Command) (session : ℕ) (old new : Engine) → who_commands command ≡ speaker_at session → may_do_nothing command ≡ true → new.state ≡ old.state → new.world ≡ old.world
+    → new.reply ≡ refusal_line (speaker_at session) Memory → IsQuiet command old new
 quiet_short command session old new who takes same world_is said = record {
   same = same;
   effect = λ history stands. subst (λ (effect : Effect). IsEffect history (world_of old.world) command effect) shown_is (short history (world_of old.world) command takes);
@@ -47,7 +49,7 @@ quiet_short command session old new who takes same world_is said = record {
 }
   where
     line_is : refusal_line (who_commands command) Memory ≡ new.reply
-    line_is = ap (λ (one : Option ℕ). refusal_line one Memory) who ∙ sym said
+    line_is = ap (λ (one : Speaker). refusal_line one Memory) who ∙ sym said
 
     shown_is : only_reply (world_of old.world) (refusal_line (who_commands command) Memory) ≡ shown new
     shown_is = λ i. only_reply (world_of (sym world_is i)) (line_is i)
@@ -67,7 +69,7 @@ module _ (command : Command) (old new : Engine) (before between after : KeeperSt
   Carries-performed deed result does same idle performs = still_carries result (same refl) (idle refl) (performs command does)
 
 -- or why not is said
-pub Carries-refused : (command : Command) (who : Option ℕ) (unjudged : Unjudged) (result : Result (Unit {0}) EngineFault) (old new : Engine) (before after : KeeperState) (steps steps' : ℕ)
+pub Carries-refused : (command : Command) (who : Speaker) (unjudged : Unjudged) (result : Result (Unit {0}) EngineFault) (old new : Engine) (before after : KeeperState) (steps steps' : ℕ)
     → who ≡ who_commands command → AtWork old before → Judges command (Err unjudged) old.state old.world before after steps steps'
     → (is_still (Err unjudged) ≡ true → after ≡ before) → (is_still (Err unjudged) ≡ true → steps' ≡ steps) → SaysUnjudged who unjudged result old new
     → Carries command result old new before after steps steps'

@@ -16,6 +16,8 @@ use Rattle.hippo_judging.specs.Judging.{judged}
 use Rattle.hippo_engine.specs.Effects.{asked}
 use Rattle.hippo_values.specs.Texts.{Txt}
 use Rattle.std.specs.List.{flat_map}
+use Rattle.hippo_report.specs.declared.speaker.Speaker.TheVariants.{Nobody}
+use Rattle.hippo_report.specs.Speakers.{speaker_at}
 use Rattle.hippo_report.specs.declared.format.Format.TheVariants as formats
 use Rattle.hippo_report.specs.declared.refusal.Refusal.TheVariants.{NoSession, SessionOpen, NotAuthorized, ConsoleOnly, SessionsOnly, Meaningless, KeyThere, KeyMissing, NoCursor, HistoryFull, MomentBack, BadRecord, BadField, NoJob, NoWatch}
 use Rattle.hippo_report.specs.Cells.{answer_line}
@@ -28,7 +30,7 @@ use Rattle.hippo_commands.specs.Commands.{set_clock, ask, state}
 use Rattle.hippo_engine.proofs.ExampleLines.{run, left, morning, clinic, entry, world_within, nurses_pair, reply_in, reply_after, world_left, console, patient, treatment, nurse, question, all_rows, asked_for, rows_after, ok, rows, text, no, console_no}
 
 a_clinic_is_set_up :
-    run morning ≡ done_line None ∷ ok 1 ∷ ok 2 ∷ ok 3 ∷ ok 4 ∷ ok 5 ∷ ok 6 ∷ ok 7 ∷ done_line (Some 1) ∷ []
+    run morning ≡ done_line Nobody ∷ ok 1 ∷ ok 2 ∷ ok 3 ∷ ok 4 ∷ ok 5 ∷ ok 6 ∷ ok 7 ∷ done_line (speaker_at 1) ∷ []
 a_clinic_is_set_up = refl
 
 a_morning_leaves_entries_and_a_session :
@@ -131,7 +133,7 @@ closed_sessions_ask_nothing :
 closed_sessions_ask_nothing = refl
 
 the_clock_does_not_go_back :
-    reply_after [] (set_clock (pos 1704182399)) ≡ refusal_line None (MomentBack (pos 1704182400))
+    reply_after [] (set_clock (pos 1704182399)) ≡ refusal_line Nobody (MomentBack (pos 1704182400))
 the_clock_does_not_go_back = refl
 
 -- EXTRACT SELECT name FROM patient asks the same question, for records

@@ -26,6 +26,7 @@ use Rattle.hippo_watch.specs.Watches.{IsWatchOf, SharesWatched}
 use Rattle.hippo_watch.specs.AlarmLines.{alarm_text}
 use Rattle.hippo_replay.specs.declared.state.State.{State}
 use Rattle.hippo_replay.specs.Standing.{StandsFor}
+use Rattle.hippo_report.specs.declared.speaker.Speaker.TheVariants.{Console}
 use Rattle.hippo_report.specs.Notices.{done_line, number_line}
 use Rattle.hippo_report.specs.declared.refusal.Refusal.TheVariants.{Memory}
 use Rattle.hippo_report.specs.Refusals.{refusal_line}
@@ -180,12 +181,12 @@ sets_watch command number audit watch old new does same is counted world_is said
 
 -- or memory was short for it
 pub watch_short : (command : Command) (number : ℕ) (audit : Audit) (old new : Engine) → Does command (kinds.Watch number audit) old.state old.world → new.state ≡ old.state
-    → new.world ≡ old.world → new.reply ≡ refusal_line (Some 0) Memory → AddsNothing command old new
+    → new.world ≡ old.world → new.reply ≡ refusal_line Console Memory → AddsNothing command old new
 watch_short command number audit old new ((written, text, is), means, does) same world_is said =
     AddsNothing-quiet command old new (quiet_short command 0 old new (ap who_commands is) (ap may_do_nothing is) same world_is said)
 
 pub ends_watch : (command : Command) (number : ℕ) (old new : Engine) → Does command (kinds.EndWatch number) old.state old.world → new.state ≡ old.state
-    → new.world ≡ record old.world { watches = with_at old.world.watches number None } → new.reply ≡ done_line (Some 0) → AddsNothing command old new
+    → new.world ≡ record old.world { watches = with_at old.world.watches number None } → new.reply ≡ done_line Console → AddsNothing command old new
 ends_watch command number old new does same world_is said =
     puts_watch command (deeds.end_watch number) number None old new same does world_is (λ history stands. tt)
     (λ history. λ i. only_reply (world_with old.world number None new.world world_is i) (said i))

@@ -1,5 +1,5 @@
 -- An audit of all that was asked so far: what it finds, and what it tells.
-use Rattle.std.specs.Prelude.{◌≡◌, ◌≢◌, ◌⊎◌, ◌≤◌, ℕ, ◌+◌, true, false, List, map, length, Some, Result, Ok, Err, IfOk, OnOk}
+use Rattle.std.specs.Prelude.{◌≡◌, ◌≢◌, ◌⊎◌, ◌≤◌, ℕ, ◌+◌, true, false, List, map, length, Result, Ok, Err, IfOk, OnOk}
 use Rattle.hippo_values.specs.Texts.{Txt}
 use Rattle.hippo_model.specs.declared.audit.Audit.{Audit}
 use Rattle.hippo_model.specs.declared.audit.Flag.{Flag}
@@ -15,6 +15,7 @@ use Rattle.hippo_backlog.specs.declared.faults.ReadFault.TheVariants.{Keeper, Da
 use Rattle.hippo_audit_job.specs.Examining.{IsAuditOf}
 use Rattle.hippo_replay.specs.declared.state.State.{State}
 use Rattle.hippo_replay.specs.Standing.{StandsFor}
+use Rattle.hippo_report.specs.declared.speaker.Speaker.TheVariants.{Console}
 use Rattle.hippo_report.specs.declared.format.Format.{Format}
 use Rattle.hippo_report.specs.declared.refusal.Refusal.TheVariants as refusals
 use Rattle.hippo_flags.specs.Flags.{flag_line}
@@ -48,7 +49,7 @@ ended (Err Memory) = Ok tt
 -- what is told of flags, where reading was not cut short by a fault of the keeper
 abbrev pub told_flags : Format → Result (List Flag) ReadFault → Txt
 told_flags format (Ok flags) = listed 0 (flag_line format) flags
-told_flags format (Err fault) = refusal_line (Some 0) refusals.Memory
+told_flags format (Err fault) = refusal_line Console refusals.Memory
 
 -- the flags of an audit are found and told, or memory was short
 pub record TellsFlags (format : Format) (audit : Audit) (state : State) (result : Result (Unit {0}) EngineFault)
@@ -56,4 +57,4 @@ pub record TellsFlags (format : Format) (audit : Audit) (state : State) (result 
   pub found : Result (List Flag) ReadFault
   pub finds : FindsFlags audit state found before after steps steps'
   pub ended_so : result ≡ ended found
-  pub said : OnOk result ((reply ≡ told_flags format found) ⊎ (reply ≡ refusal_line (Some 0) refusals.Memory))
+  pub said : OnOk result ((reply ≡ told_flags format found) ⊎ (reply ≡ refusal_line Console refusals.Memory))

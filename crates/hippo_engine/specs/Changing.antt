@@ -1,8 +1,9 @@
 -- What a statement that changes something does: its entry is added, or it is refused.
-use Rattle.std.specs.Prelude.{◌≡◌, [], ◌∷◌, Some, true, codes}
+use Rattle.std.specs.Prelude.{◌≡◌, [], ◌∷◌, true, codes}
 use Rattle.hippo_model.specs.declared.entry.Entry.{Entry}
 use Rattle.hippo_model.specs.Terms.{History}
 use Rattle.hippo_replay.specs.Standing.{StandsFor}
+use Rattle.hippo_report.specs.declared.speaker.Speaker.TheVariants.{Console}
 use Rattle.hippo_report.specs.Notices.{number_line}
 use Rattle.hippo_world.specs.Worlds.{World}
 use Rattle.hippo_world.specs.Holding.{world_of}
@@ -18,7 +19,7 @@ changed world entry = record { reply = number_line 0 (codes "ok") entry.seq; add
 
 -- a command of the console adds an entry by the rules, which is the next one, whatever history the state stands for
 pub record Changes (command : Command) (entry : Entry) (engine : Engine) : Type 0 where
-  pub who : who_commands command ≡ Some 0
+  pub who : who_commands command ≡ Console
   pub memory : may_do_nothing command ≡ true
   pub adds : (history : History) → StandsFor engine.state history
       → effect_of history (world_of engine.world) command ≡ changed (world_of engine.world) entry

@@ -12,6 +12,9 @@ use Rattle.hippo_model.specs.Answers.{answer}
 use Rattle.hippo_model.specs.Audits.{shared, flags_between}
 use Rattle.hippo_model.specs.Denials.{Denial, denials}
 use Rattle.hippo_typing.specs.Meanings.{meaning}
+use Rattle.hippo_report.specs.declared.speaker.Speaker.{Speaker}
+use Rattle.hippo_report.specs.declared.speaker.Speaker.TheVariants.{Nobody, Console}
+use Rattle.hippo_report.specs.Speakers.{speaker_at}
 use Rattle.hippo_report.specs.declared.refusal.Refusal.TheVariants.{TooManyRows, Memory}
 use Rattle.hippo_csv.specs.Records.{extract_line}
 use Rattle.hippo_report.specs.Cells.{answer_line, denied_line}
@@ -57,7 +60,7 @@ question_rows history world question =
 -- a reply with the rows, unless there are too many
 abbrev pub within_limit : ℕ → List ShownRow → Txt → Txt
 within_limit number rows reply =
-    if nat_lt row_limit (length rows) then refusal_line (Some number) TooManyRows else reply
+    if nat_lt row_limit (length rows) then refusal_line (speaker_at number) TooManyRows else reply
 
 -- what a watch says of an entry, where its audit flags it
 abbrev pub alarm_line : History → Entry → ℕ → Audit → Txt
@@ -157,7 +160,7 @@ abbrev pub explained : History → World → Entry → Effect
 explained history world entry =
     let cells : List Denial = denials meaning history entry in
     only_reply world
-    (if nat_lt row_limit (length cells) then refusal_line (Some 0) TooManyRows else listed 0 denial_line cells)
+    (if nat_lt row_limit (length cells) then refusal_line Console TooManyRows else listed 0 denial_line cells)
 
 -- a job at its beginning
 abbrev pub new_job : History → Audit → OpenAudit
@@ -166,16 +169,16 @@ new_job history audit = record { audit = audit; length = length history; place =
 -- what is done
 abbrev pub done : History → World → Deed → Effect
 done history world deeds.do_nothing = only_reply world []
-done history world (deeds.set_clock moment) = only_reply (record world { clock = moment }) (done_line None)
+done history world (deeds.set_clock moment) = only_reply (record world { clock = moment }) (done_line Nobody)
 done history world (deeds.log_in number user pair) =
-    only_reply (with_session world number (Some (new_session user pair))) (done_line (Some number))
-done history world (deeds.log_out number) = only_reply (with_session world number None) (done_line (Some number))
+    only_reply (with_session world number (Some (new_session user pair))) (done_line (speaker_at number))
+done history world (deeds.log_out number) = only_reply (with_session world number None) (done_line (speaker_at number))
 done history world (deeds.hand_out number session at cursor count) = handed_out world number session at cursor count
 done history world (deeds.close_cursor number session at) =
-    only_reply (with_session world number (Some (with_cursor session at None))) (done_line (Some number))
+    only_reply (with_session world number (Some (with_cursor session at None))) (done_line (speaker_at number))
 done history world (deeds.step_job number job count) = stepped history world number job count
-done history world (deeds.drop_job number) = only_reply (with_job world number None) (done_line (Some 0))
-done history world (deeds.end_watch number) = only_reply (with_watch world number None) (done_line (Some 0))
+done history world (deeds.drop_job number) = only_reply (with_job world number None) (done_line Console)
+done history world (deeds.end_watch number) = only_reply (with_watch world number None) (done_line Console)
 done history world (deeds.change act) = record {
   reply = number_line 0 (codes "ok") (length history + 1);
   added = next_entry history world act ∷ [];
@@ -192,7 +195,7 @@ done history world (deeds.watch number audit) =
     only_reply (with_watch world number (Some audit)) (number_line 0 (codes "watch") number)
 
 -- a refusal changes nothing
-abbrev pub carried_out : History → World → Option ℕ → Checked Deed → Effect
+abbrev pub carried_out : History → World → Speaker → Checked Deed → Effect
 carried_out history world who (Ok deed) = done history world deed
 carried_out history world who (Err refusal) = only_reply world (refusal_line who refusal)
 

@@ -15,6 +15,7 @@ use Rattle.hippo_denials.specs.declared.faults.DenialsFault.TheVariants.{Read, T
 use Rattle.hippo_denials.specs.Denying as listing
 use Rattle.hippo_replay.specs.declared.state.State.{State}
 use Rattle.hippo_replay.specs.Standing.{StandsFor}
+use Rattle.hippo_report.specs.declared.speaker.Speaker.TheVariants.{Console}
 use Rattle.hippo_report.specs.declared.refusal.Refusal.TheVariants as refusals
 use Rattle.hippo_report.specs.Refusals.{refusal_line}
 use Rattle.hippo_engine.specs.declared.faults.EngineFault.{EngineFault}
@@ -62,9 +63,9 @@ pub record Explains (number : ℤ) (state : State) (result : Explained) (before 
 -- what is said of it
 abbrev pub explained_line : ℤ → Explained → Txt
 explained_line number (Ok cells) = listed 0 denial_line cells
-explained_line number (Err None) = refusal_line (Some 0) (refusals.NoSuchQuery number)
-explained_line number (Err (Some TooMany)) = refusal_line (Some 0) refusals.TooManyRows
-explained_line number (Err (Some (Read fault))) = refusal_line (Some 0) refusals.Memory
+explained_line number (Err None) = refusal_line Console (refusals.NoSuchQuery number)
+explained_line number (Err (Some TooMany)) = refusal_line Console refusals.TooManyRows
+explained_line number (Err (Some (Read fault))) = refusal_line Console refusals.Memory
 
 -- what is told of the denied cells of an entry
 abbrev pub told_of : Result (List Denial) DenialsFault → Explained
@@ -73,8 +74,8 @@ told_of (Err fault) = Err (Some fault)
 
 abbrev pub told_cells : Result (List Denial) DenialsFault → Txt
 told_cells (Ok cells) = listed 0 denial_line cells
-told_cells (Err TooMany) = refusal_line (Some 0) refusals.TooManyRows
-told_cells (Err (Read fault)) = refusal_line (Some 0) refusals.Memory
+told_cells (Err TooMany) = refusal_line Console refusals.TooManyRows
+told_cells (Err (Read fault)) = refusal_line Console refusals.Memory
 
 -- and how the line ends
 abbrev pub ended : Explained → Result (Unit {0}) EngineFault
@@ -92,4 +93,4 @@ pub record TellsCells (number : ℤ) (state : State) (result : Result (Unit {0})
   pub explains : Explains number state found before after steps steps'
   pub ended_so : result ≡ ended found
   pub said : OnOk result
-      ((reply ≡ explained_line number found) ⊎ (reply ≡ refusal_line (Some 0) refusals.Memory))
+      ((reply ≡ explained_line number found) ⊎ (reply ≡ refusal_line Console refusals.Memory))

@@ -4,6 +4,7 @@ use Rattle.hippo_values.specs.Texts.{Txt}
 use Rattle.hippo_model.specs.declared.audit.Audit.{Audit}
 use Rattle.hippo_backlog.specs.declared.faults.ReadFault.{ReadFault}
 use Rattle.hippo_backlog.specs.declared.faults.ReadFault.TheVariants as faults
+use Rattle.hippo_report.specs.declared.speaker.Speaker.TheVariants.{Console}
 use Rattle.hippo_report.specs.declared.format.Format.{Format}
 use Rattle.hippo_report.specs.declared.refusal.Refusal.TheVariants.{Memory}
 use Rattle.hippo_flags.specs.Flags.{flag_line}
@@ -35,10 +36,10 @@ step_text format job = flat_map (flag_line format) job.waiting ++ progress_line 
 abbrev pub SaysStep : Format → HeldJob → HeldJob → Txt → Type 0
 SaysStep format job told reply =
     ((told ≡ record job { waiting = [] }) × (reply ≡ step_text format job))
-    ⊎ ((told ≡ job) × (reply ≡ refusal_line (Some 0) Memory))
+    ⊎ ((told ≡ job) × (reply ≡ refusal_line Console Memory))
 
 -- what is said of a step, by how it ended, and which flags wait behind it
 abbrev pub TellsStep : Result (Unit {0}) ReadFault → Format → HeldJob → HeldJob → Txt → Type 0
 TellsStep (Ok all) format job told reply = SaysStep format job told reply
-TellsStep (Err faults.Memory) format job told reply = (told ≡ job) × (reply ≡ refusal_line (Some 0) Memory)
+TellsStep (Err faults.Memory) format job told reply = (told ≡ job) × (reply ≡ refusal_line Console Memory)
 TellsStep (Err fault) format job told reply = told ≡ job

@@ -1,5 +1,5 @@
 -- What performing does that was found of a command.
-use Rattle.std.specs.Prelude.{◌≡◌, ◌⊎◌, ◌≤◌, ℕ, List, length, Option, Some, Result, Ok, Err, OnOk}
+use Rattle.std.specs.Prelude.{◌≡◌, ◌⊎◌, ◌≤◌, ℕ, List, length, Some, Result, Ok, Err, OnOk}
 use Rattle.hippo_values.specs.Texts.{Txt}
 use Rattle.hippo_model.specs.declared.entry.Entry.{Entry}
 use Rattle.hippo_model.specs.Denials.{Denial}
@@ -8,6 +8,8 @@ use Rattle.hippo_denials.specs.declared.faults.DenialsFault.{DenialsFault}
 use Rattle.hippo_denials.specs.declared.faults.DenialsFault.TheVariants.{Read}
 use Rattle.hippo_denials.specs.Denying.{Denies}
 use Rattle.hippo_replay.specs.declared.state.State.{State}
+use Rattle.hippo_report.specs.declared.speaker.Speaker.{Speaker}
+use Rattle.hippo_report.specs.declared.speaker.Speaker.TheVariants.{Console}
 use Rattle.hippo_report.specs.declared.refusal.Refusal.{Refusal}
 use Rattle.hippo_report.specs.declared.refusal.Refusal.TheVariants as refusals
 use Rattle.hippo_report.specs.Refusals.{refusal_line}
@@ -39,7 +41,7 @@ pub record TellsEntry (entry : Entry) (state : State) (result : Result (Unit {0}
   pub found : Result (List Denial) DenialsFault
   pub denies : Denies row_limit entry state.catalog.names state.book found before after steps steps'
   pub ended_so : result ≡ ended (told_of found)
-  pub said : OnOk result ((reply ≡ told_cells found) ⊎ (reply ≡ refusal_line (Some 0) refusals.Memory))
+  pub said : OnOk result ((reply ≡ told_cells found) ⊎ (reply ≡ refusal_line Console refusals.Memory))
 
 -- and nothing else changes
 pub record Explained (entry : Entry) (result : Result (Unit {0}) EngineFault) (old new : Engine)
@@ -58,21 +60,21 @@ Performs deed result old new before after steps steps' =
     → Carries command result old new before after steps steps'
 
 -- a reply says a refusal, or that memory was short; what is short is said whatever memory there is
-abbrev pub SaysRefusal : Option ℕ → Refusal → Txt → Type 0
+abbrev pub SaysRefusal : Speaker → Refusal → Txt → Type 0
 SaysRefusal who refusal reply =
     ((reply ≡ refusal_line who refusal) ⊎ (reply ≡ refusal_line who refusals.Memory))
     × (length (refusal_line who refusal) ≤ reply_room → reply ≡ refusal_line who refusal)
 
 -- what is said where nothing is done, and how the line ends
-abbrev pub SaysReason : Option ℕ → Unjudged → Result (Unit {0}) EngineFault → Txt → Type 0
+abbrev pub SaysReason : Speaker → Unjudged → Result (Unit {0}) EngineFault → Txt → Type 0
 SaysReason who (Refused refusal) result reply = (result ≡ Ok tt) × SaysRefusal who refusal reply
 SaysReason who (NoQuestion number) result reply =
-    (result ≡ Ok tt) × SaysRefusal (Some 0) (refusals.NoSuchQuery number) reply
+    (result ≡ Ok tt) × SaysRefusal Console (refusals.NoSuchQuery number) reply
 SaysReason who (Unread fault) result reply =
-    (result ≡ ended (Err (Some (Read fault)))) × OnOk result (reply ≡ refusal_line (Some 0) refusals.Memory)
+    (result ≡ ended (Err (Some (Read fault)))) × OnOk result (reply ≡ refusal_line Console refusals.Memory)
 
 -- and nothing changes
-pub record SaysUnjudged (who : Option ℕ) (unjudged : Unjudged) (result : Result (Unit {0}) EngineFault)
+pub record SaysUnjudged (who : Speaker) (unjudged : Unjudged) (result : Result (Unit {0}) EngineFault)
     (old new : Engine) : Type 0 where
   pub state : new.state ≡ old.state
   pub world : new.world ≡ old.world

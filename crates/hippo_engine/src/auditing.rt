@@ -6,6 +6,7 @@ ghost use Rattle.std.specs.Result.{result_map_both};
 ghost use Rattle.hippo_keeper.specs.Keeping.{IsReady};
 ghost use Rattle.hippo_report.specs.declared.refusal.Refusal.TheVariants as refusals;
 ghost use Rattle.hippo_flags.specs.Flags.{flag_line};
+ghost use Rattle.hippo_report.specs.declared.speaker.Speaker.TheVariants.{Console};
 ghost use Rattle.hippo_report.specs.Refusals.{refusal_line};
 ghost use Rattle.hippo_commands.specs.Commands.{Command};
 ghost use Rattle.hippo_judging.specs.declared.deeds.Deed.TheVariants as deeds;
@@ -25,7 +26,7 @@ use hippo_flags::flag_line;
 use hippo_keeper::{Keeper, Steps};
 use hippo_model::{Audit, Flag};
 use hippo_replay::State;
-use hippo_report::{Format, number_line};
+use hippo_report::{Format, Speaker, number_line};
 use hippo_values::Memory;
 use std::alloc::Global;
 use std::sync::ledger::Ledger;
@@ -97,18 +98,18 @@ fn say_flags(
     ensures ended { result ≡ ended found }
     ensures said { OnOk result ((reply.new
         ≡ told_flags format (result_map_both (λ job. job.waiting) (λ fault. fault) found))
-        ⊎ (reply.new ≡ refusal_line (Some 0) refusals.Memory)) }
+        ⊎ (reply.new ≡ refusal_line Console refusals.Memory)) }
 {
     match found {
         Ok(job) => {
             if print_flags(alloc, format, job.waiting().as_slice(), reply).is_err() {
-                refuse_for_memory(Some(0), reply);
+                refuse_for_memory(Speaker::Console, reply);
             }
             drop(job);
             Ok(())
         }
         Err(ReadFault::Memory) => {
-            refuse_for_memory(Some(0), reply);
+            refuse_for_memory(Speaker::Console, reply);
             Ok(())
         }
         Err(ReadFault::Keeper) => Err(EngineFault::Keeper),

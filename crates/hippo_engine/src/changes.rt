@@ -11,7 +11,7 @@ use crate::faults::EngineFault;
 use crate::replies::{refuse, say_number};
 use hippo_keeper::{Keeper, KeeperFault};
 use hippo_model::Entry;
-use hippo_report::Refusal;
+use hippo_report::{Refusal, Speaker};
 use std::alloc::Global;
 
 impl Engine {
@@ -37,7 +37,7 @@ impl Engine {
             Err(KeeperFault::Failed) => Err(EngineFault::Keeper),
             Err(KeeperFault::Memory) => {
                 self.world.take_back(&self.state.tables, &entry.act);
-                refuse(Some(0), &Refusal::Memory, &mut self.reply);
+                refuse(Speaker::Console, &Refusal::Memory, &mut self.reply);
                 Ok(())
             }
         }

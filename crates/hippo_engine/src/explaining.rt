@@ -2,6 +2,7 @@
 ghost use Rattle.std.specs.Prelude.{◌≡◌, ◌≢◌, ◌⊎◌, ◌++◌, true, flat_map, Some, OnOk, Err as Bad};
 ghost use Rattle.hippo_keeper.specs.Keeping.{IsReady};
 ghost use Rattle.hippo_report.specs.declared.refusal.Refusal.TheVariants as refusals;
+ghost use Rattle.hippo_report.specs.declared.speaker.Speaker.TheVariants.{Console};
 ghost use Rattle.hippo_report.specs.Refusals.{refusal_line};
 ghost use Rattle.hippo_engine.specs.declared.faults.EngineFault.TheVariants.{Write as WriteFailed};
 ghost use Rattle.hippo_engine.specs.Effects.{denial_line, listed};
@@ -16,7 +17,7 @@ use hippo_denials::{DenialsFault, Denied, denied_cells};
 use hippo_keeper::{Keeper, Steps};
 use hippo_model::Entry;
 use hippo_replay::State;
-use hippo_report::{Refusal, denied_line, number_line};
+use hippo_report::{Refusal, Speaker, denied_line, number_line};
 use hippo_values::{Memory, Sequence};
 use std::alloc::Global;
 use std::sync::ledger::Ledger;
@@ -48,22 +49,22 @@ fn say_cells(
 ) -> Result<(), EngineFault>
     ensures ended { result ≡ ended (told_of found.entry) }
     ensures said { OnOk result ((reply.new ≡ told_cells found.entry)
-        ⊎ (reply.new ≡ refusal_line (Some 0) refusals.Memory)) }
+        ⊎ (reply.new ≡ refusal_line Console refusals.Memory)) }
 {
     match found {
         Ok(cells) => {
             if print_cells(cells.as_slice(), reply).is_err() {
-                refuse_for_memory(Some(0), reply);
+                refuse_for_memory(Speaker::Console, reply);
             }
             drop(cells);
             Ok(())
         }
         Err(DenialsFault::TooMany) => {
-            refuse(Some(0), &Refusal::TooManyRows, reply);
+            refuse(Speaker::Console, &Refusal::TooManyRows, reply);
             Ok(())
         }
         Err(DenialsFault::Read(ReadFault::Memory)) => {
-            refuse_for_memory(Some(0), reply);
+            refuse_for_memory(Speaker::Console, reply);
             Ok(())
         }
         Err(DenialsFault::Read(ReadFault::Keeper)) => Err(EngineFault::Keeper),

@@ -18,7 +18,7 @@ use hippo_audit_job::Past;
 use hippo_backlog::ReadFault;
 use hippo_keeper::{Keeper, Steps};
 use hippo_model::Audit;
-use hippo_report::Format;
+use hippo_report::{Format, Speaker};
 use hippo_values::Memory;
 use hippo_world::AuditJob;
 use std::alloc::Global;
@@ -55,7 +55,7 @@ fn say_step(alloc: Global, format: Format, job: &mut AuditJob, reply: &mut Reply
 {
     match print_step(alloc, format, job, reply) {
         Ok(()) => job.written(),
-        Err(Memory) => refuse_for_memory(Some(0), reply),
+        Err(Memory) => refuse_for_memory(Speaker::Console, reply),
     }
 }
 
@@ -76,7 +76,7 @@ fn tell_step(
             Ok(())
         }
         Err(ReadFault::Memory) => {
-            refuse_for_memory(Some(0), reply);
+            refuse_for_memory(Speaker::Console, reply);
             Ok(())
         }
         Err(ReadFault::Keeper) => Err(EngineFault::Keeper),
@@ -135,6 +135,6 @@ impl Engine {
         ensures { AddsNothing (ask 0 (requests.drops number)) self.old self.new }
     {
         self.world.jobs.put(usize::from(number), None);
-        say_done(Some(0), &mut self.reply);
+        say_done(Speaker::Console, &mut self.reply);
     }
 }

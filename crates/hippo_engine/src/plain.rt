@@ -12,14 +12,14 @@ use crate::replies::{refuse, refuse_for_memory};
 use hippo_backlog::ReadFault;
 use hippo_io::{Sink, write_whole};
 use hippo_judging::Unjudged;
-use hippo_report::Refusal;
+use hippo_report::{Refusal, Speaker};
 
 impl Engine {
     /// Says why nothing is done for a command. Answers `Keeper` only where the keeper failed, and `Damaged` only where
     /// it does not tell what it keeps.
     pub(crate) fn refuse_unjudged(
         &mut self,
-        who: Option<u8>,
+        who: Speaker,
         unjudged: Unjudged,
     ) -> Result<(), EngineFault>
         ensures says { SaysUnjudged who unjudged result self.old self.new }
@@ -32,11 +32,15 @@ impl Engine {
                 Ok(())
             }
             Unjudged::NoQuestion(number) => {
-                refuse(Some(0), &Refusal::NoSuchQuery(number), &mut self.reply);
+                refuse(
+                    Speaker::Console,
+                    &Refusal::NoSuchQuery(number),
+                    &mut self.reply,
+                );
                 Ok(())
             }
             Unjudged::Unread(ReadFault::Memory) => {
-                refuse_for_memory(Some(0), &mut self.reply);
+                refuse_for_memory(Speaker::Console, &mut self.reply);
                 Ok(())
             }
             Unjudged::Unread(ReadFault::Keeper) => Err(EngineFault::Keeper),

@@ -7,6 +7,7 @@ ghost use Rattle.hippo_model.specs.Validity.{may_follow};
 ghost use Rattle.hippo_csv.specs.Records.{extract_line};
 ghost use Rattle.hippo_report.specs.declared.refusal.Refusal.TheVariants.{TooManyRows as TooMany};
 ghost use Rattle.hippo_report.specs.Cells.{answer_line};
+ghost use Rattle.hippo_report.specs.Speakers.{speaker_at};
 ghost use Rattle.hippo_report.specs.Refusals.{refusal_line};
 ghost use Rattle.hippo_eval.specs.Answering.{IsAnswered};
 ghost use Rattle.hippo_typing.specs.Meanings.{meaning};
@@ -25,7 +26,7 @@ ghost use Rattle.hippo_engine.specs.Questions.{IsUnkept, IsHandedOut, IsShort, H
 
 use crate::engine::{Engine, Reply};
 use crate::faults::EngineFault;
-use crate::replies::{refuse, refuse_for_memory};
+use crate::replies::refuse_session;
 use crate::watches::alarms_of;
 use hippo_answering::answer;
 use hippo_csv::extract_lines;
@@ -34,7 +35,7 @@ use hippo_judging::{Asking, Delivery, Question};
 use hippo_keeper::{Keeper, KeeperFault};
 use hippo_model::{Act, Answer, CellRow, Entry};
 use hippo_replay::State;
-use hippo_report::{Refusal, answer_lines, number_line, refusal_line};
+use hippo_report::{Refusal, Speaker, answer_lines, number_line, refusal_line};
 use hippo_values::{Duplicate, Memory, Moment, Txt};
 use hippo_world::{Session, World};
 use std::alloc::Global;
@@ -214,10 +215,10 @@ fn print_answer(
 
 // Makes the reply of an answer that has too many rows, and of what the watches say behind it.
 fn print_too_many(session: u8, alarms: &str, reply: &mut Reply) -> Result<(), Memory>
-    ensures { OnOk result (reply.new ≡ refusal_line (Some session) TooMany ++ alarms.now) }
+    ensures { OnOk result (reply.new ≡ refusal_line (speaker_at session) TooMany ++ alarms.now) }
 {
     reply.clear();
-    refusal_line(Some(session), &Refusal::TooManyRows, reply)?;
+    refusal_line(Speaker::at(session), &Refusal::TooManyRows, reply)?;
     reply.append(alarms)
 }
 
@@ -229,7 +230,7 @@ fn say_unkept(session: u8, fault: KeeperFault, reply: &mut Reply) -> Result<(), 
     match fault {
         KeeperFault::Failed => Err(EngineFault::Keeper),
         KeeperFault::Memory => {
-            refuse(Some(session), &Refusal::Memory, reply);
+            refuse_session(session, reply);
             Ok(())
         }
     }
@@ -268,17 +269,17 @@ fn hand_out_rows(
         Ok(()) => keep_answer(session, delivery, rows, world),
         Err(Memory) => {
             drop(rows);
-            refuse_for_memory(Some(session), reply);
+            refuse_session(session, reply);
         }
     }
 }
 
 // Says that an answer has too many rows; or that memory was short.
 fn say_too_many(session: u8, alarms: &str, reply: &mut Reply)
-    ensures { (reply.new ≡ refusal_line (Some session) TooMany ++ alarms.now) ⊎ (reply.new ≡ short_line session) }
+    ensures { (reply.new ≡ refusal_line (speaker_at session) TooMany ++ alarms.now) ⊎ (reply.new ≡ short_line session) }
 {
     if print_too_many(session, alarms, reply).is_err() {
-        refuse_for_memory(Some(session), reply);
+        refuse_session(session, reply);
     }
 }
 
@@ -301,7 +302,7 @@ fn hand_out_answer(
     match answer {
         Ok(rows) => hand_out_rows(alloc, session, delivery, rows, alarms, world, reply),
         Err(EvalFault::TooManyRows) => say_too_many(session, alarms, reply),
-        Err(EvalFault::Memory) => refuse_for_memory(Some(session), reply),
+        Err(EvalFault::Memory) => refuse_session(session, reply),
     }
 }
 
@@ -334,7 +335,7 @@ fn hand_out(
         }
         Err(Memory) => {
             drop(answer);
-            refuse_for_memory(Some(session), reply);
+            refuse_session(session, reply);
         }
     }
 }

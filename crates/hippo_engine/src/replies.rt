@@ -1,47 +1,66 @@
 //! Replies that are made anew, in a text that has room for them.
-ghost use Rattle.std.specs.Prelude.{◌≡◌, ◌⊎◌, ◌≤◌, Some, None, length};
+ghost use Rattle.std.specs.Prelude.{◌≡◌, ◌⊎◌, ◌≤◌, length};
 ghost use Rattle.hippo_report.specs.declared.refusal.Refusal.TheVariants.{Memory as NoMemory};
 ghost use Rattle.hippo_report.specs.declared.refusal.Refusal.TheVariants.{MomentBack as IsBefore};
 ghost use Rattle.hippo_report.specs.Notices.{done_line, number_line};
+ghost use Rattle.hippo_report.specs.declared.speaker.Speaker.TheVariants.{Nobody, Console, Session};
 ghost use Rattle.hippo_report.specs.Refusals.{refusal_line};
+ghost use Rattle.hippo_report.specs.Speakers.{speaker_at};
 ghost use Rattle.hippo_judging.specs.Checks.{reply_room};
 
 use crate::engine::Reply;
-use hippo_report::{Refusal, done_line, number_line, refusal_line};
+use hippo_report::{Refusal, Speaker, done_line, number_line, refusal_line};
 use hippo_values::Moment;
 
-// Want of memory, to a session or to the console.
-fn refuse_session(number: u8, reply: &mut Reply)
-    ensures { reply.new ≡ refusal_line (Some number) NoMemory }
+// Want of memory, to a user's session.
+fn refuse_user(number: u8, reply: &mut Reply)
+    ensures { reply.new ≡ refusal_line (Session number) NoMemory }
 {
     reply.clear();
-    if refusal_line(Some(number), &Refusal::Memory, reply).is_err() {
+    if refusal_line(Speaker::Session(number), &Refusal::Memory, reply).is_err() {
+        unreachable!()
+    }
+}
+
+fn refuse_console(reply: &mut Reply)
+    ensures { reply.new ≡ refusal_line Console NoMemory }
+{
+    reply.clear();
+    if refusal_line(Speaker::Console, &Refusal::Memory, reply).is_err() {
         unreachable!()
     }
 }
 
 fn refuse_nobody(reply: &mut Reply)
-    ensures { reply.new ≡ refusal_line None NoMemory }
+    ensures { reply.new ≡ refusal_line Nobody NoMemory }
 {
     reply.clear();
-    if refusal_line(None, &Refusal::Memory, reply).is_err() {
+    if refusal_line(Speaker::Nobody, &Refusal::Memory, reply).is_err() {
         unreachable!()
     }
 }
 
 /// Makes the reply to a line for which memory was short. Takes none itself.
-pub fn refuse_for_memory(who: Option<u8>, reply: &mut Reply)
+pub fn refuse_for_memory(who: Speaker, reply: &mut Reply)
     ensures { reply.new ≡ refusal_line who NoMemory }
 {
     match who {
-        None => refuse_nobody(reply),
-        Some(number) => refuse_session(number, reply),
+        Speaker::Nobody => refuse_nobody(reply),
+        Speaker::Console => refuse_console(reply),
+        Speaker::Session(number) => refuse_user(number, reply),
     }
+}
+
+/// The same, where the line begins with this number.
+pub fn refuse_session(number: u8, reply: &mut Reply)
+    ensures { reply.new ≡ refusal_line (speaker_at number) NoMemory }
+{
+    refuse_for_memory(Speaker::at(number), reply);
 }
 
 /// Makes the reply to a line that is not carried out: that of its refusal, or that of want of
 /// memory where the refusal is longer than the room and memory is short.
-pub fn refuse(who: Option<u8>, refusal: &Refusal, reply: &mut Reply)
+pub fn refuse(who: Speaker, refusal: &Refusal, reply: &mut Reply)
     ensures said { (reply.new ≡ refusal_line who refusal.now) ⊎ (reply.new ≡ refusal_line who NoMemory) }
     ensures fits { length (refusal_line who refusal.now) ≤ reply_room → reply.new ≡ refusal_line who refusal.now }
 {
@@ -53,37 +72,54 @@ pub fn refuse(who: Option<u8>, refusal: &Refusal, reply: &mut Reply)
 
 /// Makes the reply to a line that would set the clock before this moment. Takes no memory.
 pub fn refuse_moment(clock: Moment, reply: &mut Reply)
-    ensures { reply.new ≡ refusal_line None (IsBefore clock) }
+    ensures { reply.new ≡ refusal_line Nobody (IsBefore clock) }
 {
-    refuse(None, &Refusal::MomentBack(clock), reply);
+    refuse(Speaker::Nobody, &Refusal::MomentBack(clock), reply);
 }
 
-fn say_done_to_session(number: u8, reply: &mut Reply)
-    ensures { reply.new ≡ done_line (Some number) }
+fn say_done_to_user(number: u8, reply: &mut Reply)
+    ensures { reply.new ≡ done_line (Session number) }
 {
     reply.clear();
-    if done_line(Some(number), reply).is_err() {
+    if done_line(Speaker::Session(number), reply).is_err() {
+        unreachable!()
+    }
+}
+
+fn say_done_to_console(reply: &mut Reply)
+    ensures { reply.new ≡ done_line Console }
+{
+    reply.clear();
+    if done_line(Speaker::Console, reply).is_err() {
         unreachable!()
     }
 }
 
 fn say_done_to_nobody(reply: &mut Reply)
-    ensures { reply.new ≡ done_line None }
+    ensures { reply.new ≡ done_line Nobody }
 {
     reply.clear();
-    if done_line(None, reply).is_err() {
+    if done_line(Speaker::Nobody, reply).is_err() {
         unreachable!()
     }
 }
 
 /// Makes the reply to a line that was carried out. Takes no memory.
-pub fn say_done(who: Option<u8>, reply: &mut Reply)
+pub fn say_done(who: Speaker, reply: &mut Reply)
     ensures { reply.new ≡ done_line who }
 {
     match who {
-        None => say_done_to_nobody(reply),
-        Some(number) => say_done_to_session(number, reply),
+        Speaker::Nobody => say_done_to_nobody(reply),
+        Speaker::Console => say_done_to_console(reply),
+        Speaker::Session(number) => say_done_to_user(number, reply),
     }
+}
+
+/// The same, where the line begins with this number.
+pub fn say_done_to_session(number: u8, reply: &mut Reply)
+    ensures { reply.new ≡ done_line (speaker_at number) }
+{
+    say_done(Speaker::at(number), reply);
 }
 
 /// Makes the reply that says a word and a number to a session or to the console. Takes no memory.

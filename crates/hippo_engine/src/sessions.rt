@@ -10,8 +10,9 @@ ghost use Rattle.hippo_engine.specs.Performing.{MayDo};
 
 use crate::engine::Engine;
 use crate::fetching::print_next;
-use crate::replies::{refuse_for_memory, say_done};
+use crate::replies::{refuse_session, say_done, say_done_to_session};
 use hippo_model::Pair;
+use hippo_report::Speaker;
 use hippo_values::{Memory, Moment, Name};
 use hippo_world::{Cursor, World};
 use std::alloc::Global;
@@ -42,7 +43,7 @@ impl Engine {
             → IsQuiet command self.old self.new }
     {
         self.world.clock = moment;
-        say_done(None, &mut self.reply);
+        say_done(Speaker::Nobody, &mut self.reply);
     }
 
     /// Opens a session, or says that memory was short.
@@ -51,8 +52,8 @@ impl Engine {
             → IsQuiet command self.old self.new }
     {
         match self.world.log_in(alloc, session, user, pair) {
-            Ok(()) => say_done(Some(session), &mut self.reply),
-            Err(Memory) => refuse_for_memory(Some(session), &mut self.reply),
+            Ok(()) => say_done_to_session(session, &mut self.reply),
+            Err(Memory) => refuse_session(session, &mut self.reply),
         }
     }
 
@@ -62,7 +63,7 @@ impl Engine {
             → IsQuiet command self.old self.new }
     {
         self.world.log_out(session);
-        say_done(Some(session), &mut self.reply);
+        say_done_to_session(session, &mut self.reply);
     }
 
     /// Hands out rows of a cursor: they are printed first, and the cursor moves on where the reply is whole. Or says
@@ -76,7 +77,7 @@ impl Engine {
         match cursor_at(&self.world, session, cursor) {
             Some(held) => match print_next(session, held, count, &mut self.reply) {
                 Ok(()) => self.world.move_on(session, cursor, count),
-                Err(Memory) => refuse_for_memory(Some(session), &mut self.reply),
+                Err(Memory) => refuse_session(session, &mut self.reply),
             },
             None => unreachable!(),
         }
@@ -88,6 +89,6 @@ impl Engine {
             → IsQuiet command self.old self.new }
     {
         self.world.close_cursor(session, cursor);
-        say_done(Some(session), &mut self.reply);
+        say_done_to_session(session, &mut self.reply);
     }
 }

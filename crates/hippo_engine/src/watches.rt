@@ -23,6 +23,7 @@ use hippo_audit_job::Past;
 use hippo_judging::Asking;
 use hippo_model::{Audit, Pair, Query, SharedTuple};
 use hippo_replay::State;
+use hippo_report::Speaker;
 use hippo_typing::read_meaning;
 use hippo_values::Memory;
 use hippo_watch::{AskedNow, Watch, alarm_line};
@@ -190,7 +191,7 @@ impl Engine {
                 self.world.watches.put(number, Some(watch));
                 say_number(0, "watch", number as u64, &mut self.reply);
             }
-            Err(Memory) => refuse_for_memory(Some(0), &mut self.reply),
+            Err(Memory) => refuse_for_memory(Speaker::Console, &mut self.reply),
         }
     }
 
@@ -200,6 +201,6 @@ impl Engine {
             → AddsNothing command self.old self.new }
     {
         self.world.watches.put(usize::from(number), None);
-        say_done(Some(0), &mut self.reply);
+        say_done(Speaker::Console, &mut self.reply);
     }
 }

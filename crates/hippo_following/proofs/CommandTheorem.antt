@@ -23,6 +23,7 @@ use Rattle.hippo_lines.proofs.FormLemmas.{states-within}
 use Rattle.hippo_model.specs.declared.statement.Stmt.{Stmt}
 use Rattle.hippo_report.specs.declared.refusal.Refusal.{Refusal}
 use Rattle.hippo_report.specs.declared.refusal.Refusal.TheVariants.{BadSyntax}
+use Rattle.hippo_report.specs.Speakers.{speaker_at}
 use Rattle.hippo_stmt_reader.specs.StatementFinder.{statement_of}
 use Rattle.hippo_commands.specs.Commands.{state, wrong, statement_by, statement_among, statement_in, state_command, clock_command, command_by}
 use Rattle.hippo_commands.specs.Moments.{moment_in}
@@ -110,7 +111,7 @@ by_statement line number behind session statement text (Ok other) form found is 
       form = form ∙ (λ i. Some (states (numbers i) (texts i)));
       found = subst (λ (text : Txt). statement_in text ≡ Ok statement) texts (found ∙ (λ i. Ok (statements i)));
     }
-by_statement line number behind session statement text (Err refusal) form found is = let other : wrong (Some number) refusal ≡ state session statement text = is in absurd cc
+by_statement line number behind session statement text (Err refusal) form found is = let other : wrong (speaker_at number) refusal ≡ state session statement text = is in absurd cc
 
 by_moment : (line : Txt) (moment : Option Moment) (session : ℕ) (statement : Stmt) (text : Txt) → clock_command moment ≡ state session statement text → IsCommanded line session statement text
 by_moment line None session statement text is = absurd cc

@@ -42,6 +42,7 @@ use Rattle.hippo_judging.proofs.AskingLemmas.{judged_written}
 use Rattle.hippo_judging.proofs.FollowingLemmas.{passed, found_same, unrefused, has_room_at}
 use Rattle.hippo_judging.specs.declared.deeds.Question.{Question as AskedQuestion}
 use Rattle.hippo_judging.specs.Findings.{IsOfLine, IsRefused, MayBeAsked}
+use Rattle.hippo_report.specs.Speakers.{speaker_at}
 use Rattle.hippo_judging.specs.Asking.{entry_of}
 
 -- the question that a deed asks
@@ -157,7 +158,7 @@ may_be_asked state held session written text asking question timely fits names o
     record {
       asker = asker;
       there = subst (λ (n : ℕ). session_at (world_of held) n ≡ Some asker) (sym own) (is_there (world_of held) session asker opened);
-      who = ap Some (sym own);
+      who = ap speaker_at (sym own);
       memory = refl;
       does = λ history stands.
           judged_is history stands

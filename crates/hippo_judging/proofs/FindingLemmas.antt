@@ -15,7 +15,9 @@ use Rattle.hippo_replay.specs.declared.state.State.{State}
 use Rattle.hippo_replay.specs.Standing.{StandsFor, MayFollow}
 use Rattle.hippo_report.specs.declared.refusal.Refusal.{Refusal}
 use Rattle.hippo_report.specs.declared.refusal.Refusal.TheVariants.{SessionsOnly, NoSession, NoJob, NoWatch, JobLimit, WatchLimit}
+use Rattle.hippo_report.specs.declared.speaker.Speaker.TheVariants.{Console}
 use Rattle.hippo_report.specs.Refusals.{refusal_line}
+use Rattle.hippo_report.specs.Speakers.{speaker_at}
 use Rattle.hippo_world.specs.declared.sessions.Session.{Session}
 use Rattle.hippo_world.specs.declared.worlds.World.{World as HeldWorld}
 use Rattle.hippo_world.specs.Auditing.{HeldJob, watched}
@@ -154,13 +156,13 @@ job_first world session number next refusal is = parted (by_console session) ∙
     parted (Err other) = refl
 
 pub refused_step : (world : HeldWorld) (state : State) (session number count : ℕ) (refusal : Refusal) → job_at (world_of world) session number ≡ Err refusal
-    → length (refusal_line (Some session) refusal) ≤ reply_room → IsRefused (ask session (requests.steps number count)) refusal state world
+    → length (refusal_line (speaker_at session) refusal) ≤ reply_room → IsRefused (ask session (requests.steps number count)) refusal state world
 refused_step world state session number count refusal is fits =
     refused_so (ask session (requests.steps number count)) refusal state world
     (λ history stands. job_first (world_of world) session number (λ job. Ok (deeds.step_job number job count)) refusal is) fits
 
 pub refused_drop : (world : HeldWorld) (state : State) (session number : ℕ) (refusal : Refusal) → job_at (world_of world) session number ≡ Err refusal
-    → length (refusal_line (Some session) refusal) ≤ reply_room → IsRefused (ask session (requests.drops number)) refusal state world
+    → length (refusal_line (speaker_at session) refusal) ≤ reply_room → IsRefused (ask session (requests.drops number)) refusal state world
 refused_drop world state session number refusal is fits =
     refused_so (ask session (requests.drops number)) refusal state world
     (λ history stands. job_first (world_of world) session number (λ job. Ok (deeds.drop_job number)) refusal is) fits
@@ -234,7 +236,7 @@ refused_audit state world session written command next refusal takes begins refu
 -- ---- changes
 module _ (state : State) (world : HeldWorld) (command : Command) (judgement : History → Checked deeds.Deed) (takes : may_do_nothing command ≡ true)
     (begins : (history : History) → judged history (world_of world) command ≡ judgement history) where
-  pub may_change : (entry : Entry) → who_commands command ≡ Some 0 → ((history : History) → StandsFor state history → IsChange history (world_of world) (judgement history) entry) → entry.seq < 2 ^ 63 → MayFollow state entry
+  pub may_change : (entry : Entry) → who_commands command ≡ Console → ((history : History) → StandsFor state history → IsChange history (world_of world) (judgement history) entry) → entry.seq < 2 ^ 63 → MayFollow state entry
       → Adds command entry state world
   may_change entry console is number follows = record {
     console = console;

@@ -18,7 +18,9 @@ use Rattle.hippo_audit_job.specs.Jobs.{open_audit}
 use Rattle.hippo_replay.specs.declared.state.State.{State}
 use Rattle.hippo_replay.specs.Standing.{StandsFor, MayFollow}
 use Rattle.hippo_report.specs.declared.refusal.Refusal.{Refusal}
+use Rattle.hippo_report.specs.declared.speaker.Speaker.TheVariants.{Nobody, Console}
 use Rattle.hippo_report.specs.Refusals.{refusal_line}
+use Rattle.hippo_report.specs.Speakers.{speaker_at}
 use Rattle.hippo_world.specs.declared.cursors.Cursor.{Cursor}
 use Rattle.hippo_world.specs.declared.sessions.Session.{Session}
 use Rattle.hippo_world.specs.declared.worlds.World.{World as HeldWorld}
@@ -44,7 +46,7 @@ use Rattle.hippo_judging.specs.Judging.{deed_for, judged}
 
 -- what holds of each command that a line gives: a refusal of nobody's line is short, and a statement stands in the line
 abbrev pub IsOfLine : Command → Type 0
-IsOfLine (wrong None refusal) = length (refusal_line None refusal) ≤ reply_room
+IsOfLine (wrong Nobody refusal) = length (refusal_line Nobody refusal) ≤ reply_room
 IsOfLine (commands.state session statement text) = (line : Txt) × StandsIn line statement text
 IsOfLine command = Unit {0}
 
@@ -82,7 +84,7 @@ pub record HoldsJob (world : HeldWorld) (number : ℕ) (holds : HeldJob → Type
 
 -- an entry is the next one, and may follow
 pub record Adds (command : Command) (entry : Entry) (state : State) (world : HeldWorld) : Type 0 where
-  pub console : who_commands command ≡ Some 0
+  pub console : who_commands command ≡ Console
   pub memory : may_do_nothing command ≡ true
   pub does : (history : History) → StandsFor state history
       → IsChange history (world_of world) (judged history (world_of world) command) entry
@@ -110,7 +112,7 @@ pub record MayBeAsked (command : Command) (question : Question) (delivery : Deli
     : Type 0 where
   pub asker : Session
   pub there : session_at (world_of world) question.session ≡ Some asker
-  pub who : who_commands command ≡ Some question.session
+  pub who : who_commands command ≡ speaker_at question.session
   pub memory : may_do_nothing command ≡ true
   pub does : IsJudged command state world (Ok (deed_for asker (question_by asker question) delivery))
   pub answerable : IsAnswerable state question.query
@@ -127,11 +129,11 @@ abbrev pub Does : Command → Deed → State → HeldWorld → Type 0
 Does command kinds.DoNothing state world = IsJudged command state world (Ok deeds.do_nothing)
 Does command (kinds.SetClock moment) state world = IsJudged command state world (Ok (deeds.set_clock moment))
 Does command (kinds.LogIn session user pair) state world =
-    (who_commands command ≡ Some session) × (may_do_nothing command ≡ true)
+    (who_commands command ≡ speaker_at session) × (may_do_nothing command ≡ true)
     × IsJudged command state world (Ok (deeds.log_in session user pair))
 Does command (kinds.LogOut session) state world = IsJudged command state world (Ok (deeds.log_out session))
 Does command (kinds.HandOut session at count) state world =
-    (who_commands command ≡ Some session) × (may_do_nothing command ≡ true)
+    (who_commands command ≡ speaker_at session) × (may_do_nothing command ≡ true)
     × HoldsCursor world session at (λ held cursor.
     IsJudged command state world (Ok (deeds.hand_out session held at cursor count)))
 Does command (kinds.CloseCursor session at) state world =

@@ -1,6 +1,7 @@
 //! What is checked of a line of the console.
 ghost use Rattle.std.specs.Prelude.{◌≡◌, ◌≤◌, Some, length, MatchResult, OnOk, IfErr, Err as Bad};
 ghost use Rattle.hippo_report.specs.Refusals.{refusal_line};
+ghost use Rattle.hippo_report.specs.Speakers.{speaker_at};
 ghost use Rattle.hippo_world.specs.Holding.{world_of};
 ghost use Rattle.hippo_judging.specs.Checks.{by_console, held_watch, job_at, StandsJob, reply_room};
 
@@ -23,7 +24,7 @@ pub(crate) fn check_console(session: u8) -> Result<(), Refusal>
 /// which none stands. Its refusals are short.
 pub(crate) fn held_watch(world: &World, session: u8, number: u8) -> Result<(), Refusal>
     ensures found { result ≡ held_watch (world_of world.now) session number }
-    ensures fits { IfErr result (λ refusal. length (refusal_line (Some session) refusal) ≤ reply_room) }
+    ensures fits { IfErr result (λ refusal. length (refusal_line (speaker_at session) refusal) ≤ reply_room) }
 {
     if session != 0 {
         return Err(Refusal::ConsoleOnly);
@@ -39,7 +40,7 @@ pub(crate) fn held_watch(world: &World, session: u8, number: u8) -> Result<(), R
 pub(crate) fn check_job(world: &World, session: u8, number: u8) -> Result<(), Refusal>
     ensures found { MatchResult result (λ passed. (session ≡ 0) × StandsJob world.now number)
         (λ refusal. job_at (world_of world.now) session number ≡ Bad refusal) }
-    ensures fits { IfErr result (λ refusal. length (refusal_line (Some session) refusal) ≤ reply_room) }
+    ensures fits { IfErr result (λ refusal. length (refusal_line (speaker_at session) refusal) ≤ reply_room) }
 {
     if session != 0 {
         return Err(Refusal::ConsoleOnly);

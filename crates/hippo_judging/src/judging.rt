@@ -12,20 +12,21 @@ use crate::statements::{judge_statement, unread};
 use hippo_commands::Command;
 use hippo_keeper::{Keeper, Steps};
 use hippo_replay::State;
+use hippo_report::Speaker;
 use hippo_world::World;
 use std::alloc::Global;
 use std::sync::ledger::Ledger;
 
-/// Whose line a command is: a session's, the console's, which is session 0, or nobody's.
-pub fn who_commands(found: &Command<'_>) -> Option<u8>
+/// Who the line of a command speaks for.
+pub fn who_commands(found: &Command<'_>) -> Speaker
     ensures { result ≡ commands.who_commands (command found.now) }
 {
     match found {
-        Command::Nothing => None,
+        Command::Nothing => Speaker::Nobody,
         Command::Wrong { who, .. } => *who,
-        Command::SetClock { .. } => None,
-        Command::Ask { session, .. } => Some(*session),
-        Command::State { session, .. } => Some(*session),
+        Command::SetClock { .. } => Speaker::Nobody,
+        Command::Ask { session, .. } => Speaker::at(*session),
+        Command::State { session, .. } => Speaker::at(*session),
     }
 }
 

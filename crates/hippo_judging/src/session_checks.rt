@@ -5,6 +5,7 @@ ghost use Rattle.hippo_model.specs.Terms.{History};
 ghost use Rattle.hippo_replay.specs.Standing.{StandsFor};
 ghost use Rattle.hippo_report.specs.declared.refusal.Refusal.TheVariants.{NoCursor as CursorMissing};
 ghost use Rattle.hippo_report.specs.Refusals.{refusal_line};
+ghost use Rattle.hippo_report.specs.Speakers.{speaker_at};
 ghost use Rattle.hippo_world.specs.Worlds.{at_number};
 ghost use Rattle.hippo_world.specs.Holding.{world_of};
 ghost use Rattle.hippo_judging.specs.Checks.{open_session, open_cursor, closed_session, authorized};
@@ -21,7 +22,7 @@ use hippo_world::{Cursor, Session, World};
 pub(crate) fn open_session(world: &World, number: u8) -> Result<&Session, Refusal>
     ensures found { result_map_both (λ session. session.now) (λ refusal. refusal) result
         ≡ open_session (world_of world.now) number }
-    ensures fits { IfErr result (λ refusal. length (refusal_line (Some number) refusal) ≤ reply_room) }
+    ensures fits { IfErr result (λ refusal. length (refusal_line (speaker_at number) refusal) ≤ reply_room) }
 {
     if number == 0 {
         return Err(Refusal::SessionsOnly);
@@ -35,7 +36,7 @@ pub(crate) fn open_session(world: &World, number: u8) -> Result<&Session, Refusa
 fn held_cursor(session: &Session, number: u8, cursor: u8) -> Result<&Cursor, Refusal>
     ensures found { result_map_both (λ held. held.now) (λ refusal. refusal) result
         ≡ ok_or (at_number session.now.cursors cursor) (CursorMissing cursor) }
-    ensures fits { IfErr result (λ refusal. length (refusal_line (Some number) refusal) ≤ reply_room) }
+    ensures fits { IfErr result (λ refusal. length (refusal_line (speaker_at number) refusal) ≤ reply_room) }
 {
     match session.cursors.at(usize::from(cursor)) {
         Some(held) => Ok(held),
@@ -48,7 +49,7 @@ fn held_cursor(session: &Session, number: u8, cursor: u8) -> Result<&Cursor, Ref
 pub(crate) fn open_cursor(world: &World, number: u8, cursor: u8) -> Result<&Cursor, Refusal>
     ensures found { result_map_both (λ held. held.now) (λ refusal. refusal) result
         ≡ open_cursor (world_of world.now) number cursor }
-    ensures fits { IfErr result (λ refusal. length (refusal_line (Some number) refusal) ≤ reply_room) }
+    ensures fits { IfErr result (λ refusal. length (refusal_line (speaker_at number) refusal) ≤ reply_room) }
 {
     match open_session(world, number) {
         Ok(session) => held_cursor(session, number, cursor),

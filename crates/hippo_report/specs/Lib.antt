@@ -1,3 +1,4 @@
 pub mod Cells
 pub mod Refusals
 pub mod Notices
+pub mod Speakers

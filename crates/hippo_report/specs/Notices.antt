@@ -1,10 +1,11 @@
 -- Replies that say that a line was carried out, or how many rows or flags there were.
-use Rattle.std.specs.Prelude.{ℕ, ◌++◌, Option, codes, decimal}
+use Rattle.std.specs.Prelude.{ℕ, ◌++◌, codes, decimal}
 use Rattle.hippo_values.specs.Texts.{Txt}
-use Rattle.hippo_report.specs.Refusals.{who_text}
+use Rattle.hippo_report.specs.declared.speaker.Speaker.{Speaker}
+use Rattle.hippo_report.specs.Speakers.{who_text}
 
 -- a line was carried out
-abbrev pub done_line : Option ℕ → Txt
+abbrev pub done_line : Speaker → Txt
 done_line who = who_text who ++ codes " ok\n"
 
 -- a word and a number, to a session or to the console

@@ -1,5 +1,5 @@
 -- The text of every refusal: its code and name, and what it names.
-use Rattle.std.specs.Prelude.{ℕ, ◌++◌, Option, Some, None, codes, decimal}
+use Rattle.std.specs.Prelude.{◌++◌, Option, Some, None, codes, decimal}
 use Rattle.std.specs.Fmt.{signed_decimal}
 use Rattle.hippo_values.specs.Texts.{Txt}
 use Rattle.hippo_values.specs.Dates.{moment_text}
@@ -9,6 +9,8 @@ use Rattle.hippo_report.specs.declared.refusal.Detail.{Detail}
 use Rattle.hippo_report.specs.declared.refusal.Detail.TheVariants as details
 use Rattle.hippo_report.specs.declared.refusal.Refusal.{Refusal}
 use Rattle.hippo_report.specs.declared.refusal.Refusal.TheVariants as refusals
+use Rattle.hippo_report.specs.declared.speaker.Speaker.{Speaker}
+use Rattle.hippo_report.specs.Speakers.{who_text}
 
 -- the code and the name of a refusal of a statement that is in the grammar and means nothing
 abbrev pub fault_title : NameFault → Txt
@@ -101,18 +103,13 @@ refusal_detail (refusals.NoWatch number) = Some (decimal number)
 refusal_detail (refusals.Meaningless fault) = fault_detail fault
 refusal_detail _ = None
 
--- whose line is replied to: the console's or a session's number, or nobody's
-abbrev pub who_text : Option ℕ → Txt
-who_text None = codes "-"
-who_text (Some number) = decimal number
-
 -- what is said to somebody by a title, and what it names
 unfoldable pub said_of : Txt → Txt → Option Txt → Txt
 said_of who title None = who ++ (codes " no " ++ (title ++ codes "\n"))
 said_of who title (Some detail) = who ++ (codes " no " ++ (title ++ (codes " " ++ (detail ++ codes "\n"))))
 
 -- the reply to a line that is not carried out
-abbrev pub refusal_line : Option ℕ → Refusal → Txt
+abbrev pub refusal_line : Speaker → Refusal → Txt
 refusal_line who refusal = said_of (who_text who) (refusal_title refusal) (refusal_detail refusal)
 
 -- what a refusal names, as its text

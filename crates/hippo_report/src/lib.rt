@@ -8,6 +8,7 @@ mod printed;
 mod refusal;
 mod refusal_lines;
 mod rows;
+mod speaker;
 
 pub use format::Format;
 pub use notices::{done_line, number_line};
@@ -16,3 +17,4 @@ pub use printed::{Printed, append_joined, append_later, append_whole};
 pub use refusal::Refusal;
 pub use refusal_lines::refusal_line;
 pub use rows::{answer_line, answer_lines, denied_line};
+pub use speaker::Speaker;

@@ -3,19 +3,21 @@ ghost use Rattle.std.specs.Prelude.{◌≡◌, ◌+◌, ◌≤◌, ◌++◌, len
 ghost use Rattle.hippo_report.specs.Notices.{done_line, number_line};
 
 use crate::pieces::append_pieces;
+use crate::speaker::Speaker;
 use hippo_values::{Memory, RoomyTxt};
 use itoa::Buffer;
 
 /// Adds the reply to a line that was carried out: `N ok`, where N is the session's number, 0 for the console, and `-`
 /// where the line is nobody's. The text is unchanged where memory is short, which it never is within the room.
-pub fn done_line<const ROOM: usize>(who: Option<u8>, out: &mut RoomyTxt<ROOM>) -> Result<(), Memory>
+pub fn done_line<const ROOM: usize>(who: Speaker, out: &mut RoomyTxt<ROOM>) -> Result<(), Memory>
     ensures ok { OnOk result (out.new ≡ out.old ++ done_line who) }
     ensures err { OnErr result (out.new ≡ out.old) }
     ensures room { length out.old + length (done_line who) ≤ ROOM → IsOk result }
 {
     match who {
-        None => append_pieces(&["-", " ok\n"], out),
-        Some(number) => append_pieces(&[Buffer::new().format(number), " ok\n"], out),
+        Speaker::Nobody => append_pieces(&["-", " ok\n"], out),
+        Speaker::Console => append_pieces(&["0", " ok\n"], out),
+        Speaker::Session(number) => append_pieces(&[Buffer::new().format(number), " ok\n"], out),
     }
 }
 

@@ -1,10 +1,11 @@
 //! The reply to a line that is not carried out.
 ghost use Rattle.std.specs.Prelude.{◌≡◌, ◌+◌, ◌≤◌, ◌++◌, None, Some, length, IsOk, OnOk, OnErr};
 ghost use Rattle.hippo_values.specs.Dates.{moment_text};
-ghost use Rattle.hippo_report.specs.Refusals.{fault_title, fault_detail, refusal_title, refusal_detail, detail_text, who_text, said_of, refusal_line};
+ghost use Rattle.hippo_report.specs.Refusals.{fault_title, fault_detail, refusal_title, refusal_detail, detail_text, said_of, refusal_line};
 
 use crate::pieces::append_pieces;
 use crate::refusal::{Detail, Refusal};
+use crate::speaker::Speaker;
 use hippo_model::NameFault;
 use hippo_values::{Memory, Moment, RoomyTxt, moment_text};
 use itoa::Buffer;
@@ -221,7 +222,7 @@ fn append_refusal<const ROOM: usize>(
 /// session's number, 0 for the console, and `-` where the line is nobody's. The text is unchanged where memory is
 /// short, which it never is within the room.
 pub fn refusal_line<const ROOM: usize>(
-    who: Option<u8>,
+    who: Speaker,
     refusal: &Refusal,
     out: &mut RoomyTxt<ROOM>,
 ) -> Result<(), Memory>
@@ -230,7 +231,8 @@ pub fn refusal_line<const ROOM: usize>(
     ensures room { length out.old + length (refusal_line who refusal.now) ≤ ROOM → IsOk result }
 {
     match who {
-        None => append_refusal("-", refusal, out),
-        Some(number) => append_refusal(Buffer::new().format(number), refusal, out),
+        Speaker::Nobody => append_refusal("-", refusal, out),
+        Speaker::Console => append_refusal("0", refusal, out),
+        Speaker::Session(number) => append_refusal(Buffer::new().format(number), refusal, out),
     }
 }

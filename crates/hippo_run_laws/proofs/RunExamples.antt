@@ -8,6 +8,8 @@ use Rattle.hippo_model.specs.declared.audit.Audit.{Audit}
 use Rattle.hippo_model.specs.declared.audit.Flag.{Flag}
 use Rattle.hippo_model.specs.declared.query.CondOf.TheVariants.{All}
 use Rattle.hippo_model.specs.Terms.{History}
+use Rattle.hippo_report.specs.declared.speaker.Speaker.TheVariants.{Nobody, Console}
+use Rattle.hippo_report.specs.Speakers.{speaker_at}
 use Rattle.hippo_report.specs.declared.format.Format.TheVariants as formats
 use Rattle.hippo_report.specs.declared.refusal.Refusal.TheVariants.{BadLine, LineTooLong, Memory}
 use Rattle.hippo_flags.specs.Flags.{flag_line}
@@ -102,7 +104,7 @@ the_last_step_says_end = inl refl
 
 -- where memory is short nothing is written
 abbrev short_of_memory : Effect
-short_of_memory = only_reply (with_job world 1 (Some one_waits)) (refusal_line (Some 0) Memory)
+short_of_memory = only_reply (with_job world 1 (Some one_waits)) (refusal_line Console Memory)
 
 nothing_is_written_without_memory : JudgedWrites 1 world three_numbers (Ok (deeds.step_job 1 one_waits 3)) short_of_memory no_portion
 nothing_is_written_without_memory = inl (refl, inr (refl, refl))
@@ -114,7 +116,7 @@ others_write_nothing = inr (λ same. omega (arith, same), refl)
 -- lines that are refused write nothing
 refused_lines_write_nothing :
     OfEachLine (Writes 1) clinic world (too_long_line ∷ not_utf8_line ∷ [])
-    (only_reply world (refusal_line None LineTooLong) ∷ only_reply world (refusal_line None BadLine) ∷ []) (no_portion ∷ no_portion ∷ [])
+    (only_reply world (refusal_line Nobody LineTooLong) ∷ only_reply world (refusal_line Nobody BadLine) ∷ []) (no_portion ∷ no_portion ∷ [])
 refused_lines_write_nothing = (refl, (refl, tt))
 
 -- the flags of all portions, one after the other; the last of them may say that the job has ended
@@ -137,12 +139,12 @@ one_watch_of_two :
 one_watch_of_two = refl
 
 -- nothing is heard of a line that asks nothing, and of a question without memory
-nothing_is_heard_of_refused_lines : IsHeard 1 clinic world (wrong None LineTooLong) (only_reply world (refusal_line None LineTooLong)) None
+nothing_is_heard_of_refused_lines : IsHeard 1 clinic world (wrong Nobody LineTooLong) (only_reply world (refusal_line Nobody LineTooLong)) None
 nothing_is_heard_of_refused_lines = refl
 
 nothing_is_heard_without_memory :
     JudgedHeard 1 clinic world (question (all_rows (codes "name" ∷ []))) (Ok (deeds.answer (asked_for (1 ∷ []))))
-    (only_reply world (refusal_line (Some 1) Memory)) None
+    (only_reply world (refusal_line (speaker_at 1) Memory)) None
 nothing_is_heard_without_memory = inr (refl, refl)
 
 -- what is unfolded to read lines and texts

@@ -24,6 +24,7 @@ use Rattle.hippo_model.specs.Validity.{is_acceptable, is_valid, keeps_order, may
 use Rattle.hippo_model.proofs.LastWords.{last_word-append}
 use Rattle.hippo_laws.proofs.ValidFronts.{next_number}
 use Rattle.hippo_typing.specs.Meanings.{meaning}
+use Rattle.hippo_report.specs.declared.speaker.Speaker.TheVariants.{Nobody, Console}
 use Rattle.hippo_report.specs.Notices.{done_line, number_line}
 use Rattle.hippo_lines.specs.Words.{is_filled, words_of}
 use Rattle.hippo_lines.specs.Forms.{short_word_of}
@@ -167,7 +168,7 @@ module _ (before later : History) (entry : Entry)
       let next = made-entry world clock in
       let last : made_effect_of world (next_entry before world entry.act) ≡ made_effect world =
       ap (made_effect_of world) next in
-      ap (effect_of before world) commands ∙ ap (carried_out before world (Some 0)) judges ∙ last
+      ap (effect_of before world) commands ∙ ap (carried_out before world Console) judges ∙ last
     where
       made_effect_of : World → Entry → Effect
       made_effect_of world made =
@@ -211,10 +212,10 @@ module _ (before later : History) (entry : Entry)
 
   clock-moves : (world : World) → int_le world.clock entry.moment ≡ true
       → effect_of before world (command_of (text_line (codes "at " ++ moment_text entry.moment)))
-      ≡ only_reply (record world { clock = entry.moment }) (done_line None)
+      ≡ only_reply (record world { clock = entry.moment }) (done_line Nobody)
   clock-moves world no_earlier =
       ap (effect_of before world) (sets-it entry.moment (follows before entry may).moment_fits)
-      ∙ ap (carried_out before world None) (clock-judged world entry.moment no_earlier)
+      ∙ ap (carried_out before world Nobody) (clock-judged world entry.moment no_earlier)
 
 -- the clock stands as the script says, and no later than the next entry
 record Stands (clock : Option Moment) (world : World) (later : History) : Type 0 where

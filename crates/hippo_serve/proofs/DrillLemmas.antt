@@ -1,5 +1,5 @@
 -- A drill, one line more.
-use Rattle.std.proofs.Common.{◌≡◌, ◌≢◌, ℕ, List, [], ◌∷◌, ◌++◌, map, true, inl, inr, Option, Result, Ok, Err, OnOk, refl, ap, sym, subst, ◌∙◌, append_assoc}
+use Rattle.std.proofs.Common.{◌≡◌, ◌≢◌, ℕ, List, [], ◌∷◌, ◌++◌, map, true, inl, inr, Result, Ok, Err, OnOk, refl, ap, sym, subst, ◌∙◌, append_assoc}
 use Rattle.hippo_values.specs.declared.moments.Moment.{Moment}
 use Rattle.hippo_values.specs.Texts.{Txt}
 use Rattle.hippo_values.specs.declared.memory.Memory.{Memory as Want}
@@ -9,6 +9,7 @@ use Rattle.hippo_io.specs.Lines.{text_line}
 use Rattle.hippo_model.specs.Terms.{History}
 use Rattle.hippo_keeper.specs.Keeping.{KeeperState, IsReady}
 use Rattle.hippo_keeper.specs.MemoryKeeping.{MemoryStore, seen}
+use Rattle.hippo_report.specs.declared.speaker.Speaker.{Speaker}
 use Rattle.hippo_report.specs.declared.format.Format.TheVariants.{Text}
 use Rattle.hippo_report.specs.declared.refusal.Refusal.TheVariants.{Memory}
 use Rattle.hippo_report.specs.Refusals.{refusal_line}
@@ -53,7 +54,7 @@ short_reply history world reply (Err refusal) effect short = ap (λ (e : Effect)
 
 -- where the reply does not say that memory was short, the effect is what the rules make
 ample : (history : History) (world : World) (command : Command) (effect : Effect)
-    → IsEffect history world command effect → ((who : Option ℕ) → effect.reply ≢ refusal_line who Memory)
+    → IsEffect history world command effect → ((who : Speaker) → effect.reply ≢ refusal_line who Memory)
     → effect ≡ effect_of history world command
 ample history world command effect (inl same) answered = same
 ample history world command effect (inr short) answered =
@@ -62,7 +63,7 @@ ample history world command effect (inr short) answered =
 
 carried : (command : Command) (old new : Engine) (before after : KeeperState) (steps steps' : ℕ)
     → Carries {A = Unit {0}} command (Ok tt) old new before after steps steps' → after.tells
-    → ((who : Option ℕ) → new.reply ≢ refusal_line who Memory)
+    → ((who : Speaker) → new.reply ≢ refusal_line who Memory)
     → (history : History) → Holds history old before
     → HasDone history (effect_of history (world_of old.world) command) new after
 carried command old new before after steps steps' carries tells answered history holds =
@@ -73,7 +74,7 @@ carried command old new before after steps steps' carries tells answered history
 
 -- a line was carried out, and its reply is accepted
 pub accepted : (result : Result (Unit {0}) Want) (reply : Txt) (command : Command) (old new : Engine) (before after : KeeperState) (steps steps' : ℕ)
-    → OnOk result ((who : Option ℕ) → reply ≢ refusal_line who Memory) → reply ≡ new.reply
+    → OnOk result ((who : Speaker) → reply ≢ refusal_line who Memory) → reply ≡ new.reply
     → Carries {A = Unit {0}} command (Ok tt) old new before after steps steps' → after.tells
     → OnOk result ((history : History) → Holds history old before → HasDone history (effect_of history (world_of old.world) command) new after)
 accepted (Ok done) reply command old new before after steps steps' answered shown carries tells =

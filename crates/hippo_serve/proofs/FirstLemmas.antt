@@ -12,6 +12,7 @@ use Rattle.hippo_lines.specs.Words.{words_of, only}
 use Rattle.hippo_model.specs.declared.entry.Entry.{Entry}
 use Rattle.hippo_model.specs.Terms.{History}
 use Rattle.hippo_keeper.specs.Keeping.{KeeperState, IsAfterCall}
+use Rattle.hippo_report.specs.declared.speaker.Speaker.TheVariants.{Nobody}
 use Rattle.hippo_report.specs.declared.refusal.Refusal.TheVariants.{MomentBack}
 use Rattle.hippo_world.specs.Worlds.{World}
 use Rattle.hippo_commands.specs.Commands.{Command, clock_command, command_by, command_of}
@@ -52,7 +53,7 @@ clock_adds : (history : History) (world : World) (moment : Option Moment) → (e
 clock_adds history world None = refl
 clock_adds history world (Some moment) = at (int_lt moment world.clock)
   where
-    at : (back : Bool) → (carried_out history world None (refused_if back (MomentBack world.clock) >>= λ _. Ok (deeds.set_clock moment))).added ≡ []
+    at : (back : Bool) → (carried_out history world Nobody (refused_if back (MomentBack world.clock) >>= λ _. Ok (deeds.set_clock moment))).added ≡ []
     at true = refl
     at false = refl
 

@@ -1,9 +1,10 @@
 //! The drill: a script is run over a keeper in memory, and its replies are counted.
-ghost use Rattle.std.specs.Prelude.{◌≡◌, ◌≢◌, ℕ, ◌<◌, [], true, false, Option, Ok, length, string_bytes, IfOk, OnOk};
+ghost use Rattle.std.specs.Prelude.{◌≡◌, ◌≢◌, ℕ, ◌<◌, [], true, false, Ok, length, string_bytes, IfOk, OnOk};
 ghost use Rattle.hippo_io.specs.Lines.{text_line};
 ghost use Rattle.hippo_model.specs.Terms.{History};
 ghost use Rattle.hippo_keeper.specs.Keeping.{IsReady};
 ghost use Rattle.hippo_keeper.specs.MemoryKeeping.{seen};
+ghost use Rattle.hippo_report.specs.declared.speaker.Speaker.{Speaker};
 ghost use Rattle.hippo_report.specs.declared.format.Format.TheVariants.{Text};
 ghost use Rattle.hippo_report.specs.declared.refusal.Refusal.TheVariants.{Memory as WantsMemory};
 ghost use Rattle.hippo_report.specs.Refusals.{refusal_line};
@@ -67,7 +68,7 @@ fn open(alloc: Global) -> Result<Engine, Memory>
 
 // Refuses a reply that says that memory was short.
 fn accept(reply: &str) -> Result<(), Memory>
-    ensures { OnOk result ((who : Option ℕ) → reply.now ≢ refusal_line who WantsMemory) }
+    ensures { OnOk result ((who : Speaker) → reply.now ≢ refusal_line who WantsMemory) }
 {
     if reply.ends_with(SHORT_REPLY) {
         return Err(Memory);

@@ -5,13 +5,14 @@ use Rattle.hippo_world.specs.Holding.{world_of}
 use Rattle.hippo_judging.specs.Judging.{judged_change}
 use Rattle.hippo_judging.proofs.ChangeLemmas.{judged_as_change}
 use Rattle.hippo_judging.proofs.FindingLemmas.{may_change, refused_change}
+use Rattle.hippo_report.specs.Speakers.{speaker_at}
 use Rattle.hippo_judging.proofs.statements.judge_change.Goals as goal
 
 pub returns-in-Ok : goal.returns-in-Ok
 returns-in-Ok c = λ text.
     may_change c.args.state.now c.args.world.now (commands.state c.args.session c.args.statement.now text) (λ history. judged_change history (world_of c.args.world.now) c.args.session c.args.statement.now) refl
     (λ history. judged_as_change history (world_of c.args.world.now) c.args.session c.args.statement.now text c.requires.changes)
-    c.in-Ok.entry (ap Some c.in-Ok.ensures.console) c.in-Ok.ensures.found c.in-Ok.ensures.number c.in-Ok.ensures.follows
+    c.in-Ok.entry (ap speaker_at c.in-Ok.ensures.console) c.in-Ok.ensures.found c.in-Ok.ensures.number c.in-Ok.ensures.follows
 
 pub returns-in-Err : goal.returns-in-Err
 returns-in-Err c = λ text.
