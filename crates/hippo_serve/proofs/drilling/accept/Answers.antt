@@ -1,5 +1,6 @@
 -- A reply that says that memory was short ends with just these words.
-use Rattle.hippo_report.specs.Refusals.{who_text, said_of}
+use Rattle.hippo_report.specs.Refusals.{said_of}
+use Rattle.hippo_report.specs.Speakers.{who_text}
 use Rattle.hippo_serve.proofs.drilling.accept.Goals as goal
 
 pub returns : goal.returns
