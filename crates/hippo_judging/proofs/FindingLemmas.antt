@@ -115,7 +115,7 @@ watch_first (Err other) found deed refusal is = let same : other ≡ refusal = c
 
 -- ending a watch is refused where none stands
 pub refused_unwatch : (world : HeldWorld) (state : State) (session number : ℕ) (refusal : Refusal) → held_watch (world_of world) session number ≡ Err refusal
-    → length (refusal_line (Some session) refusal) ≤ reply_room → IsRefused (ask session (requests.unwatches number)) refusal state world
+    → length (refusal_line (speaker_at session) refusal) ≤ reply_room → IsRefused (ask session (requests.unwatches number)) refusal state world
 refused_unwatch world state session number refusal is fits =
     refused_so (ask session (requests.unwatches number)) refusal state world
     (λ history stands. watch_first (by_console session) (ok_or (at_number (world_of world).watches number) (NoWatch number)) (deeds.end_watch number) refusal is) fits
